@@ -6,13 +6,17 @@
 #![tactic(auto)]
 
 mod byte_string;
+mod keys;
 mod listed;
 mod number;
+mod pairs;
 mod refused;
 mod text;
+
 
 pub use byte_string::{ByteString, SliceFault};
 pub use listed::{Listed, ListedIter};
 pub use number::Number;
+pub use pairs::Pairs;
 pub use refused::{Memory, Refused};
 pub use text::Text;
