@@ -1,6 +1,6 @@
 -- Places in a list that was mapped, and what it means that nothing is found.
-use Rattle.std.proofs.Common.{◌≡◌, ℕ, ◌+◌, Bool, false, cond, not, Option, Some, None, List, [], ◌∷◌, map, length, nat_lt, position, refl, sym, ap, ◌∙◌, subst, ◌||◌, ◌++◌, if◌then◌else◌}
-use Rattle.std.specs.List.{position_or_len, prefix_len, list_any, AllByRecursion}
+use Rattle.std.proofs.Common.{◌≡◌, ℕ, ◌+◌, Bool, false, cond, not, Some, None, List, [], ◌∷◌, map, nat_lt, position, refl, sym, ap, ◌∙◌, subst, ◌||◌, ◌++◌, if◌then◌else◌}
+use Rattle.std.specs.List.{prefix_len, list_any, AllByRecursion}
 use Rattle.std.specs.Map.{keys_of}
 use Rattle.std.specs.Str.{bytes_eq}
 use Rattle.std.proofs.lemmas.List.{length-map, map-append}

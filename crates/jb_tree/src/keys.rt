@@ -2,11 +2,10 @@ ghost use Rattle.std.specs.Prelude.{◌≡◌, None, [], ◌∷◌, ◌++◌, If
 ghost use Rattle.std.specs.Str.{bytes_eq};
 ghost use Rattle.std.specs.Map.{keys_of};
 
+use super::byte_string::ByteString;
 use indexmap::IndexSet;
 use std::alloc::{AllocError, Global};
 use std::marker::Model;
-
-use super::byte_string::ByteString;
 
 /// The texts of a map's keys in the map's order, found by hash. Contracts see the list of the texts.
 #[derive(Drop)]

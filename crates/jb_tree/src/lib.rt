@@ -12,7 +12,7 @@ mod number;
 mod pairs;
 mod refused;
 mod text;
-
+mod value;
 
 pub use byte_string::{ByteString, SliceFault};
 pub use listed::{Listed, ListedIter};
@@ -20,3 +20,4 @@ pub use number::Number;
 pub use pairs::Pairs;
 pub use refused::{Memory, Refused};
 pub use text::Text;
+pub use value::{Map, Value};

@@ -5,12 +5,11 @@ ghost use Rattle.std.specs.List.{IsDistinct};
 ghost use Rattle.std.specs.Map.{keys_of, values_of, lookup};
 ghost use Rattle.indexmap.specs.IndexMap.{insert_entry, set_value_at};
 
+use super::byte_string::ByteString;
+use super::keys::Keys;
 use std::alloc::{AllocError, Global};
 use std::marker::Model;
 use std::mem;
-
-use super::byte_string::ByteString;
-use super::keys::Keys;
 
 /// Up to this many pairs a look-up goes through them; past it a table of the keys' hashes is kept.
 const MOST_SCANNED: usize = 16;

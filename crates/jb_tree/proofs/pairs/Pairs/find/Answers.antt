@@ -1,6 +1,5 @@
 use Rattle.std.proofs.Common.{sym, ◌∙◌, ap, position}
 use Rattle.std.specs.Str.{bytes_eq}
-use Rattle.std.specs.Map.{keys_of}
 use Rattle.jb_tree.proofs.Positions.{position-map}
 use Rattle.jb_tree.proofs.pairs.Pairs.find.Goals as goal
 
