@@ -1,3 +1,4 @@
 pub mod ByteString
 pub mod Number
+pub mod Value
 pub mod formers

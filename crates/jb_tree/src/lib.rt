@@ -17,7 +17,10 @@ mod value;
 pub use byte_string::{ByteString, SliceFault};
 pub use listed::{Listed, ListedIter};
 pub use number::Number;
-pub use pairs::Pairs;
+pub use pairs::{Pairs, PairsIter};
 pub use refused::{Memory, Refused};
 pub use text::Text;
 pub use value::{Map, Value};
+
+#[cfg(test)]
+mod tests;

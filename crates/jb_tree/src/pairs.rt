@@ -1,5 +1,6 @@
 ghost use Rattle.std.specs.Prelude.{◌≡◌, ◌<◌, ℕ, Some, None, [], ◌∷◌, ◌++◌, length, IfOk, IfErr, IfSome, OnOk, OnErr, position, slice_get, ◌==◌};
 ghost use Rattle.std.specs.Option.{option_copied};
+ghost use Rattle.std.specs.Iterator.{YieldsFirstBy, item_count};
 ghost use Rattle.std.specs.Str.{bytes_eq};
 ghost use Rattle.std.specs.List.{IsDistinct};
 ghost use Rattle.std.specs.Map.{keys_of, values_of, lookup};
@@ -86,6 +87,15 @@ impl<V> Pairs<V> {
         }
     }
 
+    /// The pairs in order.
+    pub fn iter(&self) -> PairsIter<'_, V>
+        ensures { result.left.now ≡ self.now }
+    {
+        PairsIter {
+            left: self.held.as_slice(),
+        }
+    }
+
     /// The key of the pair at `index`.
     pub fn key_at(&self, index: usize) -> &ByteString
         requires { index < length self.now }
@@ -103,10 +113,134 @@ impl<V> Pairs<V> {
     }
 }
 
+impl<V: Drop> Pairs<V> {
+    /// Puts `value` at `key`. A new key goes last, and the answer is `Ok(None)`; a key that is there keeps its place
+    /// and its stored text, and the answer is its old value: this is never refused. `Err` only for want of memory:
+    /// it hands the pair back, and the map is as it was.
+    #[inline(always)]
+    pub fn insert(&mut self, key: ByteString, value: V) -> Result<Option<V>, (ByteString, V)>
+        ensures old { IfOk result (λ old. old ≡ lookup (bytes_eq key) self.old) }
+        ensures pairs { OnOk result (self.new ≡ insert_entry bytes_eq self.old key value) }
+        ensures returned { IfErr result (λ pair. pair ≡ (key, value)) }
+        ensures unchanged { OnErr result (self.new ≡ self.old) }
+    {
+        match self.find(key.as_str()) {
+            Some(at) => Ok(Some(self.replace_at(at, value))),
+            None => match self.append_new(key, value) {
+                Ok(()) => Ok(None),
+                Err(pair) => Err(pair),
+            },
+        }
+    }
+
+    /// Adds a pair whose key is not there, last. `Err` only for want of memory: the pair is then dropped, and the map
+    /// is as it was.
+    pub fn insert_new(&mut self, key: ByteString, value: V) -> Result<(), AllocError>
+        requires { position (bytes_eq key) (keys_of self.old) ≡ None }
+        ensures pairs { OnOk result (self.new ≡ self.old ++ (key, value) ∷ []) }
+        ensures unchanged { OnErr result (self.new ≡ self.old) }
+    {
+        match self.append_new(key, value) {
+            Ok(()) => Ok(()),
+            Err(_) => Err(AllocError),
+        }
+    }
+
+    /// Puts `value` in the place of the value at `index`, and gives that.
+    #[inline(always)]
+    fn replace_at(&mut self, index: usize, value: V) -> V
+        requires { index < length self.old }
+        ensures old { slice_get (values_of self.old) index ≡ Some result }
+        ensures pairs { self.new ≡ set_value_at self.old index value }
+    {
+        mem::replace(&mut self.held[index].1, value)
+    }
+
+    /// Adds a pair whose key is not there.
+    #[inline(always)]
+    fn append_new(&mut self, key: ByteString, value: V) -> Result<(), (ByteString, V)>
+        requires { position (bytes_eq key) (keys_of self.old) ≡ None }
+        ensures pairs { OnOk result (self.new ≡ self.old ++ (key, value) ∷ []) }
+        ensures returned { IfErr result (λ pair. pair ≡ (key, value)) }
+        ensures unchanged { OnErr result (self.new ≡ self.old) }
+    {
+        if self.held.reserve(1).is_err() {
+            return Err((key, value));
+        }
+        let alloc = *self.held.allocator();
+        match note_key(alloc, &mut self.table, self.held.as_slice(), key.as_str()) {
+            Ok(()) => {
+                self.held.push_reserved((key, value));
+                Ok(())
+            }
+            Err(_) => Err((key, value)),
+        }
+    }
+}
+
 /// The place of the first pair with this key.
 #[inline(always)]
 fn scan<V>(held: &[(ByteString, V)], key: &str) -> Option<usize>
     ensures { result ≡ position (λ pair. bytes_eq key.now pair.0) held.now }
 {
     held.iter().position(|pair| key == pair.0.as_str())
+}
+
+/// Notes in the table, where there is one, that `key` comes last; makes the table where there are now too many
+/// pairs to go through. `Err` only for want of memory, with the table as it was.
+#[inline(always)]
+fn note_key<V>(
+    alloc: Global,
+    table: &mut Option<Box<Keys>>,
+    held: &[(ByteString, V)],
+    key: &str,
+) -> Result<(), AllocError>
+    requires distinct { IsDistinct bytes_eq (keys_of held.now) }
+    requires fits { IfSome table.old (λ t. t.value ≡ keys_of held.now) }
+    requires absent { position (bytes_eq key.now) (keys_of held.now) ≡ None }
+    ensures noted { OnOk result (IfSome table.new (λ t. t.value ≡ keys_of held.now ++ key.now ∷ [])) }
+    ensures refused { OnErr result (IfSome table.new (λ t. t.value ≡ keys_of held.now)) }
+{
+    match table {
+        Some(keys) => keys.push(alloc, key),
+        None if held.len() < MOST_SCANNED => Ok(()),
+        None => {
+            let mut keys = keys_table(alloc, held)?;
+            keys.push(alloc, key)?;
+            *table = Some(Box::new(alloc, keys)?);
+            Ok(())
+        }
+    }
+}
+
+/// The table of these pairs' keys.
+fn keys_table<V>(alloc: Global, held: &[(ByteString, V)]) -> Result<Keys, AllocError>
+    requires { IsDistinct bytes_eq (keys_of held.now) }
+    ensures { IfOk result (λ keys. keys ≡ keys_of held.now) }
+{
+    let mut keys = Keys::new(alloc);
+    for pair in held {
+        keys.push(alloc, pair.0.as_str())?;
+    }
+    Ok(keys)
+}
+
+/// The pairs of a map in order.
+#[derive(Drop)]
+pub struct PairsIter<'a, V> {
+    left: &'a [(ByteString, V)],
+}
+
+impl<'a, V> Iterator for PairsIter<'a, V> {
+    type Item = (&'a ByteString, &'a V);
+
+    ghost next_gives = { YieldsFirstBy (λ p. (p.0.now, p.1.now)) (λ s. s.left.now) };
+
+    ghost remaining = { item_count (λ s. s.left.now) };
+
+    fn next(&mut self) -> Option<(&'a ByteString, &'a V)> {
+        let (first, others) = self.left.split_first()?;
+        self.left = others;
+        Some((&first.0, &first.1))
+    }
 }
