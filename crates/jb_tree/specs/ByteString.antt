@@ -4,8 +4,8 @@ use Rattle.jb_tree.specs.declared.byte_string.SliceFault.{SliceFault}
 use Rattle.jb_tree.specs.declared.refused.Refused.{Refused}
 use Rattle.jb_tree.specs.declared.refused.Refused.TheVariants.{Fault, Memory}
 
--- what cutting a text out of a buffer answers, where these bytes stand: that text, or that they are no UTF-8
+-- what cutting a text out of a buffer answers, where these bytes stand: that text of theirs, or that they are no UTF-8
 abbrev pub IsSlice : Result (List ℕ) (Refused SliceFault) → List ℕ → Type 0
-IsSlice (Ok text) bytes = text ≡ bytes
+IsSlice (Ok text) bytes = (text ≡ bytes) × IsUtf8 bytes
 IsSlice (Err (Fault _)) bytes = ¬ (IsUtf8 bytes)
 IsSlice (Err Memory) bytes = Unit {0}

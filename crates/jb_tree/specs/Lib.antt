@@ -2,3 +2,4 @@ pub mod ByteString
 pub mod Number
 pub mod Value
 pub mod formers
+pub mod Tree

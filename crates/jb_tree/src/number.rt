@@ -1,4 +1,4 @@
-ghost use Rattle.std.specs.Prelude.{◌≡◌, pos, FitsSigned};
+ghost use Rattle.std.specs.Prelude.{◌≡◌, ◌≤ℤ◌, pos, FitsSigned, IfNone};
 ghost use Rattle.std.specs.Int.{w64};
 ghost use Rattle.std.specs.Option.{SomeIff};
 ghost use Rattle.jb_tree.specs.Number.{IsUnsigned};
@@ -59,7 +59,8 @@ impl Number {
 
     /// The number where an `i64` holds it, else `None`.
     pub fn as_i64(&self) -> Option<i64>
-        ensures { SomeIff result (FitsSigned w64 self.now) self.now }
+        ensures value { SomeIff result (FitsSigned w64 self.now) self.now }
+        ensures unsigned { IfNone result (pos 0 ≤ℤ self.now) }
     {
         match self.held {
             Whole::Unsigned(value) if value <= i64::MAX as u64 => Some(value as i64),

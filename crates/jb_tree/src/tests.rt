@@ -23,7 +23,10 @@ fn texts_and_lists(rt: HostRuntime) -> Result<(), Fail> {
     let alloc = rt.alloc();
     let text = Text::from_str(alloc, "größer")?;
     assert_eq!(rt; text.copy(alloc)?.as_str(), "größer");
-    assert_eq!(rt; Text::from_string(String::from_str(alloc, "a")?).as_str(), "a");
+    assert_eq!(rt;
+        Text::from_string(String::from_str(alloc, "a")?).as_str(),
+        "a"
+    );
     let mut list = Listed::new(alloc);
     assert!(rt; list.is_empty());
     list.push(7u8)?;
@@ -103,6 +106,11 @@ fn copies(rt: HostRuntime) -> Result<(), Fail> {
     assert_eq!(rt; inner.map(|list| list.len()), Some(2));
     let last = inner.and_then(|list| list.get(1));
     assert_eq!(rt; last.and_then(|value| value.as_str()), Some("x"));
-    assert!(rt; inner.and_then(|list| list.get(0)).map(|value| value.is_null()) == Some(true));
+    assert!(rt;
+        inner
+            .and_then(|list| list.get(0))
+            .map(|value| value.is_null())
+            == Some(true)
+    );
     Ok(())
 }
