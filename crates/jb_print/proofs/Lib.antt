@@ -1,0 +1,4 @@
+pub mod Escapes
+pub mod Trees
+pub mod Compacts
+pub mod Pretties

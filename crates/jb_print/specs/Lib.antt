@@ -1,0 +1,5 @@
+pub mod Quoted
+pub mod Plain
+pub mod Compact
+pub mod Pretty
+pub mod Pieces

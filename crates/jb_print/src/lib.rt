@@ -1,0 +1,14 @@
+//! Printing JSON values (RFC 8259): [`to_bytes`] and [`to_text`] without any white space, [`to_pretty`] over several
+//! lines.
+//!
+//! The bytes are exactly those of the definitions in `specs/`: `compact`, `pretty`, and `quoted` for a string.
+#![tactic(auto)]
+
+mod compact;
+mod pretty;
+mod print;
+#[cfg(test)]
+mod tests;
+mod text;
+
+pub use print::{to_bytes, to_pretty, to_text};

@@ -1,0 +1,49 @@
+ghost use Rattle.std.specs.Prelude.{◌≡◌, IfOk, string_bytes};
+ghost use Rattle.jb_print.specs.Compact.{compact};
+ghost use Rattle.jb_print.specs.Pretty.{pretty};
+
+use super::compact::write_value;
+use super::pretty::write_pretty;
+use bytes::Bytes;
+use jb_tree::{Text, Value};
+use std::alloc::{AllocError, Global};
+
+/// Room for a short text, so that it is allocated once.
+const FIRST_ROOM: usize = 128;
+
+/// The compact JSON text of `value` (RFC 8259): no white space, and in strings only the escapes that are needed.
+/// A quote and a backslash get a backslash, backspace, form feed, line feed, carriage return and tab their
+/// letter, other bytes below 0x20 `\u00xx` in lower-case hexadecimal; all else stands as it is.
+///
+/// `Err` only for want of memory.
+pub fn to_bytes(alloc: Global, value: &Value) -> Result<Bytes, AllocError>
+    ensures { IfOk result (λ bytes. bytes ≡ compact value.now) }
+{
+    let text = compact_string(alloc, value)?;
+    Ok(Bytes::from_vec(text.into_bytes())?)
+}
+
+/// The same text as a [`Text`]. `Err` only for want of memory.
+pub fn to_text(alloc: Global, value: &Value) -> Result<Text, AllocError>
+    ensures { IfOk result (λ text. text ≡ compact value.now) }
+{
+    Ok(Text::from_string(compact_string(alloc, value)?))
+}
+
+/// The JSON text of `value` with a line for each item and pair: two spaces deeper for each level, `"key": value`,
+/// and `[]` and `{}` where there are none. Strings are as in [`to_bytes`]. `Err` only for want of memory.
+pub fn to_pretty(alloc: Global, value: &Value) -> Result<Text, AllocError>
+    ensures { IfOk result (λ text. text ≡ pretty value.now) }
+{
+    let mut text = String::with_capacity(alloc, FIRST_ROOM)?;
+    write_pretty(&mut text, alloc, "\n", value)?;
+    Ok(Text::from_string(text))
+}
+
+fn compact_string(alloc: Global, value: &Value) -> Result<String, AllocError>
+    ensures { IfOk result (λ text. string_bytes text ≡ compact value.now) }
+{
+    let mut text = String::with_capacity(alloc, FIRST_ROOM)?;
+    write_value(&mut text, value)?;
+    Ok(text)
+}
