@@ -1,0 +1,12 @@
+pub mod Front
+pub mod Plain
+pub mod Turns
+pub mod Nested
+pub mod Within
+pub mod Steps
+pub mod Sound
+pub mod Complete
+pub mod Digits
+pub mod Escapes
+pub mod Characters
+pub mod Answered

@@ -1,0 +1,106 @@
+ghost use Rattle.std.specs.Prelude.{◌≡◌, ◌+◌, ◌-◌, ◌*◌, ◌≤◌, ◌<◌, ℕ, true, false, length, IsTrue, OnOk};
+ghost use Rattle.jb_read.specs.Bytes.{is_digit, begins};
+ghost use Rattle.jb_read.specs.Reading.{Tells};
+ghost use Rattle.jb_read.specs.Numbers.{digits_from, bounded_whole_at, within, number_of, is_mark, is_minus, number_at};
+
+use super::cursor::Cursor;
+use super::fault::{Broken, FaultKind};
+use jb_tree::Number;
+
+fn is_digit(byte: u8) -> bool
+    ensures { result ≡ is_digit byte }
+{
+    byte.is_ascii_digit()
+}
+
+fn begins_digit(cursor: &Cursor<'_>) -> bool
+    ensures { result ≡ begins is_digit cursor.now }
+{
+    cursor.peek().is_some_and(is_digit)
+}
+
+fn begins_mark(cursor: &Cursor<'_>) -> bool
+    ensures { result ≡ begins is_mark cursor.now }
+{
+    matches!(cursor.peek(), Some(b'.' | b'e' | b'E'))
+}
+
+/// The magnitude with one digit more, while 64 bits hold it.
+fn with_digit(value: Option<u64>, byte: u8) -> Option<u64>
+    requires { IsTrue (is_digit byte) }
+    ensures { (n : ℕ) → value ≡ within n → result ≡ within (10 * n + (byte - 48)) }
+{
+    value?.checked_mul(10)?.checked_add(u64::from(byte - b'0'))
+}
+
+/// The number that the digits at the front spell behind its first digit, where 64 bits hold it.
+#[tactic(auto, using(crate::proofs::Front::digits_from_stop, crate::proofs::Front::digits_from_end))]
+fn read_digits(cursor: &mut Cursor<'_>, lead: u8) -> Option<u64>
+    ensures value { result ≡ within (digits_from lead cursor.old).0 }
+    ensures rest { cursor.new ≡ (digits_from lead cursor.old).1 }
+    ensures no_more { length cursor.new ≤ length cursor.old }
+{
+    let mut value = Some(u64::from(lead));
+    while let Some(byte) = cursor.peek() {
+        if !is_digit(byte) {
+            break;
+        }
+        value = with_digit(value, byte);
+        cursor.skip(1);
+    }
+    value
+}
+
+/// The digits of a number: a zero alone, or digits that do not begin with zero.
+#[tactic(auto, unfolding(crate::specs::Numbers::whole_part_at))]
+fn read_whole_part(cursor: &mut Cursor<'_>) -> Result<Option<u64>, Broken>
+    ensures value { Tells result cursor.new (bounded_whole_at cursor.old) }
+    ensures fewer { OnOk result (length cursor.new < length cursor.old) }
+{
+    match cursor.peek() {
+        Some(b'0') => {
+            cursor.skip(1);
+            if begins_digit(cursor) {
+                return Err(cursor.fault(FaultKind::Syntax));
+            }
+            Ok(Some(0))
+        }
+        Some(lead @ b'1'..=b'9') => {
+            cursor.skip(1);
+            Ok(read_digits(cursor, lead - b'0'))
+        }
+        _ => Err(cursor.fault(FaultKind::Syntax)),
+    }
+}
+
+/// The number of a sign and a magnitude, where there is one.
+fn number_of(minus: bool, magnitude: u64) -> Option<Number>
+    ensures { result ≡ number_of minus magnitude }
+{
+    if minus {
+        0i64.checked_sub_unsigned(magnitude).map(Number::from_i64)
+    } else {
+        Some(Number::from_u64(magnitude))
+    }
+}
+
+/// A number. Behind its digits `.`, `e` and `E` make it `Float`; so is `-0`; then comes its range.
+#[tactic(auto, unfolding(crate::specs::Numbers::number_at))]
+pub fn read_number(cursor: &mut Cursor<'_>) -> Result<Number, Broken>
+    ensures value { Tells result cursor.new (number_at cursor.old) }
+    ensures fewer { OnOk result (length cursor.new < length cursor.old) }
+{
+    let float = cursor.fault(FaultKind::Float);
+    let out_of_range = cursor.fault(FaultKind::NumberRange);
+    let minus = cursor.peek() == Some(b'-');
+    if minus {
+        cursor.skip(1);
+    }
+    let magnitude = read_whole_part(cursor)?;
+    if begins_mark(cursor) || (minus && magnitude == Some(0)) {
+        return Err(float);
+    }
+    magnitude
+        .and_then(|magnitude| number_of(minus, magnitude))
+        .ok_or(out_of_range)
+}
