@@ -1,0 +1,10 @@
+-- What sources and sinks have in common.
+use Rattle.std.specs.Prelude.{ℕ, ◌+◌, ◌-◌, ◌^◌, ◌≤◌, min, List, length, Result, IfOk}
+
+-- the count of faults rose, or it stands at the last value of a counter of 64 bits
+abbrev pub HasFailed : ℕ → ℕ → Type 0
+HasFailed before now = min (before + 1) (2 ^ 64 - 1) ≤ now
+
+-- no more bytes moved than the slice has
+abbrev pub IsWithin : {E : Type 0} → Result ℕ E → List ℕ → Type 0
+IsWithin result bytes = IfOk result (λ count. count ≤ length bytes)

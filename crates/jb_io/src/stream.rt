@@ -1,0 +1,185 @@
+ghost use Rattle.std.specs.Prelude.{◌≡◌, ◌<◌, ◌≤◌, length, Err, IfOk, OnOk, OnErr};
+ghost use Rattle.jb_io.specs.Sink.{Takes, TakesFront};
+ghost use Rattle.jb_io.specs.Source.{GivesMore, ReadsWhole};
+ghost use Rattle.jb_io.specs.Stream.{HasFailed};
+ghost use Rattle.jb_io.specs.declared.stream.InputFault.TheVariants.{SourceFailed};
+ghost use Rattle.jb_tree.specs.declared.refused.Refused.TheVariants.{Fault};
+
+use crate::sink::{Sink, SinkFault};
+use crate::source::{Source, SourceFault};
+use bytes::Bytes;
+use jb_tree::Refused;
+use std::alloc::{AllocError, Global};
+use thiserror::Error;
+
+/// How many bytes a source may give to [`read_to_end`]: 16 MiB.
+pub const INPUT_LIMIT: usize = 16_777_216;
+
+// How many bytes one read asks for.
+const PIECE: usize = 65_536;
+
+/// Why a source gave no whole input.
+#[derive(Clone, Copy, Debug, PartialEq, Eq, Error)]
+pub enum InputFault {
+    /// It gave more than [`INPUT_LIMIT`] bytes.
+    #[error("the source gave more than {INPUT_LIMIT} bytes")]
+    TooLong,
+    /// It could not be read.
+    #[error("the source could not be read")]
+    SourceFailed,
+}
+
+impl From<SourceFault> for Refused<InputFault> {
+    ghost from_gives = { λ _ refused. refused ≡ Fault SourceFailed };
+
+    fn from(_fault: SourceFault) -> Refused<InputFault> {
+        Refused::Fault(InputFault::SourceFailed)
+    }
+}
+
+/// Reads `source` to its end, and gives the bytes.
+///
+/// # Errors
+///
+/// - [`InputFault::TooLong`] where the source gave more than [`INPUT_LIMIT`] bytes.
+/// - [`InputFault::SourceFailed`] where a read failed: the source's count of faults rose in this call.
+/// - [`Refused::Memory`] where the bytes could not be held.
+///
+/// What was read before an error is lost.
+pub fn read_to_end<S: Source>(alloc: Global, source: &mut S) -> Result<Bytes, Refused<InputFault>>
+    ensures whole { IfOk result (ReadsWhole (S.left source.old) (S.left source.new)) }
+    ensures too_long { result ≡ Err (Refused.Fault InputFault.TooLong)
+        → GivesMore (S.left source.old) (S.left source.new) }
+    ensures failed { result ≡ Err (Refused.Fault InputFault.SourceFailed)
+        → HasFailed (S.faults source.old) (S.faults source.new) }
+    ensures later { S.faults source.old ≤ S.faults source.new }
+{
+    let mut piece = [0; PIECE];
+    read_in_pieces(alloc, source, &mut piece)
+}
+
+// The same, with room for each piece that is read.
+fn read_in_pieces<S: Source>(
+    alloc: Global,
+    source: &mut S,
+    piece: &mut [u8],
+) -> Result<Bytes, Refused<InputFault>>
+    requires { 0 < length piece.old }
+    ensures whole { IfOk result (ReadsWhole (S.left source.old) (S.left source.new)) }
+    ensures too_long { result ≡ Err (Refused.Fault InputFault.TooLong)
+        → GivesMore (S.left source.old) (S.left source.new) }
+    ensures failed { result ≡ Err (Refused.Fault InputFault.SourceFailed)
+        → HasFailed (S.faults source.old) (S.faults source.new) }
+    ensures later { S.faults source.old ≤ S.faults source.new }
+{
+    let mut bytes = Vec::new(alloc);
+    loop {
+        let count = source.read(piece)?;
+        if count == 0 {
+            return Ok(Bytes::from_vec(bytes).map_err(AllocError::from)?);
+        }
+        if count > INPUT_LIMIT - bytes.len() {
+            return Err(Refused::Fault(InputFault::TooLong));
+        }
+        bytes.extend_from_slice(&piece[..count])?;
+    }
+}
+
+/// Writes all of `bytes` to `sink`. Each write is handed all that is left.
+///
+/// # Errors
+///
+/// [`SinkFault`] where a write failed: the sink's count of faults rose in this call. It took only the first of the bytes.
+pub fn write_all<K: Sink>(sink: &mut K, bytes: &[u8]) -> Result<(), SinkFault>
+    ensures whole { OnOk result (Takes (K.taken sink.old) (K.taken sink.new) bytes.now) }
+    ensures front { OnErr result (TakesFront (K.taken sink.old) (K.taken sink.new) bytes.now) }
+    ensures later { K.faults sink.old ≤ K.faults sink.new }
+    ensures cause { OnErr result (HasFailed (K.faults sink.old) (K.faults sink.new)) }
+{
+    let mut at = 0;
+    while at < bytes.len() {
+        at += sink.write(&bytes[at..])?;
+    }
+    Ok(())
+}
+
+#[cfg(test)]
+mod tests {
+    use super::*;
+    use crate::sink::{SureSink, WriterSink};
+    use crate::source::{ReaderSource, SureSource};
+    use std::test::Fail;
+
+    fn spaces(alloc: Global, count: usize) -> Result<Bytes, AllocError> {
+        Ok(Bytes::from_vec(vec![in alloc; b' '; count]?)?)
+    }
+
+    #[test]
+    fn a_source_is_read_to_its_end(rt: HostRuntime) -> Result<(), Fail> {
+        for piece in [1, 3, 100] {
+            let mut source = SureSource::new(Bytes::from_static(b"some bytes"), piece);
+            let bytes = read_to_end(rt.alloc(), &mut source)?;
+            assert_eq!(rt; bytes.as_slice(), b"some bytes".as_slice());
+            assert!(rt; read_to_end(rt.alloc(), &mut source)?.is_empty());
+        }
+        let mut reader = ReaderSource::new(b"more bytes".as_slice());
+        let bytes = read_to_end(rt.alloc(), &mut reader)?;
+        assert_eq!(rt; bytes.as_slice(), b"more bytes".as_slice());
+        Ok(())
+    }
+
+    #[test]
+    fn the_limit_is_within_reach(rt: HostRuntime) -> Result<(), Fail> {
+        let most = spaces(rt.alloc(), INPUT_LIMIT)?;
+        let bytes = read_to_end(rt.alloc(), &mut SureSource::new(most, usize::MAX))?;
+        assert_eq!(rt; bytes.len(), 16_777_216);
+
+        let more = spaces(rt.alloc(), INPUT_LIMIT + 1)?;
+        let refused = read_to_end(rt.alloc(), &mut SureSource::new(more, 4_096));
+        assert_eq!(rt; refused.err(), Some(Refused::Fault(InputFault::TooLong)));
+        Ok(())
+    }
+
+    // A source that gives a byte at each call but the second, which fails.
+    #[derive(Drop)]
+    struct Faltering(u64);
+
+    impl Source for Faltering {
+        ghost use Rattle.std.specs.Prelude.{None};
+
+        ghost left = { λ _. None };
+
+        ghost faults = { λ source. source.0 };
+
+        fn read(&mut self, buffer: &mut [u8]) -> Result<usize, SourceFault> {
+            self.0 = self.0.saturating_add(1);
+            if self.0 == 2 {
+                return Err(SourceFault);
+            }
+            Ok(buffer.len().min(1))
+        }
+    }
+
+    #[test]
+    fn a_source_that_fails_gives_no_text(rt: HostRuntime) {
+        let refused = read_to_end(rt.alloc(), &mut Faltering(0));
+        assert_eq!(rt;
+            refused.err(),
+            Some(Refused::Fault(InputFault::SourceFailed))
+        );
+    }
+
+    #[test]
+    fn all_is_written(rt: HostRuntime) -> Result<(), Fail> {
+        let mut sure = SureSink::new(rt.alloc(), 16)?;
+        write_all(&mut sure, b"a text")?;
+        write_all(&mut sure, b"")?;
+        assert_eq!(rt; sure.written(), b"a text".as_slice());
+
+        let mut room = [0; 4];
+        let mut full = WriterSink::new(room.as_mut_slice());
+        assert_eq!(rt; write_all(&mut full, b"a text"), Err(SinkFault));
+        assert_eq!(rt; room, *b"a te");
+        Ok(())
+    }
+}
