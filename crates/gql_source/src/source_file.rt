@@ -1,0 +1,156 @@
+//! A source file, and the lines of its text.
+
+ghost use Rattle.std.specs.Prelude.{◌≡◌, ◌+◌, ◌-◌, ◌<◌, ◌≤◌, IfOk, IfSome, length, slice_index, slice_range, option_map, Some, None, Option};
+ghost use Rattle.std.specs.List.{count_by};
+ghost use Rattle.gql_source.specs.Lines as lines;
+
+use crate::{LineColumn, Memory};
+use std::alloc::Global;
+use std::marker::Model;
+use std::ops::Range;
+
+/// A source file: a path and a text.
+///
+/// A contract sees a record of their bytes, `path` and `source_text`. The starts of the lines are kept, so
+/// looking up a place takes time in the logarithm of the number of lines, and in the length of one line.
+#[derive(Debug, Drop)]
+pub struct SourceFile {
+    path: String,
+    source_text: String,
+    line_starts: Vec<usize>,
+}
+
+impl Model for SourceFile {
+    ghost use Rattle.std.specs.Prelude.{◌≡◌, length, string_bytes};
+    ghost use Rattle.gql_source.specs.File.{File};
+    ghost use Rattle.gql_source.specs.Lines as lines;
+
+    ghost Value = { File };
+
+    ghost view = { λ file. record { path = string_bytes file.path; source_text = string_bytes file.source_text } };
+
+    ghost invariant = { λ file. file.line_starts.items ≡ lines.line_starts (string_bytes file.source_text) (length (string_bytes file.source_text)) };
+}
+
+impl SourceFile {
+    /// A file with this path and this text.
+    pub fn new(alloc: Global, path: &str, source_text: &str) -> Result<SourceFile, Memory>
+        ensures { IfOk result (λ file. file ≡ record { path = path.now; source_text = source_text.now }) }
+    {
+        Ok(SourceFile {
+            path: String::from_str(alloc, path)?,
+            source_text: String::from_str(alloc, source_text)?,
+            line_starts: line_starts(alloc, source_text.as_bytes())?,
+        })
+    }
+
+    /// The file's path.
+    #[must_use]
+    pub fn path(&self) -> &str
+        ensures { result.now ≡ self.now.path }
+    {
+        self.path.as_str()
+    }
+
+    /// The file's text.
+    #[must_use]
+    pub fn source_text(&self) -> &str
+        ensures { result.now ≡ self.now.source_text }
+    {
+        self.source_text.as_str()
+    }
+
+    /// The line and the column of the character at `offset` bytes from the text's beginning, or of the
+    /// text's end. `None` where the offset passes the text's length.
+    #[must_use]
+    pub fn get_line_column(&self, offset: usize) -> Option<LineColumn>
+        ensures { result ≡ lines.line_column_within self.now.source_text offset }
+    {
+        if offset > self.source_text.len() {
+            return None;
+        }
+        Some(line_column(
+            self.source_text.as_bytes(),
+            self.line_starts.as_slice(),
+            offset,
+        ))
+    }
+
+    /// The lines and columns of both ends of the range. `None` where either passes the text's length.
+    #[must_use]
+    pub fn get_line_column_range(&self, range: Range<usize>) -> Option<Range<LineColumn>>
+        ensures { result ≡ lines.line_column_range_within self.now.source_text range.start range.end }
+    {
+        let start = self.get_line_column(range.start)?;
+        let end = self.get_line_column(range.end)?;
+        Some(start..end)
+    }
+
+    /// A copy of the file.
+    pub fn copy(&self, alloc: Global) -> Result<SourceFile, Memory>
+        ensures { IfOk result (λ file. file ≡ self.now) }
+    {
+        SourceFile::new(alloc, self.path(), self.source_text())
+    }
+}
+
+/// Whether the line ends with the byte at `at`.
+fn ends_line(text: &[u8], at: usize) -> bool
+    requires { at < length text.now }
+    ensures { result ≡ lines.ends_line text.now at }
+{
+    match text[at] {
+        b'\n' => true,
+        b'\r' => at + 1 == text.len() || text[at + 1] != b'\n',
+        _ => false,
+    }
+}
+
+/// The starts of all lines of a text.
+#[tactic(auto, unfolding(crate::specs::Lines::line_starts))]
+fn line_starts(alloc: Global, text: &[u8]) -> Result<Vec<usize>, Memory>
+    ensures { IfOk result (λ starts. starts.items ≡ lines.line_starts text.now (length text.now)) }
+{
+    let mut starts = vec![in alloc; 0]?;
+    for at in 0..text.len() {
+        if ends_line(text, at) {
+            starts.push(at + 1)?;
+        }
+    }
+    Ok(starts)
+}
+
+/// The number of the line that the offset lies in, from the starts of the text's lines.
+fn line_of(text: &[u8], starts: &[usize], offset: usize) -> usize
+    requires starts { starts.now ≡ lines.line_starts text.now (length text.now) }
+    requires within { offset ≤ length text.now }
+    ensures value { result ≡ length (lines.line_starts text.now offset) }
+    ensures within { (0 < result) × (result ≤ length starts.now) }
+    ensures start { slice_index starts.now (result - 1) ≡ lines.line_start text.now offset }
+    ensures ordered { lines.line_start text.now offset ≤ offset }
+{
+    starts.partition_point(|start| *start <= offset)
+}
+
+/// The line and the column of a place in a text, from the starts of the text's lines.
+#[tactic(auto, unfolding(crate::specs::Lines::line_column))]
+fn line_column(text: &[u8], starts: &[usize], offset: usize) -> LineColumn
+    requires starts { starts.now ≡ lines.line_starts text.now (length text.now) }
+    requires within { offset ≤ length text.now }
+    ensures { result ≡ lines.line_column text.now offset }
+{
+    let line = line_of(text, starts, offset);
+    let start = starts[line - 1];
+    let column = count_characters(&text[start..offset]) + 1;
+    LineColumn { line, column }
+}
+
+/// How many characters begin in these bytes.
+fn count_characters(bytes: &[u8]) -> usize
+    ensures { result ≡ count_by lines.begins_character bytes.now }
+{
+    bytes
+        .iter()
+        .filter(|byte| **byte < 0x80 || 0xC0 <= **byte)
+        .count()
+}
