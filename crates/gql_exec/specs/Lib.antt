@@ -1,0 +1,12 @@
+pub mod TypeName
+pub mod ResolveInfo
+pub mod Path
+pub mod Selections
+pub mod Meaning
+pub mod Fit
+pub mod ObjectFit
+pub mod Place
+pub mod FieldPlace
+pub mod Execution
+pub mod Explained
+pub mod Response

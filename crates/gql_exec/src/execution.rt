@@ -1,0 +1,166 @@
+//! Execution of a selection set, of a field and of a value (GraphQL, sections 6.3 and 6.4).
+
+ghost use Rattle.std.specs.Prelude.{◌≡◌, ◌++◌, [], Some, IfOk, OnOk};
+ghost use Rattle.gql_exec.specs.Meaning.{meaning_of};
+ghost use Rattle.gql_exec.specs.Selections.{selections_of};
+ghost use Rattle.gql_exec.specs.Path.{path_of};
+ghost use Rattle.gql_exec.specs.Place.{setting};
+ghost use Rattle.gql_exec.specs.FieldPlace.{place_in};
+ghost use Rattle.gql_exec.specs.Execution.{execute, outcome_at};
+ghost use Rattle.gql_exec.specs.Explained.{IsExplained};
+
+use super::error::GraphQLError;
+use super::fit::{fitting_object_type, leaf_misfit, resolver_error};
+use super::path::Path;
+use super::place::FieldPlace;
+use super::resolved_value::ResolvedValue;
+use super::resolver::{ObjectValue, ResolveError, ResolveInfo};
+use super::response::ExecutionResponse;
+use super::schema::{ObjectType, Schema};
+use super::selection::SelectionSet;
+use jb_tree::{Listed, Map, Refused, Value};
+use std::alloc::{AllocError, Global};
+
+/// Executes the selections on the initial object, which is taken to be of the root type whatever type it names. Below
+/// the root an object is executed on the type that it names. `Err` only for want of memory.
+pub fn execute<O: ObjectValue>(
+    alloc: Global,
+    schema: &Schema,
+    root_type: &ObjectType,
+    selections: &SelectionSet,
+    initial: &O,
+) -> Result<ExecutionResponse, AllocError>
+    ensures executed { IfOk result (λ response.
+        let made = execute (setting schema.now O.type_of O.resolves) root_type.now initial.now [] (selections_of selections.now) in
+        response ≡ record { errors = made.1; root = Some made.0 }) }
+    ensures explained { IfOk result
+        (IsExplained (setting schema.now O.type_of O.resolves) root_type.now initial.now (selections_of selections.now)) }
+{
+    let mut errors = Listed::new(alloc);
+    let execution = Execution { alloc, schema };
+    let root = execution.execute_selection_set(
+        root_type,
+        initial,
+        &Path::Root,
+        selections,
+        &mut errors,
+    )?;
+    Ok(ExecutionResponse {
+        errors,
+        root: Some(root),
+    })
+}
+
+/// What stays the same throughout an execution.
+#[derive(Clone, Copy)]
+struct Execution<'s> {
+    alloc: Global,
+    schema: &'s Schema,
+}
+
+impl<'s> Execution<'s> {
+    /// The object of a selection set on an object of this type.
+    #[cycle(execute)]
+    fn execute_selection_set<O: ObjectValue>(
+        &self,
+        object_type: &ObjectType,
+        object: &O,
+        path: &Path<'_>,
+        selections: &SelectionSet,
+        errors: &mut Listed<GraphQLError>,
+    ) -> Result<Map, AllocError>
+        ensures members { IfOk result (λ members. members ≡
+            (execute (setting self.now.schema.now O.type_of O.resolves) object_type.now object.now (path_of path.now) (selections_of selections.now)).0) }
+        ensures listed { OnOk result (errors.new ≡ errors.old ++
+            (execute (setting self.now.schema.now O.type_of O.resolves) object_type.now object.now (path_of path.now) (selections_of selections.now)).1) }
+    {
+        let mut members = Map::new(self.alloc);
+        for index in 0..selections.len() {
+            let key = selections.key_at(index);
+            let name = key.as_str();
+            if let Some(expected) = object_type.field_type(name) {
+                let below = Path::Key(path, name);
+                let place = FieldPlace {
+                    path: &below,
+                    field: selections.value_at(index),
+                    expected,
+                };
+                let value = self.execute_field(object_type, object, name, &place, errors)?;
+                members.insert_new(key.copy(self.alloc)?, value)?;
+            }
+        }
+        Ok(members)
+    }
+
+    /// The value of a field: its resolver is asked, and what that gives is completed.
+    #[cycle(execute)]
+    fn execute_field<O: ObjectValue>(
+        &self,
+        object_type: &ObjectType,
+        object: &O,
+        name: &str,
+        place: &FieldPlace<'_>,
+        errors: &mut Listed<GraphQLError>,
+    ) -> Result<Value, AllocError>
+        ensures value { IfOk result (λ value. value ≡
+            (outcome_at (setting self.now.schema.now O.type_of O.resolves)
+            (place_in place.now (O.resolves self.now.schema.now object_type.now name.now object.now))).0) }
+        ensures listed { OnOk result (errors.new ≡ errors.old ++
+            (outcome_at (setting self.now.schema.now O.type_of O.resolves)
+            (place_in place.now (O.resolves self.now.schema.now object_type.now name.now object.now))).1) }
+    {
+        let info = ResolveInfo::new(self.schema, object_type, name);
+        match object.resolve_field(self.alloc, &info) {
+            Ok(resolved) => self.complete_value(place, resolved, errors),
+            Err(ResolveError::Field(error)) => {
+                let message = resolver_error(self.alloc, error.message.as_str())?;
+                place.refuse(self.alloc, message, errors)
+            }
+            Err(ResolveError::Memory) => Err(AllocError),
+        }
+    }
+
+    /// The value of a place, of what its resolver gave.
+    #[cycle(execute)]
+    fn complete_value<O: ObjectValue>(
+        &self,
+        place: &FieldPlace<'_>,
+        resolved: ResolvedValue<O>,
+        errors: &mut Listed<GraphQLError>,
+    ) -> Result<Value, AllocError>
+        ensures value { IfOk result (λ value. value ≡
+            (outcome_at (setting self.now.schema.now O.type_of O.resolves) (place_in place.now (meaning_of resolved))).0) }
+        ensures listed { OnOk result (errors.new ≡ errors.old ++
+            (outcome_at (setting self.now.schema.now O.type_of O.resolves) (place_in place.now (meaning_of resolved))).1) }
+    {
+        match resolved {
+            ResolvedValue::Leaf(value) => {
+                match leaf_misfit(self.alloc, self.schema, place.expected, &value)? {
+                    None => Ok(value),
+                    Some(message) => place.refuse(self.alloc, message, errors),
+                }
+            }
+            ResolvedValue::Object(object) => {
+                match fitting_object_type(
+                    self.alloc,
+                    self.schema,
+                    place.expected,
+                    object.type_name(),
+                ) {
+                    Ok(object_type) => {
+                        let members = self.execute_selection_set(
+                            object_type,
+                            &object,
+                            place.path,
+                            &place.field.selections,
+                            errors,
+                        )?;
+                        Ok(Value::Object(members))
+                    }
+                    Err(Refused::Fault(message)) => place.refuse(self.alloc, message, errors),
+                    Err(Refused::Memory) => Err(AllocError),
+                }
+            }
+        }
+    }
+}
