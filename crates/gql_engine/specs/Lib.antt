@@ -1,0 +1,10 @@
+pub mod AnswerError
+pub mod Answered
+pub mod Data
+pub mod DataMeaning
+pub mod DataName
+pub mod Decision
+pub mod Program
+pub mod Replies
+pub mod Reply
+pub mod Request

@@ -1,0 +1,64 @@
+-- What a request is answered with. Both relations hold between the bytes of the request and the text that is written.
+use Rattle.std.specs.Prelude.{◌≡◌, ℕ, List, [], ◌∷◌, ◌++◌, Option, Some, None, unwrap_or, Ok, Err, codes}
+use Rattle.std.specs.Fmt.{decimal}
+use Rattle.jb_tree.specs.declared.value.Value.{Value}
+use Rattle.jb_tree.specs.declared.value.Value.TheVariants as json
+use Rattle.jb_print.specs.Compact.{compact}
+use Rattle.jb_read.specs.declared.fault.FaultKind.{FaultKind}
+use Rattle.jb_read.specs.declared.fault.FaultKind.TheVariants.{Syntax, Float, NumberRange, Depth}
+use Rattle.jb_read.specs.declared.fault.ReadFault.{ReadFault}
+use Rattle.jb_read.specs.Spelling.{JsonText}
+use Rattle.jb_read.specs.Texts.{text_value}
+use Rattle.gql_engine.specs.declared.request.RequestFault.{RequestFault}
+use Rattle.gql_engine.specs.declared.answering.UnbuiltPart.{UnbuiltPart}
+use Rattle.gql_engine.specs.Data.{Data}
+use Rattle.gql_engine.specs.DataMeaning.{data_meaning}
+use Rattle.gql_engine.specs.Request.{Asked, asked, fault_message}
+use Rattle.gql_engine.specs.Answered.{Answered}
+use Rattle.gql_engine.specs.AnswerError.{unbuilt_message}
+
+-- a text as it is written, with its LF
+abbrev pub line : List ℕ → List ℕ
+line text = text ++ 10 ∷ []
+
+-- the root of a request's data
+abbrev pub root_of : Asked → Data
+root_of request = record { type_name = []; members = unwrap_or request.root [] }
+
+-- the text is a response whose data and errors are explained by a request's data
+abbrev pub AnswersAsked : Asked → List ℕ → Type 0
+AnswersAsked request text = Answered (λ object. object.type_name) data_meaning (root_of request) text
+
+-- the bytes are the JSON text of a request, and the text is a response to it
+pub record Answers (bytes text : List ℕ) : Type 0 where
+  pub value : Value
+  pub request : Asked
+  pub read : JsonText bytes value
+  pub asks : asked value ≡ Ok request
+  pub answered : AnswersAsked request text
+
+abbrev pub kind_name : FaultKind → List ℕ
+kind_name Syntax = codes "syntax"
+kind_name Float = codes "float"
+kind_name NumberRange = codes "number range"
+kind_name Depth = codes "depth"
+
+abbrev pub read_message : ReadFault → List ℕ
+read_message fault = codes "request: " ++ (kind_name fault.kind ++ (codes " at byte " ++ decimal fault.place))
+
+-- why the bytes are refused, with the message of each cause
+pub data Cause (bytes : List ℕ) : List ℕ → Type 0 where
+  no_text : (fault : ReadFault) → text_value bytes ≡ Err fault → Cause bytes (read_message fault)
+  no_request : (value : Value) (fault : RequestFault) → JsonText bytes value → asked value ≡ Err fault → Cause bytes (fault_message fault)
+  not_built : (value : Value) (request : Asked) (part : UnbuiltPart) → JsonText bytes value → asked value ≡ Ok request → Cause bytes (unbuilt_message part)
+
+-- the JSON of a refusal with one message
+abbrev pub refusal_value : List ℕ → Value
+refusal_value message =
+    json.Object ((codes "errors", json.Array (json.Object ((codes "message", json.String message) ∷ []) ∷ [])) ∷ [])
+
+-- the text says why the bytes are refused
+pub record Refuses (bytes text : List ℕ) : Type 0 where
+  pub message : List ℕ
+  pub cause : Cause bytes message
+  pub written : text ≡ compact (refusal_value message)

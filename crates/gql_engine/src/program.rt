@@ -1,0 +1,215 @@
+ghost use Rattle.std.specs.Prelude.{◌≡◌, ◌≢◌, ◌≤◌, ◌⊎◌, ◌↔◌, IsTrue};
+ghost use Rattle.gql_engine.specs.Program.{AsksAnswer, BreaksOff, IsLong, Serves, usage};
+ghost use Rattle.gql_engine.specs.Reply.{Answers, Refuses};
+ghost use Rattle.jb_io.specs.Sink.{Takes, TakesFront};
+ghost use Rattle.jb_io.specs.Source.{GivesMore};
+ghost use Rattle.jb_io.specs.Stream.{HasFailed};
+
+use crate::reply::reply_to;
+use jb_io::{InputFault, Sink, SinkFault, Source, SureSink, SureSource, read_to_end, write_all};
+use jb_tree::Refused;
+use std::alloc::Global;
+
+/// The status where a response was written.
+pub const ANSWERED: u8 = 0;
+
+/// The status where it was written why the request is refused.
+pub const REFUSED: u8 = 1;
+
+/// The status where the words are no command, and the usage line was written.
+pub const MISUSED: u8 = 2;
+
+/// The status for want of memory. Nothing was written.
+pub const NO_MEMORY: u8 = 3;
+
+/// The status where the source could not be read. Nothing was written.
+pub const SOURCE_FAILED: u8 = 4;
+
+/// The status where the sink could not be written. It took only the first of the output.
+pub const SINK_FAILED: u8 = 5;
+
+/// The status where the source gave more than [`jb_io::INPUT_LIMIT`] bytes. Nothing was written.
+pub const TOO_LONG: u8 = 6;
+
+const USAGE: &str = "usage: gql_program answer\n";
+
+/// Runs the program over `words`, its arguments without its own name, and gives its exit status, from [`ANSWERED`]
+/// to [`TOO_LONG`].
+///
+/// The words are looked at first, then `source` is read to its end, then the reply is computed, then it is written
+/// with one LF. Refusals and the usage line go to `sink` too.
+pub fn run<S: Source, K: Sink>(alloc: Global, words: &[String], source: &mut S, sink: &mut K) -> u8
+    ensures statuses { result ≤ TOO_LONG }
+
+    // The words.
+    ensures misused { result ≡ MISUSED
+        → ¬ AsksAnswer words.now × Takes (K.taken sink.old) (K.taken sink.new) usage }
+    ensures unasked { ¬ AsksAnswer words.now → (result ≡ MISUSED)
+        ⊎ ((result ≡ SINK_FAILED) × TakesFront (K.taken sink.old) (K.taken sink.new) usage) }
+    ensures unread { ¬ AsksAnswer words.now → source.new ≡ source.old }
+
+    // The output.
+    ensures answered { result ≡ ANSWERED → Serves Answers
+        (S.left source.old) (S.left source.new) (K.taken sink.old) (K.taken sink.new) }
+    ensures refused { result ≡ REFUSED → Serves Refuses
+        (S.left source.old) (S.left source.new) (K.taken sink.old) (K.taken sink.new) }
+    ensures nothing_written { (result ≡ NO_MEMORY) ⊎ ((result ≡ SOURCE_FAILED) ⊎ (result ≡ TOO_LONG))
+        → sink.new ≡ sink.old }
+
+    // The causes.
+    ensures source_failed { result ≡ SOURCE_FAILED → HasFailed (S.faults source.old) (S.faults source.new) }
+    ensures too_long { result ≡ TOO_LONG → GivesMore (S.left source.old) (S.left source.new) }
+    ensures sink_failed { result ≡ SINK_FAILED → HasFailed (K.faults sink.old) (K.faults sink.new) }
+    ensures broken_off { result ≡ SINK_FAILED → AsksAnswer words.now → BreaksOff
+        (S.left source.old) (S.left source.new) (K.taken sink.old) (K.taken sink.new) }
+{
+    if !asks_answer(words) {
+        return match write_all(sink, USAGE.as_bytes()) {
+            Ok(()) => MISUSED,
+            Err(SinkFault) => SINK_FAILED,
+        };
+    }
+    let bytes = match read_to_end(alloc, source) {
+        Ok(bytes) => bytes,
+        Err(Refused::Memory) => return NO_MEMORY,
+        Err(Refused::Fault(InputFault::SourceFailed)) => return SOURCE_FAILED,
+        Err(Refused::Fault(InputFault::TooLong)) => return TOO_LONG,
+    };
+    let Ok(reply) = reply_to(alloc, &bytes) else {
+        return NO_MEMORY;
+    };
+    match write_all(sink, reply.line.as_slice()) {
+        Ok(()) => reply.status,
+        Err(SinkFault) => SINK_FAILED,
+    }
+}
+
+// Whether the words are the one command.
+fn asks_answer(words: &[String]) -> bool
+    ensures { IsTrue result ↔ AsksAnswer words.now }
+{
+    match words {
+        [word] => word.as_str() == "answer",
+        _ => false,
+    }
+}
+
+/// [`run`] in memory, where neither reading nor writing fails: the status is never [`SOURCE_FAILED`] or
+/// [`SINK_FAILED`].
+pub fn run_in_memory(
+    alloc: Global,
+    words: &[String],
+    source: &mut SureSource,
+    sink: &mut SureSink,
+) -> u8
+    ensures misused { result ≡ MISUSED ↔ ¬ AsksAnswer words.now }
+    ensures read { result ≢ SOURCE_FAILED }
+    ensures written { result ≢ SINK_FAILED }
+
+    // A long input is refused, and no other.
+    ensures long { result ≡ TOO_LONG → IsLong (⟦<SureSource as Source>⟧.left source.old) }
+    ensures too_long { AsksAnswer words.now → IsLong (⟦<SureSource as Source>⟧.left source.old)
+        → (result ≡ TOO_LONG) ⊎ (result ≡ NO_MEMORY) }
+{
+    run(alloc, words, source, sink)
+}
+
+#[cfg(test)]
+mod tests {
+    use super::*;
+    use bytes::Bytes;
+    use jb_io::{INPUT_LIMIT, ReaderSource, WriterSink};
+    use std::io;
+    use std::io::{ErrorKind, Read};
+    use std::test::Fail;
+
+    fn words_of(alloc: Global, words: &[&str]) -> Result<Vec<String>, Fail> {
+        let mut all = Vec::new(alloc);
+        for word in words {
+            all.push(String::from_str(alloc, word)?)?;
+        }
+        Ok(all)
+    }
+
+    #[test]
+    fn words_that_are_no_command_get_the_usage_line(rt: HostRuntime) -> Result<(), Fail> {
+        let rows: [&[&str]; 5] = [
+            &[],
+            &["answers"],
+            &["Answer"],
+            &["answer", "answer"],
+            &["", "answer"],
+        ];
+        for row in rows {
+            let words = words_of(rt.alloc(), row)?;
+            let mut source = SureSource::new(Bytes::from_static(b"{}"), 1);
+            let mut sink = SureSink::new(rt.alloc(), 64)?;
+            let status = run_in_memory(rt.alloc(), words.as_slice(), &mut source, &mut sink);
+            assert_eq!(rt; status, 2, "{row:?}");
+            assert_eq!(rt; sink.written(), b"usage: gql_program answer\n".as_slice());
+            assert_eq!(rt; read_to_end(rt.alloc(), &mut source)?.len(), 2);
+        }
+        Ok(())
+    }
+
+    #[test]
+    fn a_request_gets_one_line(rt: HostRuntime) -> Result<(), Fail> {
+        let words = words_of(rt.alloc(), &["answer"])?;
+        let mut source = SureSource::new(Bytes::from_static(b"{}"), 1);
+        let mut sink = SureSink::new(rt.alloc(), 100)?;
+        let status = run_in_memory(rt.alloc(), words.as_slice(), &mut source, &mut sink);
+        assert_eq!(rt; status, 1);
+        let line =
+            b"{\"errors\":[{\"message\":\"request: member `schema` is missing\"}]}\n".as_slice();
+        assert_eq!(rt; sink.written(), line);
+        Ok(())
+    }
+
+    #[test]
+    fn one_byte_too_many_is_refused(rt: HostRuntime) -> Result<(), Fail> {
+        let words = words_of(rt.alloc(), &["answer"])?;
+        let spaces = Bytes::from_vec(vec![in rt.alloc(); b' '; INPUT_LIMIT + 1]?)?;
+        let mut source = SureSource::new(spaces, 65_536);
+        let mut sink = SureSink::new(rt.alloc(), 64)?;
+        let status = run_in_memory(rt.alloc(), words.as_slice(), &mut source, &mut sink);
+        assert_eq!(rt; status, 6);
+        assert_eq!(rt; sink.written(), b"".as_slice());
+        Ok(())
+    }
+
+    // A reader whose second read fails, as if the rest of a request were lost.
+    #[derive(Drop)]
+    struct Broken(u32);
+
+    impl Read for Broken {
+        fn read(&mut self, buf: &mut [u8]) -> io::Result<usize> {
+            self.0 = self.0.saturating_add(1);
+            match self.0 {
+                1 => b"{}".as_slice().read(buf),
+                2 => Err(io::Error::from(ErrorKind::ConnectionReset)),
+                _ => Ok(0),
+            }
+        }
+    }
+
+    #[test]
+    fn streams_that_fail_have_their_own_status(rt: HostRuntime) -> Result<(), Fail> {
+        let words = words_of(rt.alloc(), &["answer"])?;
+        let mut sink = SureSink::new(rt.alloc(), 64)?;
+        let mut broken = ReaderSource::new(Broken(0));
+        assert_eq!(rt;
+            run(rt.alloc(), words.as_slice(), &mut broken, &mut sink),
+            4
+        );
+        assert_eq!(rt; sink.written(), b"".as_slice());
+
+        let mut room = [0; 5];
+        for (asked, wanted) in [(words.as_slice(), b"{\"err"), (&[], b"usage")] {
+            let mut full = WriterSink::new(room.as_mut_slice());
+            let mut source = SureSource::new(Bytes::from_static(b"{}"), 1);
+            assert_eq!(rt; run(rt.alloc(), asked, &mut source, &mut full), 5);
+            assert_eq!(rt; room, *wanted);
+        }
+        Ok(())
+    }
+}
