@@ -4,6 +4,7 @@ use Rattle.std.specs.Str.{bytes_eq}
 use Rattle.std.specs.Map.{lookup}
 use Rattle.jb_tree.specs.declared.value.Value.{Value}
 use Rattle.jb_tree.specs.declared.value.Value.TheVariants as json
+use Rattle.gql_source.specs.declared.line_column.LineColumn.{LineColumn}
 use Rattle.gql_exec.specs.declared.schema.TypeRef.{TypeRef}
 use Rattle.gql_exec.specs.declared.schema.ObjectType.{ObjectType}
 use Rattle.gql_exec.specs.declared.error.GraphQLError.{GraphQLError}
@@ -39,13 +40,13 @@ mutual
   pub data FieldsAre {O : Type 0} (world : Setting O) (errors : List GraphQLError)
       : ObjectType → O → List ResponseDataPathSegment → Selections → List (List ℕ × Value) → Type 0 where
     no_more : (T : ObjectType) (object : O) (path : List ResponseDataPathSegment) → FieldsAre world errors T object path no_fields []
-    left_out : (T : ObjectType) (object : O) (path : List ResponseDataPathSegment) (key : List ℕ) (at_place : _) (within others : Selections) (members : List (List ℕ × Value))
+    left_out : (T : ObjectType) (object : O) (path : List ResponseDataPathSegment) (key : List ℕ) (where_it_is : LineColumn) (within others : Selections) (members : List (List ℕ × Value))
         → lookup (bytes_eq key) T.fields ≡ None → FieldsAre world errors T object path others members
-        → FieldsAre world errors T object path (field_then key at_place within others) members
-    taken : (T : ObjectType) (object : O) (path : List ResponseDataPathSegment) (key : List ℕ) (at_place : _) (within others : Selections) (ty : TypeRef) (value : Value) (members : List (List ℕ × Value))
-        → lookup (bytes_eq key) T.fields ≡ Some ty → IsGood world errors (place_of world T object path key at_place within ty) value
+        → FieldsAre world errors T object path (field_then key where_it_is within others) members
+    taken : (T : ObjectType) (object : O) (path : List ResponseDataPathSegment) (key : List ℕ) (where_it_is : LineColumn) (within others : Selections) (ty : TypeRef) (value : Value) (members : List (List ℕ × Value))
+        → lookup (bytes_eq key) T.fields ≡ Some ty → IsGood world errors (place_of world T object path key where_it_is within ty) value
         → FieldsAre world errors T object path others members
-        → FieldsAre world errors T object path (field_then key at_place within others) ((key, value) ∷ members)
+        → FieldsAre world errors T object path (field_then key where_it_is within others) ((key, value) ∷ members)
 
 -- each listed error is a true fault, and the data is explained
 pub record IsExplained {O : Type 0} (world : Setting O) (T : ObjectType) (object : O) (selections : Selections) (response : ExecutionResponse) : Type 0 where

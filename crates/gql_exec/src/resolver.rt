@@ -42,6 +42,7 @@ pub struct ResolveInfo<'a> {
 impl<'a> ResolveInfo<'a> {
     ghost use Rattle.gql_exec.specs.ResolveInfo.{schema_of, object_type_of, field_name_of};
 
+    /// What a resolver is told: execution makes one for each field, and a test of a resolver may.
     pub fn new(
         schema: &'a Schema,
         object_type: &'a ObjectType,

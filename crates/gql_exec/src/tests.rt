@@ -3,7 +3,7 @@
 use super::*;
 use gql_source::LineColumn;
 use jb_tree::{ByteString, Number, Pairs, Text, Value};
-use std::alloc::Global;
+use std::alloc::{AllocError, Global};
 use std::test::Fail;
 
 /// An object of type `A`, each of whose fields resolves to the same.
@@ -59,6 +59,14 @@ impl ObjectValue for Sample {
     }
 }
 
+/// Inserts a pair, or fails for want of memory.
+fn put<V: Drop>(alloc: Global, pairs: &mut Pairs<V>, key: &str, value: V) -> Result<(), Fail> {
+    match pairs.insert(ByteString::from_text(alloc, key)?, value) {
+        Ok(_) => Ok(()),
+        Err(_) => Err(AllocError)?,
+    }
+}
+
 /// The fields of an object type: names and types, where any other name is that of an object type.
 fn object_type(alloc: Global, name: &str, fields: &[(&str, &str)]) -> Result<ObjectType, Fail> {
     let mut types = Pairs::new(alloc);
@@ -69,7 +77,7 @@ fn object_type(alloc: Global, name: &str, fields: &[(&str, &str)]) -> Result<Obj
             "Boolean" => TypeRef::Boolean,
             other => TypeRef::Object(Text::from_str(alloc, other)?),
         };
-        let _ = types.insert(ByteString::from_text(alloc, field)?, ty);
+        put(alloc, &mut types, field, ty)?;
     }
     Ok(ObjectType {
         name: Text::from_str(alloc, name)?,
@@ -86,7 +94,7 @@ fn selected(alloc: Global, names: &[&str]) -> Result<SelectionSet, Fail> {
             location: LineColumn { line: 1, column },
             selections: Pairs::new(alloc),
         };
-        let _ = fields.insert(ByteString::from_text(alloc, name)?, field);
+        put(alloc, &mut fields, name, field)?;
         column = column.wrapping_add(2);
     }
     Ok(fields)
@@ -101,10 +109,7 @@ fn answer(
 ) -> Result<Text, Fail> {
     let mut types = Pairs::new(alloc);
     for (name, fields) in [("A", [("x", "Int")].as_slice()), ("B", [].as_slice())] {
-        let _ = types.insert(
-            ByteString::from_text(alloc, name)?,
-            object_type(alloc, name, fields)?,
-        );
+        put(alloc, &mut types, name, object_type(alloc, name, fields)?)?;
     }
     let query = object_type(alloc, "Query", fields)?;
     let response = execute(alloc, &Schema { types }, &query, selections, initial)?;
@@ -119,7 +124,7 @@ fn a_fault_below_an_object(rt: HostRuntime) -> Result<(), Fail> {
         location: LineColumn { line: 1, column: 5 },
         selections: selected(alloc, &["y", "x"])?,
     };
-    let _ = selections.insert(ByteString::from_text(alloc, "a")?, object);
+    put(alloc, &mut selections, "a", object)?;
     let text = answer(alloc, &[("a", "A")], &selections, &Sample::Holder)?;
     assert_eq!(rt;
         text.as_str(),

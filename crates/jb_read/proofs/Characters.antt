@@ -1,5 +1,5 @@
 -- The characters of a string, read and spelled.
-use Rattle.std.proofs.Common.{◌≡◌, ℕ, zero, suc, ◌+◌, ◌-◌, ◌<◌, ◌≤◌, Bool, true, false, not, cond, ◌⊎◌, inl, inr, List, [], ◌∷◌, ◌++◌, length, take, drop, get_or, Option, Some, None, Result, Ok, Err, refl, sym, ap, subst, ◌∙◌, append_assoc, arith}
+use Rattle.std.proofs.Common.{◌≡◌, ℕ, zero, suc, ◌+◌, ◌<◌, ◌≤◌, Bool, true, false, not, cond, ◌⊎◌, inl, inr, List, [], ◌∷◌, ◌++◌, length, take, drop, get_or, Result, Ok, refl, sym, ap, subst, ◌∙◌, append_assoc, arith}
 use Rattle.std.specs.Prelude.{◌==◌, ◌&&◌, ◌||◌, nat_lt, encode_utf8}
 use Rattle.std.specs.Char.{IsScalar}
 use Rattle.std.specs.Str.{IsUtf8, is_utf8, encode_utf8_all, all_scalars}
@@ -55,7 +55,7 @@ special_small : (b : ℕ) → is_special b ≡ true → b < 128
 special_small b e = elim (or_cases ((b == 34) || (b == 92)) (nat_lt b 32) e) [
   | inl p ↦ (elim (or_cases (b == 34) (b == 92) p) [ inl q ↦ omega (arith, eqb-true b 34 q) | inr q ↦ omega (arith, eqb-true b 92 q) ])
   | inr p ↦ omega (arith, ltb-true b 32 p)
-  ]
+]
 
 -- the bytes of a character that isn't special aren't
 encode_plain : (c : ℕ) → is_special c ≡ false → all_plain (encode_utf8 c) ≡ true
@@ -69,7 +69,7 @@ special_from_bytes : (c : ℕ) (rest : List ℕ) → all_plain (encode_utf8 c ++
 special_from_bytes c rest e = elim (cases_lt c 128) [
   | inl lt ↦ not-true (is_special c) (and_parts (not (is_special c)) (all_plain rest) (ap (λ (l : List ℕ). all_plain (l ++ rest)) (sym (encode_ascii c lt)) ∙ e)).0
   | inr le ↦ false_from_ne_true (is_special c) (λ s. let lt = special_small c s in omega arith)
-  ]
+]
 
 plain_right : (xs ys : List ℕ) → all_plain (xs ++ ys) ≡ true → all_plain ys ≡ true
 plain_right [] ys e = e
@@ -89,7 +89,7 @@ unfolding run_at
 run_ok at r e = elim (chosen (is_utf8 (plain_front at)) (Ok (plain_front at, behind_plain at)) (fails Syntax (ill_formed_at at)) (Ok r) e) [
   | inl p ↦ (IsUtf8-from_is_utf8 (plain_front at) p.0, ok_is (plain_front at, behind_plain at) r p.1)
   | inr p ↦ absurd (broken_not_ok (broken Syntax (ill_formed_at at)) r p.1)
-  ]
+]
 
 record Escaped (made at : List ℕ) (t : (Bool × List ℕ) × List ℕ) : Type 0 where
   character : ℕ
@@ -104,10 +104,10 @@ piece_end_sound made (b ∷ at) t e =
       | inl p ↦ (let same = ok_is ((false, made), at) t p.1 in
           inl (ap (λ (k : ℕ). k ∷ at) (eqb-true b 34 p.0) ∙ ap (λ (x : (Bool × List ℕ) × List ℕ). 34 ∷ x.1) same, ap (λ (x : (Bool × List ℕ) × List ℕ). x.0) same))
       | inr p ↦ (elim (chosen (b == 92) (escape_at (broken Syntax (b ∷ at)) at >>= λ escape. Ok ((true, made ++ encode_utf8 escape.0), escape.1)) (fails Syntax (b ∷ at)) (Ok t) p.1) [
-          | inl q ↦ (let a = bind_ok (escape_at (broken Syntax (b ∷ at)) at) (λ escape. Ok ((true, made ++ encode_utf8 escape.0), escape.1)) t q.1 in
-              inr (escaped b at t (eqb-true b 92 q.0) a.0 (escape_sound (broken Syntax (b ∷ at)) at a.0 a.1) (ok_is ((true, made ++ encode_utf8 a.0.0), a.0.1) t a.2)))
-          | inr q ↦ absurd (broken_not_ok (broken Syntax (b ∷ at)) t q.1)
-        ])
+        | inl q ↦ (let a = bind_ok (escape_at (broken Syntax (b ∷ at)) at) (λ escape. Ok ((true, made ++ encode_utf8 escape.0), escape.1)) t q.1 in
+            inr (escaped b at t (eqb-true b 92 q.0) a.0 (escape_sound (broken Syntax (b ∷ at)) at a.0 a.1) (ok_is ((true, made ++ encode_utf8 a.0.0), a.0.1) t a.2)))
+        | inr q ↦ absurd (broken_not_ok (broken Syntax (b ∷ at)) t q.1)
+      ])
     ]
   where
     escaped : (b : ℕ) (at : List ℕ) (t : (Bool × List ℕ) × List ℕ) → b ≡ 92 → (escape : ℕ × List ℕ) → SpellsCharacter escape.0 (92 ∷ at) escape.1 → ((true, made ++ encode_utf8 escape.0), escape.1) ≡ t → Escaped made (b ∷ at) t
@@ -193,10 +193,10 @@ plain_completes c cs at behind rest scalar special parts more =
     record {
       text = text;
       read = λ most made le.
-        let same : piece_at made at ≡ piece_at (made ++ encode_utf8 c) behind = piece_of_run made at text ∙ ap (λ (l : List ℕ). piece_end (made ++ l) (behind_plain at)) front ∙ ap (λ (l : List ℕ). piece_end (made ++ (encode_utf8 c ++ plain_front behind)) l) left
+          let same : piece_at made at ≡ piece_at (made ++ encode_utf8 c) behind = piece_of_run made at text ∙ ap (λ (l : List ℕ). piece_end (made ++ l) (behind_plain at)) front ∙ ap (λ (l : List ℕ). piece_end (made ++ (encode_utf8 c ++ plain_front behind)) l) left
           ∙ ap (λ (l : List ℕ). piece_end l (behind_plain behind)) (sym (append_assoc made (encode_utf8 c) (plain_front behind))) ∙ sym (piece_of_run (made ++ encode_utf8 c) behind more.text) in
-        let shorter : length behind ≤ most = omega (arith, ap length parts, length-append (encode_utf8 c) behind) in
-        turn_by most made at (piece_at (made ++ encode_utf8 c) behind) same ∙ more.read most (made ++ encode_utf8 c) shorter ∙ ap (λ (l : List ℕ). Ok (l, rest)) (append_assoc made (encode_utf8 c) (encode_utf8_all cs));
+          let shorter : length behind ≤ most = omega (arith, ap length parts, length-append (encode_utf8 c) behind) in
+          turn_by most made at (piece_at (made ++ encode_utf8 c) behind) same ∙ more.read most (made ++ encode_utf8 c) shorter ∙ ap (λ (l : List ℕ). Ok (l, rest)) (append_assoc made (encode_utf8 c) (encode_utf8_all cs));
     }
 
 escape_le : (n : ℕ) (inside : List ℕ) (c : ℕ) (behind : List ℕ) → length inside ≤ n → escape_at (broken Syntax []) inside ≡ Ok (c, behind) → length behind ≤ n
@@ -216,7 +216,7 @@ escape_completes c cs at behind rest e more =
         let read = e.read (broken Syntax (92 ∷ e.inside)) in
         let shorter : length behind ≤ most = escape_le most e.inside c behind (omega arith) (e.read (broken Syntax [])) in
         let piece : piece_at made (92 ∷ e.inside) ≡ Ok ((true, (made ++ []) ++ encode_utf8 c), behind) =
-          piece_of_run made (92 ∷ e.inside) IsUtf8-nil ∙ ap (λ (r : Result (ℕ × List ℕ) Broken). r >>= λ escape. Ok ((true, (made ++ []) ++ encode_utf8 escape.0), escape.1)) read in
+        piece_of_run made (92 ∷ e.inside) IsUtf8-nil ∙ ap (λ (r : Result (ℕ × List ℕ) Broken). r >>= λ escape. Ok ((true, (made ++ []) ++ encode_utf8 escape.0), escape.1)) read in
         turn_by (suc most) made (92 ∷ e.inside) (Ok ((true, (made ++ []) ++ encode_utf8 c), behind)) piece ∙ more.read most ((made ++ []) ++ encode_utf8 c) shorter
         ∙ ap (λ (l : List ℕ). Ok (l, rest)) (ap (λ (l : List ℕ). (l ++ encode_utf8 c) ++ encode_utf8_all cs) (append-nil made) ∙ append_assoc made (encode_utf8 c) (encode_utf8_all cs))
 

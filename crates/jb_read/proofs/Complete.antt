@@ -1,7 +1,6 @@
 -- What the bytes spell is read.
-use Rattle.std.proofs.Common.{◌≡◌, ℕ, zero, suc, ◌+◌, ◌<◌, ◌≤◌, Bool, true, false, cond, List, [], ◌∷◌, ◌++◌, length, drop, Result, Ok, Err, refl, sym, ap, subst, ◌∙◌, append_assoc, arith}
-use Rattle.std.specs.Prelude.{ℤ, pos, negsuc, ◌==◌, ◌||◌, codes}
-use Rattle.std.specs.Fmt.{decimal}
+use Rattle.std.proofs.Common.{◌≡◌, ℕ, zero, suc, ◌≤◌, Bool, true, false, cond, List, [], ◌∷◌, ◌++◌, length, Result, Ok, Err, refl, sym, ap, subst, ◌∙◌, append_assoc, arith}
+use Rattle.std.specs.Prelude.{ℤ, ◌==◌, ◌||◌, codes}
 use Rattle.std.specs.Str.{bytes_eq}
 use Rattle.std.proofs.lemmas.Bool.{ne_eqb, eqb-true, false_from_ne_true}
 use Rattle.std.proofs.lemmas.List.{append-nil}
@@ -14,9 +13,8 @@ use Rattle.jb_read.specs.declared.fault.FaultKind.TheVariants.{Syntax}
 use Rattle.jb_read.specs.Bytes.{is_digit, skip_white}
 use Rattle.jb_read.specs.Reading.{◌>>=◌, broken, turns}
 use Rattle.jb_read.specs.Numbers.{number_at, is_minus}
-use Rattle.jb_read.specs.Strings.{text_at}
-use Rattle.jb_read.specs.Values.{begins_with, next_at, item_at, key_at, member_at, array_at, object_at, scalar_at, value_at, first_value, ended, whole_value}
-use Rattle.jb_read.specs.Texts.{placed, text_value, text_front}
+use Rattle.jb_read.specs.Values.{begins_with, next_at, item_at, key_at, member_at, array_at, object_at, scalar_at, value_at, first_value, whole_value}
+use Rattle.jb_read.specs.Texts.{text_value, text_front}
 use Rattle.jb_read.specs.Spelling.{SpellsNumber, SpellsString, SpellsKey, Spells, SpellsItems, MoreItems, SpellsMembers, MoreMembers, settled, settled_items, settled_members, JsonText, JsonFront}
 use Rattle.jb_read.proofs.Steps.{broken_not_ok, word_complete, next_closes, next_goes_on}
 use Rattle.jb_read.proofs.Digits.{number_complete, number_lead}
@@ -25,7 +23,7 @@ use Rattle.jb_read.proofs.Within.{Tame, value_tame, key_tame, white_le}
 
 -- ---- values by their first byte
 
-value_at_scalar_byte : (depth b : ℕ) (at : List ℕ) → (b == 91) ≡ false → (b == 123) ≡ false → value_at depth (b ∷ at) ≡ scalar_at (b ∷ at)
+pub value_at_scalar_byte : (depth b : ℕ) (at : List ℕ) → (b == 91) ≡ false → (b == 123) ≡ false → value_at depth (b ∷ at) ≡ scalar_at (b ∷ at)
 unfolding value_at
 value_at_scalar_byte zero b at a o = rw (a, o) refl
 value_at_scalar_byte (suc depth) b at a o = rw (a, o) refl
@@ -66,17 +64,17 @@ number_value depth z at rest s =
 
 -- ---- turns
 
-key_complete : (key at start : List ℕ) → SpellsKey key at start → key_at at ≡ Ok (key, start)
+pub key_complete : (key at start : List ℕ) → SpellsKey key at start → key_at at ≡ Ok (key, start)
 unfolding key_at
 key_complete key at start s = rw (s.string.opened, text_complete key at s.behind s.string, s.colon, s.then) refl
 
-abbrev turn_of : {A : Type 0} → A → Bool × List ℕ → Result ((Bool × A) × List ℕ) Broken
+abbrev pub turn_of : {A : Type 0} → A → Bool × List ℕ → Result ((Bool × A) × List ℕ) Broken
 turn_of made next = Ok ((next.0, made), next.1)
 
-after_item : (inner : List ℕ → Result (Value × List ℕ) Broken) (most : ℕ) (done : List Value) (v : Value) (behind : List ℕ) → Result (List Value × List ℕ) Broken
+unfoldable pub after_item : (inner : List ℕ → Result (Value × List ℕ) Broken) (most : ℕ) (done : List Value) (v : Value) (behind : List ℕ) → Result (List Value × List ℕ) Broken
 after_item inner most done v behind = next_at 93 behind >>= λ next. cond next.0 (turns (item_at inner) most (done ++ v ∷ []) next.1) (Ok (done ++ v ∷ [], next.1))
 
-item_turn : (inner : List ℕ → Result (Value × List ℕ) Broken) (most : ℕ) (done : List Value) (at : List ℕ) (v : Value) (behind : List ℕ) → inner at ≡ Ok (v, behind)
+pub item_turn : (inner : List ℕ → Result (Value × List ℕ) Broken) (most : ℕ) (done : List Value) (at : List ℕ) (v : Value) (behind : List ℕ) → inner at ≡ Ok (v, behind)
     → turns (item_at inner) (suc most) done at ≡ after_item inner most done v behind
 unfolding item_at after_item
 item_turn inner most done at v behind e = rw e (by_next (next_at 93 behind))
@@ -86,10 +84,10 @@ item_turn inner most done at v behind e = rw e (by_next (next_at 93 behind))
     by_next (Ok next) = refl
     by_next (Err d) = refl
 
-after_member : (inner : List ℕ → Result (Value × List ℕ) Broken) (most : ℕ) (done : List (List ℕ × Value)) (behind : List ℕ) → Result (List (List ℕ × Value) × List ℕ) Broken
+unfoldable pub after_member : (inner : List ℕ → Result (Value × List ℕ) Broken) (most : ℕ) (done : List (List ℕ × Value)) (behind : List ℕ) → Result (List (List ℕ × Value) × List ℕ) Broken
 after_member inner most done behind = next_at 125 behind >>= λ next. cond next.0 (turns (member_at inner) most done next.1) (Ok (done, next.1))
 
-member_turn : (inner : List ℕ → Result (Value × List ℕ) Broken) (most : ℕ) (done : List (List ℕ × Value)) (at start : List ℕ) (key : List ℕ) (v : Value) (behind : List ℕ) → SpellsKey key at start → inner start ≡ Ok (v, behind)
+pub member_turn : (inner : List ℕ → Result (Value × List ℕ) Broken) (most : ℕ) (done : List (List ℕ × Value)) (at start : List ℕ) (key : List ℕ) (v : Value) (behind : List ℕ) → SpellsKey key at start → inner start ≡ Ok (v, behind)
     → turns (member_at inner) (suc most) done at ≡ after_member inner most (insert_entry bytes_eq done key v) behind
 unfolding member_at after_member
 member_turn inner most done at start key v behind k e = rw (key_complete key at start k, e) (by_next (next_at 125 behind))
@@ -99,13 +97,13 @@ member_turn inner most done at start key v behind k e = rw (key_complete key at 
     by_next (Ok next) = refl
     by_next (Err d) = refl
 
-left_le : (n depth : ℕ) (at : List ℕ) (v : Value) (behind : List ℕ) → length at ≤ n → value_at depth at ≡ Ok (v, behind) → length behind ≤ n
+pub left_le : (n depth : ℕ) (at : List ℕ) (v : Value) (behind : List ℕ) → length at ≤ n → value_at depth at ≡ Ok (v, behind) → length behind ≤ n
 left_le n depth at v behind le e = let tame = value_tame n depth at le in subst (λ (r : Result (Value × List ℕ) Broken). Tame n r) e tame
 
-comma_le : (n : ℕ) (behind next : List ℕ) → length behind ≤ suc n → skip_white behind ≡ 44 ∷ next → length (skip_white next) ≤ n
+pub comma_le : (n : ℕ) (behind next : List ℕ) → length behind ≤ suc n → skip_white behind ≡ 44 ∷ next → length (skip_white next) ≤ n
 comma_le n behind next le e = white_le n next (omega (arith, white_le (suc n) behind le, ap length e))
 
-no_comma : (behind next : List ℕ) → length behind ≤ 0 → skip_white behind ≡ 44 ∷ next → ⊥
+pub no_comma : (behind next : List ℕ) → length behind ≤ 0 → skip_white behind ≡ 44 ∷ next → ⊥
 no_comma behind next le e = omega (arith, white_le 0 behind le, ap length e)
 
 -- ---- what the turns of an array and of an object come to
@@ -139,7 +137,7 @@ last_item : (inner : List ℕ → Result (Value × List ℕ) Broken) (most : ℕ
 unfolding after_item
 last_item inner most done v behind rest e = rw (next_closes 93 behind rest e, append-nil) refl
 
-goes : (inner : List ℕ → Result (Value × List ℕ) Broken) (most : ℕ) (done : List Value) (v : Value) (behind next : List ℕ) → skip_white behind ≡ 44 ∷ next
+pub goes : (inner : List ℕ → Result (Value × List ℕ) Broken) (most : ℕ) (done : List Value) (v : Value) (behind next : List ℕ) → skip_white behind ≡ 44 ∷ next
     → after_item inner most done v behind ≡ turns (item_at inner) most (done ++ v ∷ []) (skip_white next)
 unfolding after_item
 goes inner most done v behind next comma = rw (next_goes_on 93 behind next refl comma) refl
@@ -168,7 +166,7 @@ last_member : (inner : List ℕ → Result (Value × List ℕ) Broken) (most : �
 unfolding after_member
 last_member inner most done behind rest e = rw (next_closes 125 behind rest e) refl
 
-goes_member : (inner : List ℕ → Result (Value × List ℕ) Broken) (most : ℕ) (done : List (List ℕ × Value)) (behind next : List ℕ) → skip_white behind ≡ 44 ∷ next
+pub goes_member : (inner : List ℕ → Result (Value × List ℕ) Broken) (most : ℕ) (done : List (List ℕ × Value)) (behind next : List ℕ) → skip_white behind ≡ 44 ∷ next
     → after_member inner most done behind ≡ turns (member_at inner) most done (skip_white next)
 unfolding after_member
 goes_member inner most done behind next comma = rw (next_goes_on 125 behind next refl comma) refl
@@ -178,7 +176,7 @@ next_member : (inner : List ℕ → Result (Value × List ℕ) Broken) (most : �
 next_member inner most done behind next start after rest key w ms comma keyed read others =
     goes_member inner (suc most) done behind next comma ∙ member_turn inner most done (skip_white next) start key w after keyed read ∙ others
 
-key_within : (n : ℕ) (at start : List ℕ) (key : List ℕ) → length at ≤ n → SpellsKey key at start → length start ≤ n
+pub key_within : (n : ℕ) (at start : List ℕ) (key : List ℕ) → length at ≤ n → SpellsKey key at start → length start ≤ n
 key_within n at start key le s = let tame = key_tame n at le in subst (λ (r : Result (List ℕ × List ℕ) Broken). Tame n r) (key_complete key at start s) tame
 
 key_le : (at start : List ℕ) (key : List ℕ) → SpellsKey key at start → length start ≤ length at
@@ -193,7 +191,7 @@ unfolding value_at
 nested_object depth inner at inside rest d e ms members = rw (d, e, members inside refl) refl
 
 mutual
-  spells_complete : (t : Tree) (depth : ℕ) (at rest : List ℕ) → Spells t depth at rest → value_at depth at ≡ Ok (settled t, rest)
+  pub spells_complete : (t : Tree) (depth : ℕ) (at rest : List ℕ) → Spells t depth at rest → value_at depth at ≡ Ok (settled t, rest)
   spells_complete null depth at rest s = ap (value_at depth) s ∙ null_complete depth rest
   spells_complete (boolean true) depth at rest s = ap (value_at depth) s ∙ true_complete depth rest
   spells_complete (boolean false) depth at rest s = ap (value_at depth) s ∙ false_complete depth rest
@@ -216,14 +214,14 @@ mutual
       let read = spells_complete item depth (skip_white s.0) s.1 s.3 in
       let fits = comma_le most behind s.0 le s.2 in
       next_item (value_at depth) most done v behind s.0 s.1 rest (settled item) (settled_items items) s.2 read
-        (more_complete items depth most (done ++ v ∷ []) (settled item) s.1 rest s.4 (left_le most depth (skip_white s.0) (settled item) s.1 fits read))
+      (more_complete items depth most (done ++ v ∷ []) (settled item) s.1 rest s.4 (left_le most depth (skip_white s.0) (settled item) s.1 fits read))
 
   members_complete : (members : Members) (depth : ℕ) (at rest : List ℕ) → SpellsMembers members depth at rest → MembersRead depth at (settled_members [] members) rest
   members_complete no_members depth at rest s = no_member depth at rest s
   members_complete (member_then key item others) depth at rest s =
       let read = spells_complete item depth s.0 s.1 s.3 in
       some_members depth at s.0 s.1 rest key (settled item) others s.2 read
-        (more_members_complete others depth (length at) (insert_entry bytes_eq [] key (settled item)) s.1 rest s.4 (left_le (length at) depth s.0 (settled item) s.1 (key_le at s.0 key s.2) read))
+      (more_members_complete others depth (length at) (insert_entry bytes_eq [] key (settled item)) s.1 rest s.4 (left_le (length at) depth s.0 (settled item) s.1 (key_le at s.0 key s.2) read))
 
   more_members_complete : (members : Members) (depth most : ℕ) (done : List (List ℕ × Value)) (behind rest : List ℕ) → MoreMembers members depth (skip_white behind) rest → length behind ≤ most
       → after_member (value_at depth) most done behind ≡ Ok (settled_members done members, rest)
@@ -233,7 +231,7 @@ mutual
       let read = spells_complete item depth s.1 s.2 s.5 in
       let fits = comma_le most behind s.0 le s.3 in
       next_member (value_at depth) most done behind s.0 s.1 s.2 rest key (settled item) others s.3 s.4 read
-        (more_members_complete others depth most (insert_entry bytes_eq done key (settled item)) s.2 rest s.6 (left_le most depth s.1 (settled item) s.2 (key_within most (skip_white s.0) s.1 key fits s.4) read))
+      (more_members_complete others depth most (insert_entry bytes_eq done key (settled item)) s.2 rest s.6 (left_le most depth s.1 (settled item) s.2 (key_within most (skip_white s.0) s.1 key fits s.4) read))
 
 pub whole_complete : (bytes : List ℕ) (v : Value) → JsonText bytes v → text_value bytes ≡ Ok v
 unfolding whole_value first_value

@@ -1,15 +1,15 @@
 -- The digits of a number and its decimal text.
-use Rattle.std.proofs.Common.{◌≡◌, ℕ, zero, suc, ◌+◌, ◌-◌, ◌*◌, ◌/◌, ◌%◌, ◌^◌, ◌<◌, ◌≤◌, Bool, true, false, cond, leb, ◌⊎◌, inl, inr, List, [], ◌∷◌, ◌++◌, length, drop, Option, Some, None, Result, Ok, Err, refl, sym, ap, subst, ◌∙◌, append_assoc, arith}
+use Rattle.std.proofs.Common.{◌≡◌, ℕ, zero, suc, ◌+◌, ◌-◌, ◌*◌, ◌/◌, ◌%◌, ◌^◌, ◌<◌, ◌≤◌, Bool, true, false, cond, inl, inr, List, [], ◌∷◌, ◌++◌, drop, Option, Some, None, Result, Ok, refl, sym, ap, subst, ◌∙◌, append_assoc, arith}
 use Rattle.std.specs.Prelude.{ℤ, pos, negsuc, neg_ℤ, nat_lt, nat_le, ◌==◌, ◌&&◌, ◌||◌}
-use Rattle.std.specs.Fmt.{decimal, signed_decimal}
+use Rattle.std.specs.Fmt.{decimal}
 use Rattle.std.proofs.lemmas.Fmt.{decimal_digit, decimal_step, decimal_by_steps}
-use Rattle.std.proofs.lemmas.Bool.{true≢false, eqb-true, eq-eqb, ne_eqb, leb-true, le-leb, and_parts, and_from, or_parts, or_from, or_right, ltb-true, lt-ltb}
+use Rattle.std.proofs.lemmas.Bool.{true≢false, eqb-true, eq-eqb, ne_eqb, leb-true, le-leb, and_parts, and_from, or_parts, or_right, ltb-true, lt-ltb}
 use Rattle.jb_read.specs.declared.fault.Broken.{Broken}
 use Rattle.jb_read.specs.declared.fault.FaultKind.TheVariants.{Syntax, Float, NumberRange}
 use Rattle.jb_read.specs.Bytes.{is_digit, begins}
 use Rattle.jb_read.specs.Reading.{◌>>=◌, broken, fails}
 use Rattle.jb_read.specs.Numbers.{digits_from, whole_part_at, number_of, is_minus, is_mark, checked_number, number_at}
-use Rattle.jb_read.specs.Spelling.{IsWhole, SpellsNumber}
+use Rattle.jb_read.specs.Spelling.{SpellsNumber}
 use Rattle.jb_read.proofs.Steps.{bind_ok, chosen, ok_is, broken_not_ok}
 
 digit_bounds : (b : ℕ) → is_digit b ≡ true → (48 ≤ b) × (b ≤ 57)
@@ -65,13 +65,13 @@ whole_part_sound [] r e fits = absurd (broken_not_ok (broken Syntax []) r e)
 whole_part_sound (b ∷ at) r e fits =
     elim (chosen (b == 48) (cond (begins is_digit at) (fails Syntax at) (Ok (0, at))) (cond (is_digit b) (Ok (digits_from 0 (b ∷ at))) (fails Syntax (b ∷ at))) (Ok r) e) [
       | inl p ↦ (elim (chosen (begins is_digit at) (fails Syntax at) (Ok (0, at)) (Ok r) p.1) [
-          | inl q ↦ absurd (broken_not_ok (broken Syntax at) r q.1)
-          | inr q ↦ zero_sound b at r (eqb-true b 48 p.0) q.0 (ok_is (0, at) r q.1)
-        ])
+        | inl q ↦ absurd (broken_not_ok (broken Syntax at) r q.1)
+        | inr q ↦ zero_sound b at r (eqb-true b 48 p.0) q.0 (ok_is (0, at) r q.1)
+      ])
       | inr p ↦ (elim (chosen (is_digit b) (Ok (digits_from 0 (b ∷ at))) (fails Syntax (b ∷ at)) (Ok r) p.1) [
-          | inl q ↦ some_sound b at r p.0 q.0 (ok_is (digits_from 0 (b ∷ at)) r q.1) fits
-          | inr q ↦ absurd (broken_not_ok (broken Syntax (b ∷ at)) r q.1)
-        ])
+        | inl q ↦ some_sound b at r p.0 q.0 (ok_is (digits_from 0 (b ∷ at)) r q.1) fits
+        | inr q ↦ absurd (broken_not_ok (broken Syntax (b ∷ at)) r q.1)
+      ])
     ]
   where
     zero_sound : (b : ℕ) (at : List ℕ) (r : ℕ × List ℕ) → b ≡ 48 → begins is_digit at ≡ false → (0, at) ≡ r → (b ∷ at ≡ decimal r.0 ++ r.1) × (begins is_digit r.1 ≡ false)
@@ -80,6 +80,7 @@ whole_part_sound (b ∷ at) r e fits =
         let rest : at ≡ r.1 = ap (λ (p : ℕ × List ℕ). p.1) is in
         let text : decimal 0 ≡ 48 ∷ [] = decimal_digit 0 (omega arith) in
         (rw (same, ← n, ← rest, text) refl, rw (← rest) ends)
+
     some_sound : (b : ℕ) (at : List ℕ) (r : ℕ × List ℕ) → (b == 48) ≡ false → is_digit b ≡ true → digits_from 0 (b ∷ at) ≡ r → r.0 < 2 ^ 64 → (b ∷ at ≡ decimal r.0 ++ r.1) × (begins is_digit r.1 ≡ false)
     some_sound b at r nonzero digit is fits =
         let m = 10 * 0 + (b - 48) in
@@ -121,13 +122,13 @@ within_64 : (n : ℕ) (z : ℤ) → number_of false n ≡ Some z → (n < 2 ^ 64
 within_64 n z e = elim (chosen (nat_lt n (2 ^ 64)) (Some (pos n)) None (Some z) e) [
   | inl p ↦ (ltb-true n (2 ^ 64) p.0, some_is (pos n) z p.1)
   | inr p ↦ absurd cc
-  ]
+]
 
 within_63 : (n : ℕ) (z : ℤ) → number_of true n ≡ Some z → (n ≤ 2 ^ 63) × (neg_ℤ (pos n) ≡ z)
 within_63 n z e = elim (chosen (nat_le n (2 ^ 63)) (Some (neg_ℤ (pos n))) None (Some z) e) [
   | inl p ↦ (leb-true n (2 ^ 63) p.0, some_is (neg_ℤ (pos n)) z p.1)
   | inr p ↦ absurd cc
-  ]
+]
 
 negative_sound : (n : ℕ) (z : ℤ) (at rest : List ℕ) → n ≤ 2 ^ 63 → (n == 0) ≡ false → neg_ℤ (pos n) ≡ z → at ≡ 45 ∷ (decimal n ++ rest) → begins is_digit rest ≡ false → begins is_mark rest ≡ false → SpellsNumber z at rest
 negative_sound zero z at rest le some is spelled digit mark = absurd (true≢false (sym (eq-eqb 0 0 refl) ∙ some))
@@ -178,6 +179,7 @@ decimal_digits n fits = decimal_by_steps Digits one more n fits
       nonzero = λ some. ne_eqb (48 + n) 48 (λ e. omega arith);
       reads = λ rest. digit_steps 0 (48 + n) rest (is_digit_at (48 + n) (omega arith) (omega arith)) ∙ ap (λ (k : ℕ). digits_from k rest) (let same : 10 * 0 + (48 + n - 48) ≡ n = omega arith in same);
     }
+
     more : (n : ℕ) (ds : List ℕ) → 10 ≤ n → Digits (n / 10) ds → Digits n (ds ++ ((48 + n % 10) ∷ []))
     more n ds large h = record {
       lead = h.lead;
@@ -186,7 +188,7 @@ decimal_digits n fits = decimal_by_steps Digits one more n fits
       digit = h.digit;
       nonzero = λ some. h.nonzero (omega arith);
       reads = λ rest. ap (λ (l : List ℕ). digits_from 0 l) (append_assoc ds ((48 + n % 10) ∷ []) rest) ∙ h.reads ((48 + n % 10) ∷ rest)
-        ∙ digit_steps (n / 10) (48 + n % 10) rest (is_digit_at (48 + n % 10) (omega arith) (omega arith)) ∙ ap (λ (k : ℕ). digits_from k rest) (let same : 10 * (n / 10) + (48 + n % 10 - 48) ≡ n = omega arith in same);
+          ∙ digit_steps (n / 10) (48 + n % 10) rest (is_digit_at (48 + n % 10) (omega arith) (omega arith)) ∙ ap (λ (k : ℕ). digits_from k rest) (let same : 10 * (n / 10) + (48 + n % 10 - 48) ≡ n = omega arith in same);
     }
 
 digits_stop : (n : ℕ) (rest : List ℕ) → begins is_digit rest ≡ false → digits_from n rest ≡ (n, rest)

@@ -1,5 +1,5 @@
 -- Escapes, read and spelled.
-use Rattle.std.proofs.Common.{◌≡◌, ℕ, zero, suc, ◌+◌, ◌-◌, ◌*◌, ◌<◌, ◌≤◌, Bool, true, false, cond, ◌⊎◌, inl, inr, List, [], ◌∷◌, ◌++◌, length, drop, Option, Some, None, Result, Ok, Err, refl, sym, ap, subst, ◌∙◌, arith}
+use Rattle.std.proofs.Common.{◌≡◌, ℕ, ◌+◌, ◌*◌, true, false, cond, ◌⊎◌, inl, inr, List, [], ◌∷◌, ◌++◌, Option, Some, None, Result, Ok, Err, refl, sym, ap, subst, ◌∙◌}
 use Rattle.std.specs.Prelude.{◌==◌, encode_utf8}
 use Rattle.std.specs.Char.{IsScalar}
 use Rattle.std.proofs.lemmas.Bool.{eqb-true, false_from_ne_true}
@@ -97,7 +97,7 @@ pair_of own high at (Ok low) r sound e =
 pair_of own high at (Err d) r sound e = elim (chosen (d.left == 0) (Err d) (Err own) (Ok r) e) [
   | inl p ↦ absurd (broken_not_ok d r p.1)
   | inr p ↦ absurd (broken_not_ok own r p.1)
-  ]
+]
 
 pair_sound : (own : Broken) (high : ℕ) (at : List ℕ) (r : ℕ × List ℕ) → pair_at own high at ≡ Ok r → Pair high r.0 at r.1
 unfolding pair_at
@@ -111,9 +111,9 @@ unicode_sound own at r e =
     elim (chosen (is_high a.0.0) (pair_at own a.0.0 a.0.1) (cond (is_low a.0.0) (Err own) (Ok a.0)) (Ok r) a.2) [
       | inl p ↦ (let q = pair_sound own a.0.0 a.0.1 r p.1 in pair a.0.0 q.low a.0.1 u p.0 q.spelled q.is_one q.makes)
       | inr p ↦ (elim (chosen (is_low a.0.0) (Err own) (Ok a.0) (Ok r) p.1) [
-          | inl q ↦ absurd (broken_not_ok own r q.1)
-          | inr q ↦ subst (λ (x : ℕ × List ℕ). SpellsCharacter x.0 (92 ∷ 117 ∷ at) x.1) (ok_is a.0 r q.1) (unit u p.0 q.0)
-        ])
+        | inl q ↦ absurd (broken_not_ok own r q.1)
+        | inr q ↦ subst (λ (x : ℕ × List ℕ). SpellsCharacter x.0 (92 ∷ 117 ∷ at) x.1) (ok_is a.0 r q.1) (unit u p.0 q.0)
+      ])
     ]
 
 pub escape_sound : (own : Broken) (at : List ℕ) (r : ℕ × List ℕ) → escape_at own at ≡ Ok r → SpellsCharacter r.0 (92 ∷ at) r.1
@@ -161,6 +161,7 @@ no_u letter c e = false_from_ne_true (letter == 117) (λ u. absurd_u (eqb-true l
   where
     none_not_some : (x : ℕ) → None ≡ Some x → ⊥
     none_not_some x h = cc
+
     absurd_u : letter ≡ 117 → ⊥
     absurd_u same = none_not_some c (sym (ap short_escape same) ∙ e)
 

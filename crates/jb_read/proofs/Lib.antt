@@ -10,3 +10,4 @@ pub mod Digits
 pub mod Escapes
 pub mod Characters
 pub mod Answered
+pub mod Breaks

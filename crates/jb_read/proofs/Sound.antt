@@ -2,14 +2,13 @@
 use Rattle.std.proofs.Common.{◌≡◌, ℕ, zero, suc, Bool, true, false, cond, ◌⊎◌, inl, inr, List, [], ◌∷◌, ◌++◌, length, drop, Result, Ok, Err, refl, sym, ap, subst, ◌∙◌, append_assoc}
 use Rattle.std.specs.Prelude.{◌==◌, ◌||◌, codes}
 use Rattle.std.specs.Str.{bytes_eq}
-use Rattle.std.proofs.lemmas.Bool.{eqb-true, true≢false}
+use Rattle.std.proofs.lemmas.Bool.{eqb-true}
 use Rattle.indexmap.specs.IndexMap.{insert_entry}
 use Rattle.jb_tree.specs.declared.value.Value.{Value}
 use Rattle.jb_tree.specs.declared.value.Value.TheVariants as value
 use Rattle.jb_tree.specs.Tree.{Tree, Trees, Members, null, boolean, number, text, array, object, no_trees, tree_then, no_members, member_then}
 use Rattle.jb_read.specs.declared.fault.Broken.{Broken}
 use Rattle.jb_read.specs.declared.fault.FaultKind.TheVariants.{Syntax, Depth}
-use Rattle.jb_read.specs.declared.fault.ReadFault.{ReadFault}
 use Rattle.jb_read.specs.Bytes.{is_digit, skip_white}
 use Rattle.jb_read.specs.Reading.{◌>>=◌, broken, fails, byte_at, word_at, turns}
 use Rattle.jb_read.specs.Numbers.{number_at, is_minus}
@@ -22,12 +21,12 @@ use Rattle.jb_read.proofs.Digits.{number_sound}
 use Rattle.jb_read.proofs.Characters.{string_sound}
 
 -- a tree whose text was read
-record Read (depth : ℕ) (at : List ℕ) (v : Value) (rest : List ℕ) : Type 0 where
-  tree : Tree
-  spelled : Spells tree depth at rest
-  is_value : settled tree ≡ v
+pub record Read (depth : ℕ) (at : List ℕ) (v : Value) (rest : List ℕ) : Type 0 where
+  pub tree : Tree
+  pub spelled : Spells tree depth at rest
+  pub is_value : settled tree ≡ v
 
-abbrev AreSound : ℕ → (List ℕ → Result (Value × List ℕ) Broken) → Type 0
+abbrev pub AreSound : ℕ → (List ℕ → Result (Value × List ℕ) Broken) → Type 0
 AreSound depth inner = (at : List ℕ) (r : Value × List ℕ) → inner at ≡ Ok r → Read depth at r.0 r.1
 
 wrap_ok : {A : Type 0} (r : Result (A × List ℕ) Broken) (make : A → Value) (y : Value × List ℕ) → (r >>= λ x. Ok (make x.0, x.1)) ≡ Ok y → (x : A × List ℕ) × (r ≡ Ok x) × (make x.0 ≡ y.0) × (x.1 ≡ y.1)
@@ -76,6 +75,7 @@ items_sound depth inner sound (suc most) done at r e =
         let same : (done ++ item.0 ∷ [], next.1) ≡ r = ok_is (done ++ item.0 ∷ [], next.1) r (rw ends at step) in
         let rest : next.1 ≡ r.1 = ap (λ (p : List Value × List ℕ). p.1) same in
         record { item = read.tree; items = no_trees; behind = item.1; spelled = read.spelled; more = closes ∙ ap (λ (l : List ℕ). 93 ∷ l) rest; is_list = ap (λ (v : Value). done ++ (v ∷ [])) read.is_value ∙ ap (λ (p : List Value × List ℕ). p.0) same }
+
     more_read : (item : Value × List ℕ) (next : Bool × List ℕ) (r : List Value × List ℕ) (inside : List ℕ) → next.0 ≡ true → skip_white item.1 ≡ 44 ∷ inside → next.1 ≡ skip_white inside → Read depth at item.0 item.1
         → cond next.0 (turns (item_at inner) most (done ++ item.0 ∷ []) next.1) (Ok (done ++ item.0 ∷ [], next.1)) ≡ Ok r
         → (turns (item_at inner) most (done ++ item.0 ∷ []) next.1 ≡ Ok r → ReadItems depth (done ++ item.0 ∷ []) next.1 r.0 r.1) → ReadItems depth done at r.0 r.1
@@ -102,7 +102,7 @@ array_sound depth inner sound at r e =
 
 -- ---- members
 
-key_sound : (at : List ℕ) (r : List ℕ × List ℕ) → key_at at ≡ Ok r → SpellsKey r.0 at r.1
+pub key_sound : (at : List ℕ) (r : List ℕ × List ℕ) → key_at at ≡ Ok r → SpellsKey r.0 at r.1
 unfolding key_at
 key_sound at r e =
     let a = bind_ok (byte_at 34 at) (λ quote. text_at quote.1 >>= λ key. byte_at 58 (skip_white key.1) >>= λ colon. Ok (key.0, skip_white colon.1)) r e in
@@ -165,6 +165,7 @@ members_sound depth inner sound (suc most) done at r e =
         let same : (insert_entry bytes_eq done key.0 item.0, next.1) ≡ r = ok_is (insert_entry bytes_eq done key.0 item.0, next.1) r (rw ends at step) in
         let rest : next.1 ≡ r.1 = ap (λ (p : List (List ℕ × Value) × List ℕ). p.1) same in
         record { key = key.0; item = read.tree; members = no_members; start = key.1; behind = item.1; keyed = keyed; spelled = read.spelled; more = closes ∙ ap (λ (l : List ℕ). 125 ∷ l) rest; is_list = ap (λ (v : Value). insert_entry bytes_eq done key.0 v) read.is_value ∙ ap (λ (p : List (List ℕ × Value) × List ℕ). p.0) same }
+
     more_read : (key : List ℕ × List ℕ) (item : Value × List ℕ) (next : Bool × List ℕ) (r : List (List ℕ × Value) × List ℕ) (inside : List ℕ) → next.0 ≡ true → skip_white item.1 ≡ 44 ∷ inside → next.1 ≡ skip_white inside → SpellsKey key.0 at key.1 → Read depth key.1 item.0 item.1
         → cond next.0 (turns (member_at inner) most (insert_entry bytes_eq done key.0 item.0) next.1) (Ok (insert_entry bytes_eq done key.0 item.0, next.1)) ≡ Ok r
         → (turns (member_at inner) most (insert_entry bytes_eq done key.0 item.0) next.1 ≡ Ok r → ReadMembers depth (insert_entry bytes_eq done key.0 item.0) next.1 r.0 r.1) → ReadMembers depth done at r.0 r.1
@@ -202,31 +203,31 @@ scalar_sound depth (b ∷ at) r e =
       | inl p ↦ (let x = wrap_ok (text_at at) (λ text. value.String text) r p.1 in
           record { tree = text x.0.0; spelled = subst (λ (l : List ℕ). SpellsString x.0.0 (b ∷ at) l) x.3 (subst (λ (k : ℕ). SpellsString x.0.0 (k ∷ at) x.0.1) (sym (eqb-true b 34 p.0)) (string_sound at x.0 x.1)); is_value = x.2 })
       | inr p ↦ (elim (chosen (b == 110) _ _ (Ok r) p.1) [
-          | inl q ↦ (let x = wrap_ok (word_at (codes "null") (b ∷ at)) (λ word. value.Null) r q.1 in
-              record { tree = null; spelled = word_sound (codes "null") (b ∷ at) x.0 x.1 ∙ ap (λ (l : List ℕ). codes "null" ++ l) x.3; is_value = x.2 })
-          | inr q ↦ (elim (chosen (b == 116) _ _ (Ok r) q.1) [
-              | inl s ↦ (let x = wrap_ok (word_at (codes "true") (b ∷ at)) (λ word. value.Bool true) r s.1 in
-                  record { tree = boolean true; spelled = word_sound (codes "true") (b ∷ at) x.0 x.1 ∙ ap (λ (l : List ℕ). codes "true" ++ l) x.3; is_value = x.2 })
-              | inr s ↦ (elim (chosen (b == 102) _ _ (Ok r) s.1) [
-                  | inl t ↦ (let x = wrap_ok (word_at (codes "false") (b ∷ at)) (λ word. value.Bool false) r t.1 in
-                      record { tree = boolean false; spelled = word_sound (codes "false") (b ∷ at) x.0 x.1 ∙ ap (λ (l : List ℕ). codes "false" ++ l) x.3; is_value = x.2 })
-                  | inr t ↦ (elim (chosen (is_minus b || is_digit b) _ _ (Ok r) t.1) [
-                      | inl u ↦ (let x = wrap_ok (number_at (b ∷ at)) (λ z. value.Number z) r u.1 in
-                          record { tree = number x.0.0; spelled = subst (λ (l : List ℕ). SpellsNumber x.0.0 (b ∷ at) l) x.3 (number_sound (b ∷ at) x.0 x.1); is_value = x.2 })
-                      | inr u ↦ absurd (broken_not_ok (broken Syntax (b ∷ at)) r u.1)
-                    ])
-                ])
+        | inl q ↦ (let x = wrap_ok (word_at (codes "null") (b ∷ at)) (λ word. value.Null) r q.1 in
+            record { tree = null; spelled = word_sound (codes "null") (b ∷ at) x.0 x.1 ∙ ap (λ (l : List ℕ). codes "null" ++ l) x.3; is_value = x.2 })
+        | inr q ↦ (elim (chosen (b == 116) _ _ (Ok r) q.1) [
+          | inl s ↦ (let x = wrap_ok (word_at (codes "true") (b ∷ at)) (λ word. value.Bool true) r s.1 in
+              record { tree = boolean true; spelled = word_sound (codes "true") (b ∷ at) x.0 x.1 ∙ ap (λ (l : List ℕ). codes "true" ++ l) x.3; is_value = x.2 })
+          | inr s ↦ (elim (chosen (b == 102) _ _ (Ok r) s.1) [
+            | inl t ↦ (let x = wrap_ok (word_at (codes "false") (b ∷ at)) (λ word. value.Bool false) r t.1 in
+                record { tree = boolean false; spelled = word_sound (codes "false") (b ∷ at) x.0 x.1 ∙ ap (λ (l : List ℕ). codes "false" ++ l) x.3; is_value = x.2 })
+            | inr t ↦ (elim (chosen (is_minus b || is_digit b) _ _ (Ok r) t.1) [
+              | inl u ↦ (let x = wrap_ok (number_at (b ∷ at)) (λ z. value.Number z) r u.1 in
+                  record { tree = number x.0.0; spelled = subst (λ (l : List ℕ). SpellsNumber x.0.0 (b ∷ at) l) x.3 (number_sound (b ∷ at) x.0 x.1); is_value = x.2 })
+              | inr u ↦ absurd (broken_not_ok (broken Syntax (b ∷ at)) r u.1)
             ])
+          ])
         ])
+      ])
     ]
 
-value_sound : (depth : ℕ) → AreSound depth (value_at depth)
+pub value_sound : (depth : ℕ) → AreSound depth (value_at depth)
 unfolding value_at
 value_sound zero [] r e = scalar_sound 0 [] r e
 value_sound zero (b ∷ at) r e = elim (chosen ((b == 91) || (b == 123)) (fails Depth (b ∷ at)) (scalar_at (b ∷ at)) (Ok r) e) [
   | inl p ↦ absurd (broken_not_ok (broken Depth (b ∷ at)) r p.1)
   | inr p ↦ scalar_sound 0 (b ∷ at) r p.1
-  ]
+]
 value_sound (suc depth) [] r e = scalar_sound (suc depth) [] r e
 value_sound (suc depth) (b ∷ at) r e = nested (value_sound depth) (chosen (b == 91) _ _ (Ok r) e)
   where
@@ -241,7 +242,7 @@ value_sound (suc depth) (b ∷ at) r e = nested (value_sound depth) (chosen (b =
           let s = object_sound depth (value_at depth) sound at x.0 x.1 in
           record { tree = object s.0; spelled = (depth, at, refl, ap (λ (k : ℕ). k ∷ at) (eqb-true b 123 q.0), subst (λ (l : List ℕ). SpellsMembers s.0 depth (skip_white at) l) x.3 s.1); is_value = ap (λ (ms : List (List ℕ × Value)). value.Object ms) s.2 ∙ x.2 })
       | inr q ↦ scalar_sound (suc depth) (b ∷ at) r q.1
-      ]
+    ]
 
 -- ---- texts
 

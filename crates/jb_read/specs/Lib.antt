@@ -5,3 +5,4 @@ pub mod Strings
 pub mod Values
 pub mod Texts
 pub mod Spelling
+pub mod Faults

@@ -1,7 +1,7 @@
 -- Which bytes spell which tree (RFC 8259, sections 2 to 7), by cases on the grammar and apart from any reader.
 -- A relation says of a text that is left, and of what is left behind it, that what lies between is the text of a tree.
 -- White space is skipped wherever it may stand, all of it, since no value, comma, colon or bracket begins with it.
-use Rattle.std.specs.Prelude.{◌≡◌, ℕ, suc, ◌^◌, ◌<◌, ℤ, pos, negsuc, Bool, true, false, List, [], ◌∷◌, ◌++◌, codes, Some, encode_utf8, ◌*◌, ◌+◌}
+use Rattle.std.specs.Prelude.{◌≡◌, ℕ, suc, ◌^◌, ◌<◌, ℤ, pos, negsuc, true, false, List, [], ◌∷◌, ◌++◌, codes, Some, encode_utf8, ◌*◌, ◌+◌}
 use Rattle.std.specs.Char.{IsScalar}
 use Rattle.std.specs.Fmt.{signed_decimal}
 use Rattle.std.specs.Str.{bytes_eq, encode_utf8_all}

@@ -1,4 +1,6 @@
-ghost use Rattle.std.specs.Prelude.{◌≡◌, length, IfOk, IfErr, Ok};
+ghost use Rattle.std.specs.Prelude.{◌≡◌, length, IfOk, IfErr, Ok, Err};
+ghost use Rattle.jb_read.specs.declared.fault.ReadFault.{ReadFault};
+ghost use Rattle.jb_read.specs.Faults.{JsonFault, IsFaultOf};
 ghost use Rattle.jb_tree.specs.declared.value.Value.{Value};
 ghost use Rattle.jb_read.specs.Spelling.{JsonText, JsonFront};
 ghost use Rattle.jb_read.specs.Values.{whole_value};
@@ -92,6 +94,9 @@ pub fn from_bytes_whole(alloc: Global, bytes: &Bytes) -> Result<Value, Refused<R
     // What is read is what the bytes spell, and what they spell is read, unless memory runs out.
     ensures spelled { IfOk result (JsonText bytes.now) }
     ensures only { (v : Value) → JsonText bytes.now v → Answers result (Ok v) }
+    // What is refused is broken there, and what is broken is refused so, unless memory runs out.
+    ensures broken { IfErr result (IsFaultOf bytes.now) }
+    ensures refused { (f : ReadFault) → JsonFault bytes.now f → Answers result (Err f) }
 {
     placed_whole(alloc, bytes)
 }
@@ -103,6 +108,9 @@ pub fn from_str(alloc: Global, text: &str) -> Result<Value, Refused<ReadFault>>
     // What is read is what the bytes spell, and what they spell is read, unless memory runs out.
     ensures spelled { IfOk result (JsonText text.now) }
     ensures only { (v : Value) → JsonText text.now v → Answers result (Ok v) }
+    // What is refused is broken there, and what is broken is refused so, unless memory runs out.
+    ensures broken { IfErr result (IsFaultOf text.now) }
+    ensures refused { (f : ReadFault) → JsonFault text.now f → Answers result (Err f) }
 {
     from_bytes_whole(alloc, &Bytes::copy_from_slice(alloc, text.as_bytes())?)
 }

@@ -1,6 +1,8 @@
 //! Laws of the definitions alone: what the reading functions read is what the grammar spells.
 
-ghost use Rattle.std.specs.Prelude.{◌≡◌, ℕ, List, Ok};
+ghost use Rattle.std.specs.Prelude.{◌≡◌, ◌⊎◌, ℕ, List, Ok, Err};
+ghost use Rattle.jb_read.specs.declared.fault.ReadFault.{ReadFault};
+ghost use Rattle.jb_read.specs.Faults.{JsonFault};
 ghost use Rattle.jb_tree.specs.declared.value.Value.{Value};
 ghost use Rattle.jb_read.specs.Spelling.{JsonText, JsonFront};
 ghost use Rattle.jb_read.specs.Texts.{text_value, text_front};
@@ -10,12 +12,24 @@ ghost use Rattle.jb_read.specs.Texts.{text_value, text_front};
 pub fn texts_are_read()
     ensures sound { (bytes : List ℕ) (v : Value) → text_value bytes ≡ Ok v → JsonText bytes v }
     ensures complete { (bytes : List ℕ) (v : Value) → JsonText bytes v → text_value bytes ≡ Ok v }
-{
-}
+{}
 
 /// The same of the value that a text begins with.
 pub fn fronts_are_read()
     ensures sound { (bytes : List ℕ) (v : Value) → text_front bytes ≡ Ok v → JsonFront bytes v }
     ensures complete { (bytes : List ℕ) (v : Value) → JsonFront bytes v → text_front bytes ≡ Ok v }
-{
-}
+{}
+
+/// What a whole text is refused with is its first fault by the grammar, and that fault is what it is refused with.
+pub fn faults_are_refused()
+    ensures sound { (bytes : List ℕ) (f : ReadFault) → text_value bytes ≡ Err f → JsonFault bytes f }
+    ensures complete { (bytes : List ℕ) (f : ReadFault) → JsonFault bytes f → text_value bytes ≡ Err f }
+{}
+
+/// For each list of bytes exactly one holds: they are a text of one value, or they have one first fault.
+pub fn each_text_has_one_answer()
+    ensures one { (bytes : List ℕ) → ((v : Value) × JsonText bytes v) ⊎ ((f : ReadFault) × JsonFault bytes f) }
+    ensures value { (bytes : List ℕ) (v w : Value) → JsonText bytes v → JsonText bytes w → v ≡ w }
+    ensures fault { (bytes : List ℕ) (f g : ReadFault) → JsonFault bytes f → JsonFault bytes g → f ≡ g }
+    ensures not_both { (bytes : List ℕ) (v : Value) (f : ReadFault) → JsonText bytes v → JsonFault bytes f → ⊥ }
+{}

@@ -1,0 +1,44 @@
+#!/usr/bin/env python3
+"""Checks what the repository promises of its own form: the HANDLES line, files of at most 400 lines, a lib.rt that
+holds documentation, modules and exports alone, and no public function without a clause or a word on why there is none."""
+import pathlib
+import re
+import sys
+
+ROOT = pathlib.Path(__file__).resolve().parent.parent
+MOST_LINES = 400
+
+
+def faults():
+    if (ROOT / "HANDLES").read_text() != "Handles allowed: none.\n":
+        yield "HANDLES does not hold its one line"
+    listed = re.findall(r"(?m)^(\w+)(?: staticlib)?:", (ROOT / "crates.txt").read_text())
+    folders = sorted(folder.name for folder in (ROOT / "crates").iterdir() if (folder / "src").is_dir())
+    if sorted(listed) != folders:
+        yield f"crates.txt and crates/ differ: {sorted(set(listed) ^ set(folders))}"
+    for folder in (ROOT / "crates" / name for name in folders):
+        for file in sorted(folder.rglob("*.rt")) + sorted(folder.rglob("*.antt")):
+            if "out" in file.relative_to(folder).parts[:1]:
+                continue
+            lines = file.read_text().count("\n")
+            if lines > MOST_LINES:
+                yield f"{file.relative_to(ROOT)} has {lines} lines"
+        root = folder / "src" / "lib.rt"
+        if root.exists():
+            text = root.read_text()
+            if not text.startswith("//! "):
+                yield f"{root.relative_to(ROOT)} has no page of documentation"
+            if re.search(r"(?m)^\s*(pub )?(fn|struct|enum|trait|impl)\b", text):
+                yield f"{root.relative_to(ROOT)} holds more than modules and exports"
+
+
+def main():
+    found = list(faults())
+    for fault in found:
+        print(f"layout: {fault}")
+    print(f"layout: {len(found)} faults")
+    return 1 if found else 0
+
+
+if __name__ == "__main__":
+    sys.exit(main())

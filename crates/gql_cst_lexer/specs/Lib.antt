@@ -1,0 +1,6 @@
+pub mod Class
+pub mod Lex
+pub mod Lexical
+pub mod Message
+pub mod Reading
+pub mod Value
