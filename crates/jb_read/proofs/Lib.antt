@@ -11,3 +11,4 @@ pub mod Escapes
 pub mod Characters
 pub mod Answered
 pub mod Breaks
+pub mod BreaksWithin
