@@ -1,5 +1,8 @@
+pub mod BlockLines
+pub mod BlockValue
 pub mod Bounds
 pub mod Choices
+pub mod Cuts
 pub mod Laws
 pub mod Lengths
 pub mod Only

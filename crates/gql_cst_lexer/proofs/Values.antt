@@ -3,9 +3,8 @@ use Rattle.std.proofs.Common.{◌≡◌, ℕ, zero, suc, ◌+◌, ◌-◌, ◌*�
 use Rattle.std.specs.Prelude.{if◌then◌else◌, ◌==◌, slice_index, nat_lt, nat_le, encode_utf8}
 use Rattle.std.specs.List.{prefix_len}
 use Rattle.std.specs.Char.{InScalarRange}
-use Rattle.std.specs.Str.{IsCharBoundary}
 use Rattle.std.proofs.lemmas.List.{get_or-drop, append-nil}
-use Rattle.std.proofs.lemmas.List.Sums.{prefix_len-le-length, prefix_len_stops}
+use Rattle.std.proofs.lemmas.List.Sums.{prefix_len_stops}
 use Rattle.std.proofs.lemmas.Bool.{eqb-true, ltb-true, leb-true}
 use Rattle.std.proofs.lemmas.Bool.Decides.{nat_tests}
 use Rattle.gql_cst_lexer.specs.Class.{Text, is_line, is_plain}
@@ -65,12 +64,6 @@ values-plain [] = refl
 values-plain (b ∷ at) = plain_by b at (is_plain b) refl (values-plain at)
 
 -- ---- where plain bytes end
-
-plain_byte : (b : ℕ) → is_plain b ≡ false → b < 128
-plain_byte b h = grind (arith, nat_tests)
-
-pub plain-bound : (s : Text) → IsCharBoundary s (prefix_len is_plain s)
-plain-bound s = (prefix_len-le-length is_plain s, λ l big. absurd (omega (arith, plain_byte (get_or s (prefix_len is_plain s) 0) (prefix_len_stops is_plain s 0 l))))
 
 past_end : (at : Text) (i : ℕ) → length at ≤ i → get_or at i 0 ≡ 0
 past_end [] i h = refl

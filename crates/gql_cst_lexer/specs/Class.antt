@@ -45,6 +45,14 @@ is_plain b = is_line b && not (b == 0x22) && not (b == 0x5C)
 abbrev pub is_continuation : ℕ → Bool
 is_continuation b = is_between 0x80 0xBF b
 
+-- white space within a line: a space or a tab
+abbrev pub is_space : ℕ → Bool
+is_space b = b == 0x20 || b == 0x09
+
+-- a byte that ends no line: neither LF nor CR
+abbrev pub is_within_line : ℕ → Bool
+is_within_line b = not (b == 0x0A) && not (b == 0x0D)
+
 -- what a token that begins with the byte can be
 abbrev pub class_of : ℕ → ByteClass
 class_of b =

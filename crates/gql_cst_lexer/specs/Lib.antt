@@ -1,3 +1,5 @@
+pub mod BlockString
+pub mod BlockWriting
 pub mod Class
 pub mod Lex
 pub mod Lexical

@@ -84,3 +84,17 @@ pub(crate) fn is_continuation(b: u8) -> bool
 {
     matches!(b, 0x80..=0xBF)
 }
+
+/// Whether a byte is white space within a line: a space or a tab.
+pub(crate) fn is_space(b: u8) -> bool
+    ensures { result ≡ spec.is_space b }
+{
+    matches!(b, b' ' | b'\t')
+}
+
+/// Whether a byte ends no line.
+pub(crate) fn is_within_line(b: u8) -> bool
+    ensures { result ≡ spec.is_within_line b }
+{
+    b != b'\n' && b != b'\r'
+}

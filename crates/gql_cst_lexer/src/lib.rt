@@ -2,7 +2,7 @@
 //!
 //! A [`Lexer`] gives the tokens of a text one after the other, white space, commas and comments included,
 //! up to the first fault. It takes no memory, and reads each byte about once. [`string_value`] gives the
-//! characters that a string on one line stands for.
+//! characters that a string on one line stands for, and [`block_string_value`] those of a block string.
 //!
 //! The rules are those of section 2.1 of GraphQL October 2021, with two differences. A source character is
 //! any Unicode scalar value but the controls below U+0020 other than tab, LF and CR. And in a string the
@@ -16,9 +16,12 @@
 //! ```
 #![tactic(auto)]
 
+mod block_string;
 mod class;
+mod cut;
 mod error;
 mod lexer;
+mod line;
 mod number;
 mod run;
 mod scan;
@@ -28,6 +31,7 @@ mod tests;
 mod token;
 mod value;
 
+pub use block_string::{block_string_value, is_block_string};
 pub use error::{CstError, SyntaxFault};
 pub use lexer::Lexer;
 pub use token::{Token, TokenKind};

@@ -4,7 +4,8 @@ ghost use Rattle.std.specs.Prelude.{◌≡◌, ◌+◌, ◌<◌, ◌≤◌, leng
 ghost use Rattle.gql_cst_lexer.specs.Lex as spec;
 
 use crate::class::{
-    is_blank, is_continuation, is_digit, is_line, is_name_continue, is_plain, is_source,
+    is_blank, is_continuation, is_digit, is_line, is_name_continue, is_plain, is_source, is_space,
+    is_within_line,
 };
 use crate::string::{block_len, string_len};
 
@@ -16,6 +17,9 @@ pub(crate) enum ByteRun {
     Line,
     Plain,
     Continuation,
+    Space,
+    WithinLine,
+    NoBackslash,
 }
 
 /// The runs of items of several lengths.
@@ -44,6 +48,9 @@ fn is_in(run: ByteRun, b: u8) -> bool
         ByteRun::Line => is_line(b),
         ByteRun::Plain => is_plain(b),
         ByteRun::Continuation => is_continuation(b),
+        ByteRun::Space => is_space(b),
+        ByteRun::WithinLine => is_within_line(b),
+        ByteRun::NoBackslash => b != b'\\',
     }
 }
 

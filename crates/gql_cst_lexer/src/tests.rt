@@ -1,6 +1,8 @@
 //! Worked rows of the lexical grammar, and each public call once.
 
-use crate::{CstError, Lexer, SyntaxFault, TokenKind, string_value};
+use crate::{
+    CstError, Lexer, SyntaxFault, TokenKind, block_string_value, is_block_string, string_value,
+};
 use std::alloc::Global;
 use std::test::Fail;
 
@@ -147,6 +149,7 @@ fn values(rt: HostRuntime) -> Result<(), Fail> {
         ("\"\\ud83d\\ude00\\uDBFF\\uDFFF\"", "\u{1F600}\u{10FFFF}"),
     ];
     for (token, value) in rows {
+        assert!(rt; !is_block_string(token), "{token}");
         assert_eq!(rt; value_of(rt.alloc(), token)?.as_str(), value, "{token}");
     }
     Ok(())
@@ -158,6 +161,46 @@ fn value_of(alloc: Global, token: &str) -> Result<String, Fail> {
         return Err("no string".into());
     }
     Ok(string_value(alloc, token)?)
+}
+
+#[test]
+fn block_values(rt: HostRuntime) -> Result<(), Fail> {
+    let rows = [
+        ("", ""),
+        ("a", "a"),
+        (" a ", " a "),
+        (" \t\r\n\t ", ""),
+        ("\n    a\n      b\n\n    c\n  ", "a\n  b\n\nc"),
+        ("  first\n    a\n   b", "  first\n a\nb"),
+        ("\n\t\ta\n \tb\n\t\t\tc", "a\nb\n\tc"),
+        ("\r\n  a\r    \n\r  b\r\n", "a\n  \n\nb"),
+        ("\n\r\n\ra\rb\r\nc\n", "a\nb\nc"),
+        ("\n  a\n \n  b", "a\n\nb"),
+        ("x\n  ", "x"),
+        ("\n  a\n\u{A0}\u{A0}\u{A0}b", "  a\n\u{A0}\u{A0}\u{A0}b"),
+        (
+            "\n  \\\"\"\"a\\\"\"\"\n  \\n\\\\ \"\"",
+            "\"\"\"a\"\"\"\n\\n\\\\ \"\"",
+        ),
+        ("\n \u{1F600}\n  é\u{10FFFF} \n", "\u{1F600}\n é\u{10FFFF} "),
+    ];
+    for (text, value) in rows {
+        let token = format!(in rt.alloc(); "\"\"\"{text}\"\"\"")?;
+        assert_eq!(rt;
+            block_value_of(rt.alloc(), token.as_str())?.as_str(),
+            value,
+            "{text:?}"
+        );
+    }
+    Ok(())
+}
+
+/// The value of a token that is a block string.
+fn block_value_of(alloc: Global, token: &str) -> Result<String, Fail> {
+    if !is_block_string(token) {
+        return Err("no block string".into());
+    }
+    Ok(block_string_value(alloc, token)?)
 }
 
 #[test]

@@ -1,12 +1,13 @@
 //! The values of strings.
 
-ghost use Rattle.std.specs.Prelude.{◌≡◌, ◌-◌, ◌<◌, ◌≤◌, length, drop, take, slice_index, false, IfOk, IfSome, IfNone, string_bytes};
+ghost use Rattle.std.specs.Prelude.{◌≡◌, ◌<◌, drop, take, slice_index, false, IfOk, IfSome, IfNone, string_bytes};
 ghost use Rattle.std.specs.List.{prefix_len};
 ghost use Rattle.gql_cst_lexer.specs.Class.{is_plain};
 ghost use Rattle.gql_cst_lexer.specs.Lex as lex;
 ghost use Rattle.gql_cst_lexer.specs.Value as spec;
 
-use crate::run::{ByteRun, byte, past};
+use crate::cut::{skip, split_run};
+use crate::run::{ByteRun, byte};
 use crate::string::{is_escaped, is_high_surrogate, string_len, unit};
 use std::alloc::{AllocError, Global};
 
@@ -71,17 +72,7 @@ fn split_plain(s: &str) -> (&str, &str)
     ensures rest { result.1.now ≡ drop (prefix_len is_plain s.now) s.now }
     ensures stops { is_plain (slice_index result.1.now 0) ≡ false }
 {
-    s.split_at(past(ByteRun::Plain, s.as_bytes(), 0))
-}
-
-/// The text behind its first `n` bytes, of which the last is ASCII.
-fn skip(s: &str, n: usize) -> &str
-    requires some { 0 < n }
-    requires within { n ≤ length s.now }
-    requires ascii { slice_index s.now (n - 1) < 128 }
-    ensures { result.now ≡ drop n s.now }
-{
-    &s[n..]
+    split_run(ByteRun::Plain, s)
 }
 
 /// The value of a string on one line, which is given from its opening quote on.

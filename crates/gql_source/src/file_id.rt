@@ -36,6 +36,15 @@ impl Model for FileIds {
     ghost invariant = { λ ids. (3 ≤ ids.next) × (ids.next ≤ 2 ^ 63) };
 }
 
+impl Default for FileIds {
+    ghost is_default = { λ ids. ids ≡ 3 };
+
+    /// Numbers from 3 on, as [`FileIds::new`] gives them.
+    fn default() -> FileIds {
+        FileIds::new()
+    }
+}
+
 impl FileIds {
     /// The first number that is handed out: those below it are [`FileId::BUILT_IN`] and [`FileId::NONE`].
     const FIRST: u64 = 3;

@@ -48,6 +48,7 @@ fn files_and_spans(rt: HostRuntime) -> Result<(), Fail> {
     let first = ids.next().ok_or("no number")?;
     let second = ids.next().ok_or("no number")?;
     assert_eq!(rt; (first.number, second.number), (3, 4));
+    assert_eq!(rt; FileIds::default().next(), Some(first));
     assert!(rt; FileId::BUILT_IN.number == 1 && FileId::NONE.number == 2);
     let mut last = FileIds::starting_at(0x7FFF_FFFF_FFFF_FFFF);
     assert!(rt; last.next().is_some() && last.at_end() && last.next().is_none());

@@ -1,7 +1,7 @@
 use Rattle.std.proofs.Common.{◌≡◌, ◌+◌, ◌-◌, subst, arith}
 use Rattle.std.specs.Str.{IsCharBoundary}
 use Rattle.std.proofs.lemmas.Str.{IsCharBoundary-after_ascii}
-use Rattle.gql_cst_lexer.proofs.value.skip.Goals as goal
+use Rattle.gql_cst_lexer.proofs.cut.skip.Goals as goal
 
 pub range_from-requires : goal.range_from-requires
 range_from-requires c _ =
