@@ -1,0 +1,4 @@
+pub mod Each
+pub mod Filling
+pub mod Known
+pub mod Numerals

@@ -1,0 +1,10 @@
+pub mod Outcome
+pub mod Scalars
+pub mod Lists
+pub mod Members
+pub mod Variants
+pub mod Keys
+pub mod Faithful
+pub mod Back
+pub mod KeyBack
+pub mod MembersBack
