@@ -1,1 +1,4 @@
+pub mod Printed
+pub mod Settled
+pub mod Strings
 pub mod TakesLemmas

@@ -1,3 +1,6 @@
+pub mod Answered
+pub mod Proper
 pub mod Sink
 pub mod Source
 pub mod Stream
+pub mod Memory

@@ -1,0 +1,156 @@
+ghost use Rattle.std.specs.Prelude.{◌≡◌, ℕ, List, Result, Ok, Err, IfOk, IfErr};
+ghost use Rattle.jb_io.specs.Answered.{Answered};
+ghost use Rattle.jb_print.specs.Compact.{compact};
+ghost use Rattle.jb_print.specs.Pretty.{pretty};
+ghost use Rattle.jb_read.specs.Faults.{JsonFault, IsFaultOf};
+ghost use Rattle.jb_read.specs.Spelling.{JsonFront, JsonText};
+ghost use Rattle.jb_read.specs.Texts.{text_front, text_value};
+ghost use Rattle.jb_read.specs.declared.fault.ReadFault.{ReadFault};
+
+use bytes::Bytes;
+use jb_read::ReadFault;
+use jb_tree::{Refused, Text, Value};
+use std::alloc::{AllocError, Global};
+
+/// A type whose values are read from JSON texts and printed as such (RFC 8259).
+pub trait ValueBytes: Sized {
+    // What reading gives of the value that a text begins with, and of a whole text: the value, or the first fault.
+    ghost front_read: { List ℕ → Result Self ReadFault };
+
+    ghost whole_read: { List ℕ → Result Self ReadFault };
+
+    // The bytes begin with a text of the value, or are one.
+    ghost is_front: { List ℕ → Self → Type 0 };
+
+    ghost is_text: { List ℕ → Self → Type 0 };
+
+    // The texts that are printed of a value.
+    ghost compact_text: { Self → List ℕ };
+
+    ghost pretty_text: { Self → List ℕ };
+
+    /// The value that a text begins with, behind white space. What follows the value is ignored, but a number ends
+    /// where no digit, `.`, `e` or `E` follows it.
+    ///
+    /// # Errors
+    ///
+    /// - [`Refused::Fault`] with the kind and place of the first fault from the left.
+    /// - [`Refused::Memory`] where the value could not be held.
+    fn from_bytes(alloc: Global, bytes: &Bytes) -> Result<Self, Refused<ReadFault>>
+        ensures exact { Answered result (front_read bytes.now) }
+        ensures spelled { IfOk result (is_front bytes.now) }
+        ensures only { (v : Self) → is_front bytes.now v → Answered result (Ok v) };
+
+    /// The one value of a text, between white space. Anything else behind it is a fault.
+    ///
+    /// # Errors
+    ///
+    /// As for [`ValueBytes::from_bytes`].
+    fn from_bytes_whole(alloc: Global, bytes: &Bytes) -> Result<Self, Refused<ReadFault>>
+        ensures exact { Answered result (whole_read bytes.now) }
+        ensures spelled { IfOk result (is_text bytes.now) }
+        ensures only { (v : Self) → is_text bytes.now v → Answered result (Ok v) }
+        ensures broken { IfErr result (IsFaultOf bytes.now) }
+        ensures refused { (f : ReadFault) → JsonFault bytes.now f → Answered result (Err f) };
+
+    /// As [`ValueBytes::from_bytes_whole`], over a copy of `text`.
+    fn from_str(alloc: Global, text: &str) -> Result<Self, Refused<ReadFault>>
+        ensures exact { Answered result (whole_read text.now) }
+        ensures spelled { IfOk result (is_text text.now) }
+        ensures only { (v : Self) → is_text text.now v → Answered result (Ok v) }
+        ensures broken { IfErr result (IsFaultOf text.now) }
+        ensures refused { (f : ReadFault) → JsonFault text.now f → Answered result (Err f) };
+
+    /// The compact text of the value, without white space. `Err` only for want of memory.
+    fn to_bytes(&self, alloc: Global) -> Result<Bytes, AllocError>
+        ensures { IfOk result (λ bytes. bytes ≡ compact_text self.now) };
+
+    /// The same text as a [`Text`]. `Err` only for want of memory.
+    fn to_text(&self, alloc: Global) -> Result<Text, AllocError>
+        ensures { IfOk result (λ text. text ≡ compact_text self.now) };
+
+    /// The text with a line for each item and pair, two spaces deeper for each level. `Err` only for want of memory.
+    fn to_pretty(&self, alloc: Global) -> Result<Text, AllocError>
+        ensures { IfOk result (λ text. text ≡ pretty_text self.now) };
+}
+
+/// By the functions of these names.
+impl ValueBytes for Value {
+    ghost front_read = { text_front };
+
+    ghost whole_read = { text_value };
+
+    ghost is_front = { JsonFront };
+
+    ghost is_text = { JsonText };
+
+    ghost compact_text = { compact };
+
+    ghost pretty_text = { pretty };
+
+    fn from_bytes(alloc: Global, bytes: &Bytes) -> Result<Value, Refused<ReadFault>> {
+        jb_read::from_bytes(alloc, bytes)
+    }
+
+    fn from_bytes_whole(alloc: Global, bytes: &Bytes) -> Result<Value, Refused<ReadFault>> {
+        jb_read::from_bytes_whole(alloc, bytes)
+    }
+
+    fn from_str(alloc: Global, text: &str) -> Result<Value, Refused<ReadFault>> {
+        jb_read::from_str(alloc, text)
+    }
+
+    fn to_bytes(&self, alloc: Global) -> Result<Bytes, AllocError> {
+        jb_print::to_bytes(alloc, self)
+    }
+
+    fn to_text(&self, alloc: Global) -> Result<Text, AllocError> {
+        jb_print::to_text(alloc, self)
+    }
+
+    fn to_pretty(&self, alloc: Global) -> Result<Text, AllocError> {
+        jb_print::to_pretty(alloc, self)
+    }
+}
+
+#[cfg(test)]
+mod tests {
+    use super::*;
+    use crate::FaultKind;
+    use std::test::Fail;
+
+    // What a text holds, read and printed in each way.
+    fn printed<V: ValueBytes + Drop>(
+        alloc: Global,
+        bytes: &Bytes,
+    ) -> Result<Text, Refused<ReadFault>> {
+        let value = V::from_bytes_whole(alloc, bytes)?;
+        let again = V::from_bytes(alloc, &value.to_bytes(alloc)?)?;
+        let text = again.to_text(alloc)?;
+        V::from_str(alloc, text.as_str())?
+            .to_pretty(alloc)
+            .map_err(Refused::from)
+    }
+
+    #[test]
+    fn a_value_is_read_and_printed_by_the_trait(rt: HostRuntime) -> Result<(), Fail> {
+        let bytes = Bytes::from_static(b" { \"a\" : [ 1 , -2 ], \"b\" : null } ");
+        let lines = printed::<Value>(rt.alloc(), &bytes)?;
+        assert_eq!(rt;
+            lines.as_str(),
+            "{\n  \"a\": [\n    1,\n    -2\n  ],\n  \"b\": null\n}"
+        );
+
+        let more = Bytes::from_static(b"1 2");
+        let first = <Value as ValueBytes>::from_bytes(rt.alloc(), &more)?;
+        let text = first.to_text(rt.alloc())?;
+        assert_eq!(rt; text.as_str(), "1");
+        let refused = <Value as ValueBytes>::from_bytes_whole(rt.alloc(), &more);
+        let fault = ReadFault {
+            kind: FaultKind::Syntax,
+            place: 2,
+        };
+        assert_eq!(rt; refused.err(), Some(Refused::Fault(fault)));
+        Ok(())
+    }
+}
