@@ -6,7 +6,7 @@ use Rattle.jb_tree.specs.declared.refused.Refused.{Refused}
 use Rattle.jb_tree.specs.declared.refused.Refused.TheVariants as refused
 use Rattle.jb_tree.specs.Value.{object_members}
 use Rattle.jb_read.specs.Spelling.{JsonText}
-use Rattle.jb_read.specs.Texts.{text_value}
+use Rattle.jb_read.specs.Faults.{JsonFault}
 use Rattle.gql_engine.specs.declared.answering.UnbuiltPart.{UnbuiltPart}
 use Rattle.gql_engine.specs.declared.answering.UnbuiltPart.TheVariants.{Options, Schema, Query}
 use Rattle.gql_engine.specs.declared.answering.VariablesFault.TheVariants.{Read, NotObject}
@@ -31,7 +31,7 @@ HasOptions operation_name variables introspection =
 
 -- each refusal has its cause: that a text is no plain one is the private reader's word, and want of memory is free
 abbrev pub HasCause : Option (Bor (List ℕ)) → List ℕ → Bool → AnswerError → Type 0
-HasCause operation_name variables introspection (Variables (Read fault)) = text_value variables ≡ Err fault
+HasCause operation_name variables introspection (Variables (Read fault)) = JsonFault variables fault
 HasCause operation_name variables introspection (Variables NotObject) = IsNoObject variables
 HasCause operation_name variables introspection (Unbuilt Options) = HasOptions operation_name variables introspection
 HasCause operation_name variables introspection (Unbuilt part) = Unit {0}

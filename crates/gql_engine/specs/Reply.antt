@@ -8,7 +8,7 @@ use Rattle.jb_read.specs.declared.fault.FaultKind.{FaultKind}
 use Rattle.jb_read.specs.declared.fault.FaultKind.TheVariants.{Syntax, Float, NumberRange, Depth}
 use Rattle.jb_read.specs.declared.fault.ReadFault.{ReadFault}
 use Rattle.jb_read.specs.Spelling.{JsonText}
-use Rattle.jb_read.specs.Texts.{text_value}
+use Rattle.jb_read.specs.Faults.{JsonFault}
 use Rattle.gql_engine.specs.declared.request.RequestFault.{RequestFault}
 use Rattle.gql_engine.specs.declared.answering.UnbuiltPart.{UnbuiltPart}
 use Rattle.gql_engine.specs.Data.{Data}
@@ -48,7 +48,7 @@ read_message fault = codes "request: " ++ (kind_name fault.kind ++ (codes " at b
 
 -- why the bytes are refused, with the message of each cause
 pub data Cause (bytes : List ℕ) : List ℕ → Type 0 where
-  no_text : (fault : ReadFault) → text_value bytes ≡ Err fault → Cause bytes (read_message fault)
+  no_text : (fault : ReadFault) → JsonFault bytes fault → Cause bytes (read_message fault)
   no_request : (value : Value) (fault : RequestFault) → JsonText bytes value → asked value ≡ Err fault → Cause bytes (fault_message fault)
   not_built : (value : Value) (request : Asked) (part : UnbuiltPart) → JsonText bytes value → asked value ≡ Ok request → Cause bytes (unbuilt_message part)
 

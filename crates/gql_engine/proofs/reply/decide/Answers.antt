@@ -6,7 +6,7 @@ use Rattle.gql_engine.proofs.reply.decide.Goals as goal
 
 pub returns-in-Err-Fault : goal.returns-in-Err-Fault
 returns-in-Err-Fault c =
-    subst (Cause c.args.bytes.now) (sym c.in_ok-read_message-in-Err-Fault.ensures) (no_text c.in-Err-Fault.fault (rw c.in-Err-Fault.field-0-is at c.in-Err-Fault.ensures.exact))
+    subst (Cause c.args.bytes.now) (sym c.in_ok-read_message-in-Err-Fault.ensures) (no_text c.in-Err-Fault.fault (rw c.in-Err-Fault.field-0-is at c.in-Err-Fault.ensures.broken))
 
 pub returns-in-Err-Fault-answered : goal.returns-in-Err-Fault-answered
 returns-in-Err-Fault-answered c =
