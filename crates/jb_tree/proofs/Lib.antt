@@ -1,2 +1,5 @@
-pub mod Entries
-pub mod Positions
+pub mod Equality
+pub mod Levels
+pub mod Members
+pub mod Sorting
+pub mod Tokens

@@ -1,5 +1,7 @@
-pub mod ByteString
-pub mod Number
-pub mod Value
-pub mod formers
+pub mod FromJson
+pub mod Index
+pub mod Pointer
+pub mod Rows
+pub mod Same
 pub mod Tree
+pub mod Value

@@ -1,4 +1,4 @@
-use Rattle.std.specs.Prelude.{ℕ, List, Option, Some, None, Bool, true, false}
+use Rattle.std.specs.Prelude.{ℕ, ℤ, List, Option, Some, None, Bool, true, false}
 use Rattle.jb_tree.specs.declared.value.Value.{Value, out-Value}
 use Rattle.jb_tree.specs.declared.value.Value.TheOpen.{Value-F}
 
@@ -16,6 +16,11 @@ items_at _ = None
 abbrev pub text_at : Value-F Value → Option (List ℕ)
 text_at (Value-F.String text) = Some text
 text_at _ = None
+
+-- the number of one level, where it is one
+abbrev pub number_at : Value-F Value → Option ℤ
+number_at (Value-F.Number number) = Some number
+number_at _ = None
 
 -- the truth value of one level, where it is one
 abbrev pub truth_at : Value-F Value → Option Bool
@@ -35,6 +40,9 @@ array_items value = items_at (out-Value value)
 
 abbrev pub string_text : Value → Option (List ℕ)
 string_text value = text_at (out-Value value)
+
+abbrev pub whole_number : Value → Option ℤ
+whole_number value = number_at (out-Value value)
 
 abbrev pub truth_value : Value → Option Bool
 truth_value value = truth_at (out-Value value)

@@ -5,21 +5,21 @@
 //! So a [`Value`], as contracts see it, is the JSON tree itself (RFC 8259, section 3).
 #![tactic(auto)]
 
-mod byte_string;
-mod keys;
-mod listed;
-mod number;
-mod pairs;
-mod refused;
-mod text;
+mod compare;
+mod convert;
+mod from_json;
+mod index;
+mod kinds;
+pub mod laws;
+mod parts;
+mod pointer;
+mod sort;
 mod value;
 
-pub use byte_string::{ByteString, SliceFault};
-pub use listed::{Listed, ListedIter};
-pub use number::Number;
-pub use pairs::{Pairs, PairsIter};
-pub use refused::{Memory, Refused};
-pub use text::Text;
+pub use from_json::FromJsonFault;
+pub use index::{Index, IndexError};
+pub use jb_map::{Entry, IntoIter, Iter, Keys, OccupiedEntry, Pairs, VacantEntry, Values};
+pub use jb_text::{ByteString, Listed, ListedIter, Memory, Number, Refused, SliceFault, Text};
 pub use value::{Map, Value};
 
 #[cfg(test)]

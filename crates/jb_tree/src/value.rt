@@ -1,18 +1,14 @@
 ghost use Rattle.std.specs.Prelude.{◌≡◌, IfOk};
-ghost use Rattle.std.specs.Option.{option_copied};
-ghost use Rattle.jb_tree.specs.Value.{object_members, array_items, string_text, truth_value, is_null};
 
-use super::byte_string::ByteString;
-use super::listed::Listed;
-use super::number::Number;
-use super::pairs::Pairs;
+use jb_map::Pairs;
+use jb_text::{ByteString, Listed, Number};
 use std::alloc::{AllocError, Global};
 
 /// A JSON object: pairs of text and value with distinct texts, in order of insertion.
 pub type Map = Pairs<Value>;
 
-/// A JSON value (RFC 8259, section 3).
-#[derive(Drop)]
+/// A JSON value (RFC 8259, section 3). Its default is `Null`.
+#[derive(PartialEq, Eq, Hash, Drop)]
 pub enum Value {
     Null,
     Bool(bool),
@@ -22,56 +18,18 @@ pub enum Value {
     Object(Map),
 }
 
+impl Default for Value {
+    ghost use Rattle.std.specs.Prelude.{◌≡◌};
+    ghost use Rattle.jb_tree.specs.declared.value.Value.{Null};
+
+    ghost is_default = { λ value. value ≡ Null };
+
+    fn default() -> Value {
+        Value::Null
+    }
+}
+
 impl Value {
-    /// The members where the value is an object.
-    pub fn as_object(&self) -> Option<&Map>
-        ensures { option_copied result ≡ object_members self.now }
-    {
-        match self {
-            Value::Object(members) => Some(members),
-            _ => None,
-        }
-    }
-
-    /// The items where the value is an array.
-    pub fn as_array(&self) -> Option<&Listed<Value>>
-        ensures { option_copied result ≡ array_items self.now }
-    {
-        match self {
-            Value::Array(items) => Some(items),
-            _ => None,
-        }
-    }
-
-    /// The text where the value is a string.
-    pub fn as_str(&self) -> Option<&str>
-        ensures { option_copied result ≡ string_text self.now }
-    {
-        match self {
-            Value::String(text) => Some(text.as_str()),
-            _ => None,
-        }
-    }
-
-    /// The truth value where the value is one.
-    pub fn as_bool(&self) -> Option<bool>
-        ensures { result ≡ truth_value self.now }
-    {
-        match self {
-            Value::Bool(truth) => Some(*truth),
-            _ => None,
-        }
-    }
-
-    pub fn is_null(&self) -> bool
-        ensures { result ≡ is_null self.now }
-    {
-        match self {
-            Value::Null => true,
-            _ => false,
-        }
-    }
-
     /// The same tree in memory of its own; texts share their buffers. `Err` only for want of memory.
     #[cycle(copy)]
     pub fn copy(&self, alloc: Global) -> Result<Value, AllocError>

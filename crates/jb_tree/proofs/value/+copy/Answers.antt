@@ -1,7 +1,7 @@
 use Rattle.std.proofs.Common.{ap, sym, ◌∙◌, Some, position, arith, ◌++◌, ◌∷◌, []}
 use Rattle.std.specs.Str.{bytes_eq}
 use Rattle.std.specs.Map.{keys_of}
-use Rattle.jb_tree.proofs.Entries.{pair_at, new_at_place, take_pair}
+use Rattle.jb_map.proofs.Entries.{pair_at, new_at_place, take_pair}
 use Rattle.jb_tree.proofs.value.+copy.Goals as goal
 
 pub copy_members-insert_new-requires : goal.copy_members-insert_new-requires

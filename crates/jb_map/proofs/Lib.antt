@@ -1,0 +1,11 @@
+pub mod Aligned
+pub mod Entries
+pub mod EntryLemmas
+pub mod Inserted
+pub mod Ordered
+pub mod Positions
+pub mod Retention
+pub mod Same
+pub mod SortLemmas
+pub mod Taken
+pub mod TextOrder

@@ -1,0 +1,12 @@
+use Rattle.std.proofs.Common.{◌≡◌, ℕ, take, drop, vec_len, reverse}
+use Rattle.std.specs.Str.{bytes_eq}
+use Rattle.indexmap.specs.IndexMap.{insert_all}
+use Rattle.jb_map.proofs.pairs.Pairs.take_back_to_front.Given as goal
+
+-- the first n of the reversed list are in, and the others are left
+abbrev pub invariant-loop-key : goal.invariant-loop-key
+invariant-loop-key g l =
+    (n : ℕ) × (l.self ≡ insert_all bytes_eq l.fn.self (take n (reverse l.fn.pairs.items))) × (reverse l.pairs.items ≡ drop n (reverse l.fn.pairs.items))
+
+abbrev pub decreases-loop-key : goal.decreases-loop-key
+decreases-loop-key g l = vec_len l.pairs

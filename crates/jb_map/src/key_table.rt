@@ -1,0 +1,104 @@
+ghost use Rattle.std.specs.Prelude.{◌≡◌, ◌<◌, ℕ, List, None, [], ◌∷◌, ◌++◌, OnOk, OnErr, length, position, swap_remove, swap, take, slice_index_or, true, false};
+ghost use Rattle.std.specs.Str.{bytes_eq};
+ghost use Rattle.std.specs.List.{IsDistinct, list_any};
+ghost use Rattle.std.specs.Map.{keys_of};
+ghost use Rattle.jb_map.specs.Covers.{Covers};
+
+use indexmap::IndexSet;
+use jb_text::ByteString;
+use std::alloc::{AllocError, Global};
+use std::marker::Model;
+
+/// The texts of a map's keys in the map's order, found by hash. Contracts see the list of the texts.
+#[derive(Drop)]
+pub struct KeyTable {
+    texts: IndexSet<String>,
+}
+
+impl Model for KeyTable {
+    ghost use Rattle.std.specs.Prelude.{List, ℕ, map, string_bytes};
+
+    ghost Value = { List (List ℕ) };
+
+    ghost view = { λ k. map string_bytes k.texts.keys };
+}
+
+impl KeyTable {
+    pub fn new(alloc: Global) -> KeyTable
+        ensures { result ≡ [] }
+    {
+        KeyTable {
+            texts: IndexSet::new(alloc),
+        }
+    }
+
+    /// The place of `key`.
+    #[inline(always)]
+    pub fn find(&self, key: &str) -> Option<usize>
+        ensures { result ≡ position (bytes_eq key.now) self.now }
+    {
+        self.texts.get_index_of(key)
+    }
+
+    /// Adds a key that is not there, last. `Err` only for want of memory, with nothing changed.
+    pub fn push(&mut self, alloc: Global, key: &str) -> Result<(), AllocError>
+        requires { position (bytes_eq key.now) self.old ≡ None }
+        ensures pushed { OnOk result (self.new ≡ self.old ++ key.now ∷ []) }
+        ensures refused { OnErr result (self.new ≡ self.old) }
+    {
+        let text = String::from_str(alloc, key)?;
+        self.texts.insert(text)?;
+        Ok(())
+    }
+
+    /// Takes the key at `index` out. The last key moves into the gap.
+    pub fn swap_remove(&mut self, index: usize)
+        requires { index < length self.old }
+        ensures { (d : List ℕ) → self.new ≡ swap_remove self.old index d }
+    {
+        let _key = self.texts.swap_remove_index(index);
+    }
+
+    /// Brings the keys into the order of these pairs, and takes out those that are not among them. It takes no memory.
+    pub fn align<V>(&mut self, held: &[(ByteString, V)])
+        requires distinct { IsDistinct bytes_eq (keys_of held.now) }
+        requires covered { Covers self.old (keys_of held.now) }
+        ensures { self.new ≡ keys_of held.now }
+    {
+        for index in 0..held.len() {
+            self.bring(held[index].0.as_str(), index);
+        }
+        self.cut(held.len());
+    }
+
+    /// Moves a key that is at `index` or later to `index`.
+    fn bring(&mut self, key: &str, index: usize)
+        requires there { list_any (bytes_eq key.now) self.old ≡ true }
+        requires later { (k : ℕ) (d : List ℕ) → k < index → bytes_eq key.now (slice_index_or self.old k d) ≡ false }
+        ensures within { index < length self.new }
+        ensures placed { (d : List ℕ) → slice_index_or self.new index d ≡ key.now }
+        ensures others { (k : ℕ) (d : List ℕ) → k < index → slice_index_or self.new k d ≡ slice_index_or self.old k d }
+        ensures same_keys { (k : List ℕ) → list_any (bytes_eq k) self.new ≡ list_any (bytes_eq k) self.old }
+    {
+        match self.find(key) {
+            Some(at) => self.exchange(index, at),
+            None => {}
+        }
+    }
+
+    /// Puts two keys in each other's place.
+    fn exchange(&mut self, first: usize, second: usize)
+        requires first { first < length self.old }
+        requires second { second < length self.old }
+        ensures { self.new ≡ swap self.old first second }
+    {
+        self.texts.swap_indices(first, second);
+    }
+
+    /// Keeps the first `len` keys.
+    fn cut(&mut self, len: usize)
+        ensures { self.new ≡ take len self.old }
+    {
+        self.texts.truncate(len);
+    }
+}

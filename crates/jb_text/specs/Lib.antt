@@ -1,0 +1,3 @@
+pub mod ByteString
+pub mod Number
+pub mod formers

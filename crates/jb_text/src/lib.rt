@@ -1,0 +1,20 @@
+//! Texts, lists, whole numbers and slices of a shared buffer: the parts that JSON values are made of.
+//!
+//! A contract sees each type as the mathematical value that it stands for: a [`Text`] and a [`ByteString`] as
+//! their bytes, a [`Listed`] as a list, a [`Number`] as a whole number.
+#![tactic(auto)]
+
+mod byte_string;
+mod listed;
+mod number;
+mod refused;
+mod text;
+
+pub use byte_string::{ByteString, SliceFault};
+pub use listed::{Listed, ListedIter};
+pub use number::Number;
+pub use refused::{Memory, Refused};
+pub use text::Text;
+
+#[cfg(test)]
+mod tests;

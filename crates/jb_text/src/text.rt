@@ -1,0 +1,56 @@
+ghost use Rattle.std.specs.Prelude.{◌≡◌, IfOk, string_bytes};
+
+use std::alloc::{AllocError, Global};
+use std::marker::Model;
+
+/// An owned text, which contracts see as its UTF-8 bytes.
+#[derive(Debug, Drop)]
+pub struct Text {
+    held: String,
+}
+
+impl Model for Text {
+    ghost use Rattle.std.specs.Prelude.{List, ℕ, string_bytes};
+
+    ghost Value = { List ℕ };
+
+    ghost view = { λ t. string_bytes t.held };
+}
+
+impl Text {
+    /// A copy of `text`. `Err` only for want of memory.
+    pub fn from_str(alloc: Global, text: &str) -> Result<Text, AllocError>
+        ensures { IfOk result (λ made. made ≡ text.now) }
+    {
+        Ok(Text {
+            held: String::from_str(alloc, text)?,
+        })
+    }
+
+    /// Takes a `String` over as it is.
+    pub fn from_string(held: String) -> Text
+        ensures { result ≡ string_bytes held }
+    {
+        Text { held }
+    }
+
+    /// The same text in memory of its own. `Err` only for want of memory.
+    pub fn copy(&self, alloc: Global) -> Result<Text, AllocError>
+        ensures { IfOk result (λ copy. copy ≡ self.now) }
+    {
+        Text::from_str(alloc, self.as_str())
+    }
+
+    /// The `String` that holds it.
+    pub fn into_string(self) -> String
+        ensures { string_bytes result ≡ self }
+    {
+        self.held
+    }
+
+    pub fn as_str(&self) -> &str
+        ensures { result.now ≡ self.now }
+    {
+        self.held.as_str()
+    }
+}

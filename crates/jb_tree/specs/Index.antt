@@ -1,0 +1,53 @@
+-- What an index names in a value, and what a value becomes so that there is such a place.
+use Rattle.std.specs.Prelude.{◌≡◌, ℕ, ⊤, List, [], ◌∷◌, ◌++◌, length, slice_get, nat_lt, if◌then◌else◌, Option, Some, option_and_then, is_some, Result, Ok, Err}
+use Rattle.std.specs.Borrow.{MutBor}
+use Rattle.std.specs.Str.{bytes_eq}
+use Rattle.std.specs.Map.{lookup}
+use Rattle.jb_text.specs.declared.refused.Refused.{Refused}
+use Rattle.jb_text.specs.declared.refused.Refused.TheVariants.{Fault, Memory}
+use Rattle.jb_tree.specs.Value.{object_members, array_items}
+use Rattle.jb_tree.specs.declared.index.IndexError.{IndexError}
+use Rattle.jb_tree.specs.declared.index.IndexError.TheVariants.{NoPlace, NotArray, NotObject}
+use Rattle.jb_tree.specs.declared.value.Value.{Value, out-Value, Null, Object}
+use Rattle.jb_tree.specs.declared.value.Value.TheOpen.{Value-F}
+
+-- the item of an array at a place
+abbrev pub item_at : ℕ → Value → Option Value
+item_at place value = option_and_then (λ items. slice_get items place) (array_items value)
+
+-- the value of an object at a key
+abbrev pub member_at : List ℕ → Value → Option Value
+member_at key value = option_and_then (lookup (bytes_eq key)) (object_members value)
+
+-- one level with a place for an item, or why it can have none
+abbrev pub with_item_at : ℕ → Value-F Value → Value → Result Value IndexError
+with_item_at place (Value-F.Array items) whole = if nat_lt place (length items) then Ok whole else Err (NoPlace place (length items))
+with_item_at place _ whole = Err NotArray
+
+abbrev pub with_item : ℕ → Value → Result Value IndexError
+with_item place value = with_item_at place (out-Value value) value
+
+-- the pairs, with one more of null, last, where the key is new
+abbrev pub with_key : List ℕ → List (List ℕ × Value) → List (List ℕ × Value)
+with_key key members = if is_some (lookup (bytes_eq key) members) then members else members ++ (key, Null) ∷ []
+
+-- one level with a place for a member, or why it can have none: null becomes an object
+abbrev pub with_member_at : List ℕ → Value-F Value → Result Value IndexError
+with_member_at key Value-F.Null = Ok (Object ((key, Null) ∷ []))
+with_member_at key (Value-F.Object members) = Ok (Object (with_key key members))
+with_member_at key _ = Err NotObject
+
+abbrev pub with_member : List ℕ → Value → Result Value IndexError
+with_member key value = with_member_at key (out-Value value)
+
+-- what making a place answers and leaves: a refused call leaves the value as it was
+abbrev pub IsMade : Result ⊤ (Refused IndexError) → Value → Value → Result Value IndexError → Type 0
+IsMade (Ok _) old new made = made ≡ Ok new
+IsMade (Err (Fault fault)) old new made = (made ≡ Err fault) × (new ≡ old)
+IsMade (Err Memory) old new made = new ≡ old
+
+-- what making and lending a place answers
+abbrev pub IsLent : Result (MutBor Value) (Refused IndexError) → Result Value IndexError → (Value → Option Value) → Type 0
+IsLent (Ok found) made finds = (new : Value) × (made ≡ Ok new) × (finds new ≡ Some found.now)
+IsLent (Err (Fault fault)) made finds = made ≡ Err fault
+IsLent (Err Memory) made finds = ⊤

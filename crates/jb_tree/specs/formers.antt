@@ -1,2 +1,0 @@
-pub mod listed
-pub mod pairs

@@ -1,0 +1,100 @@
+ghost use Rattle.std.specs.Prelude.{◌≡◌, [], OnOk, option_map};
+ghost use Rattle.std.specs.Str.{bytes_eq};
+ghost use Rattle.indexmap.specs.IndexMap.{insert_all, insert_entry};
+ghost use Rattle.serde_json.specs.View.{view, number_view, items_view, members_view};
+ghost use Rattle.jb_tree.specs.declared.value.Value.{Number as whole};
+ghost use Rattle.jb_tree.specs.FromJson.{value_of, whole_of, items_of, members_of, IsTaken};
+
+use super::value::{Map, Value};
+use jb_map::Pairs;
+use jb_text::{ByteString, Listed, Number, Refused};
+use serde_json as json;
+use std::alloc::{AllocError, Global};
+
+/// Why a JSON value of another make is no [`Value`].
+#[derive(Clone, Copy, Debug, PartialEq, Eq)]
+pub enum FromJsonFault {
+    /// Some number is neither an `i64` nor a `u64`.
+    FloatInJson,
+}
+
+impl Value {
+    /// The same value in memory of its own. `FloatInJson` exactly where some number in it is neither an `i64` nor a
+    /// `u64`; `Memory` only for want of memory.
+    pub fn from_json(alloc: Global, value: &json::Value) -> Result<Value, Refused<FromJsonFault>>
+        ensures { IsTaken result (value_of (view value.now)) }
+    {
+        from_value(alloc, value)
+    }
+}
+
+#[cycle(taken)]
+fn from_value(alloc: Global, value: &json::Value) -> Result<Value, Refused<FromJsonFault>>
+    ensures { IsTaken result (value_of (view value.now)) }
+{
+    match value {
+        json::Value::Null => Ok(Value::Null),
+        json::Value::Bool(truth) => Ok(Value::Bool(*truth)),
+        json::Value::Number(number) => from_number(number),
+        json::Value::String(text) => Ok(Value::String(ByteString::from_text(
+            alloc,
+            text.as_str(),
+        )?)),
+        json::Value::Array(items) => Ok(Value::Array(from_items(alloc, items)?)),
+        json::Value::Object(members) => Ok(Value::Object(from_members(alloc, members)?)),
+    }
+}
+
+/// The number where it is whole and of 64 bits.
+fn from_number(number: &json::Number) -> Result<Value, Refused<FromJsonFault>>
+    ensures { IsTaken result (option_map whole (whole_of (number_view number.now))) }
+{
+    if let Some(number) = number.as_u64() {
+        return Ok(Value::Number(Number::from_u64(number)));
+    }
+    match number.as_i64() {
+        Some(number) => Ok(Value::Number(Number::from_i64(number))),
+        None => Err(Refused::Fault(FromJsonFault::FloatInJson)),
+    }
+}
+
+#[cycle(taken)]
+fn from_items(
+    alloc: Global,
+    items: &Vec<json::Value>,
+) -> Result<Listed<Value>, Refused<FromJsonFault>>
+    ensures { IsTaken result (items_of (items_view items.now.items)) }
+{
+    let mut made = Listed::new(alloc);
+    for item in items {
+        let value = from_value(alloc, item)?;
+        made.push(value)?;
+    }
+    Ok(made)
+}
+
+#[cycle(taken)]
+fn from_members(
+    alloc: Global,
+    members: &json::Map<String, json::Value>,
+) -> Result<Map, Refused<FromJsonFault>>
+    ensures { IsTaken result (option_map (insert_all bytes_eq []) (members_of (members_view members.now.entries))) }
+{
+    let mut made = Pairs::new(alloc);
+    for (key, member) in members.iter() {
+        let value = from_value(alloc, member)?;
+        let text = ByteString::from_text(alloc, key.as_str())?;
+        put(&mut made, text, value)?;
+    }
+    Ok(made)
+}
+
+/// Inserts the pair; what it replaces, or the pair itself for want of memory, is dropped.
+fn put<V: Drop>(members: &mut Pairs<V>, key: ByteString, value: V) -> Result<(), AllocError>
+    ensures { OnOk result (members.new ≡ insert_entry bytes_eq members.old key value) }
+{
+    match members.insert(key, value) {
+        Ok(_) => Ok(()),
+        Err(_) => Err(AllocError),
+    }
+}
