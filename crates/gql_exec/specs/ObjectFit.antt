@@ -3,8 +3,8 @@ use Rattle.std.specs.Prelude.{◌≡◌, ℕ, List, Result, Ok, Err, Some, None}
 use Rattle.std.specs.Borrow.{Bor}
 use Rattle.std.specs.Str.{bytes_eq}
 use Rattle.std.specs.Map.{lookup}
-use Rattle.jb_tree.specs.declared.refused.Refused.{Refused}
-use Rattle.jb_tree.specs.declared.refused.Refused.TheVariants.{Fault, Memory}
+use Rattle.jb_text.specs.declared.refused.Refused.{Refused}
+use Rattle.jb_text.specs.declared.refused.Refused.TheVariants.{Fault, Memory}
 use Rattle.gql_exec.specs.declared.schema.TypeRef.{TypeRef}
 use Rattle.gql_exec.specs.declared.schema.ObjectType.{ObjectType}
 use Rattle.gql_exec.specs.declared.schema.Schema.{Schema}

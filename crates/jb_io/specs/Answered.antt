@@ -1,7 +1,7 @@
 -- What a reader of any type answered.
 use Rattle.std.specs.Prelude.{◌≡◌, Result, Ok, Err}
-use Rattle.jb_tree.specs.declared.refused.Refused.{Refused}
-use Rattle.jb_tree.specs.declared.refused.Refused.TheVariants as refused
+use Rattle.jb_text.specs.declared.refused.Refused.{Refused}
+use Rattle.jb_text.specs.declared.refused.Refused.TheVariants as refused
 use Rattle.jb_read.specs.declared.fault.ReadFault.{ReadFault}
 
 -- the reader gave this value or this fault, unless memory ran out

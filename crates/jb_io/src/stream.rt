@@ -3,7 +3,7 @@ ghost use Rattle.jb_io.specs.Sink.{Takes, TakesFront};
 ghost use Rattle.jb_io.specs.Source.{GivesMore, ReadsWhole};
 ghost use Rattle.jb_io.specs.Stream.{HasFailed};
 ghost use Rattle.jb_io.specs.declared.stream.InputFault.TheVariants.{SourceFailed};
-ghost use Rattle.jb_tree.specs.declared.refused.Refused.TheVariants.{Fault};
+ghost use Rattle.jb_text.specs.declared.refused.Refused.TheVariants.{Fault};
 
 use crate::sink::{Sink, SinkFault};
 use crate::source::{Source, SourceFault};

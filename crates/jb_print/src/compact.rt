@@ -42,7 +42,7 @@ fn write_items(out: &mut String, items: &Listed<Value>) -> Result<(), AllocError
 }
 
 #[cycle(compact)]
-fn write_members(out: &mut String, members: &Map) -> Result<(), AllocError>
+pub(crate) fn write_members(out: &mut String, members: &Map) -> Result<(), AllocError>
     ensures { OnOk result (string_bytes out.new
         ≡ string_bytes out.old ++ (codes "{" ++ (pieces_text false (map member_piece members.now) ++ codes "}"))) }
 {

@@ -11,4 +11,4 @@ mod print;
 mod tests;
 mod text;
 
-pub use print::{to_bytes, to_pretty, to_text};
+pub use print::{append_object, append_string, append_value, to_bytes, to_pretty, to_text};

@@ -1,11 +1,14 @@
-ghost use Rattle.std.specs.Prelude.{◌≡◌, IfOk, string_bytes};
+ghost use Rattle.std.specs.Prelude.{◌≡◌, ◌++◌, IfOk, OnOk, string_bytes};
+ghost use Rattle.jb_tree.specs.declared.value.Value.TheVariants as json;
+ghost use Rattle.jb_print.specs.Quoted.{quoted};
 ghost use Rattle.jb_print.specs.Compact.{compact};
 ghost use Rattle.jb_print.specs.Pretty.{pretty};
 
-use super::compact::write_value;
+use super::compact::{write_members, write_value};
 use super::pretty::write_pretty;
+use super::text::write_text;
 use bytes::Bytes;
-use jb_tree::{Text, Value};
+use jb_tree::{Map, Text, Value};
 use std::alloc::{AllocError, Global};
 
 /// Room for a short text, so that it is allocated once.
@@ -38,6 +41,27 @@ pub fn to_pretty(alloc: Global, value: &Value) -> Result<Text, AllocError>
     let mut text = String::with_capacity(alloc, FIRST_ROOM)?;
     write_pretty(&mut text, alloc, "\n", value)?;
     Ok(Text::from_string(text))
+}
+
+/// Appends the text that [`to_bytes`] gives. `Err` only for want of memory.
+pub fn append_value(out: &mut String, value: &Value) -> Result<(), AllocError>
+    ensures { OnOk result (string_bytes out.new ≡ string_bytes out.old ++ compact value.now) }
+{
+    write_value(out, value)
+}
+
+/// Appends the text that [`to_bytes`] gives of an object with these members. `Err` only for want of memory.
+pub fn append_object(out: &mut String, members: &Map) -> Result<(), AllocError>
+    ensures { OnOk result (string_bytes out.new ≡ string_bytes out.old ++ compact (json.Object members.now)) }
+{
+    write_members(out, members)
+}
+
+/// Appends the text that [`to_bytes`] gives of a string. `Err` only for want of memory.
+pub fn append_string(out: &mut String, text: &str) -> Result<(), AllocError>
+    ensures { OnOk result (string_bytes out.new ≡ string_bytes out.old ++ quoted text.now) }
+{
+    write_text(out, text)
 }
 
 fn compact_string(alloc: Global, value: &Value) -> Result<String, AllocError>

@@ -1,8 +1,8 @@
 -- What a reader's answer says by the grammar.
 use Rattle.std.proofs.Common.{◌≡◌, ◌⊎◌, inl, inr, ℕ, List, Result, Ok, Err, refl, sym, ◌∙◌}
 use Rattle.std.specs.Prelude.{IfOk, IfErr}
-use Rattle.jb_tree.specs.declared.refused.Refused.{Refused}
-use Rattle.jb_tree.specs.declared.refused.Refused.TheVariants as refused
+use Rattle.jb_text.specs.declared.refused.Refused.{Refused}
+use Rattle.jb_text.specs.declared.refused.Refused.TheVariants as refused
 use Rattle.jb_tree.specs.declared.value.Value.{Value}
 use Rattle.jb_read.specs.declared.fault.ReadFault.{ReadFault}
 use Rattle.jb_read.specs.Spelling.{JsonText, JsonFront}

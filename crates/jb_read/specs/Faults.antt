@@ -1,8 +1,8 @@
 -- Where a text breaks first, by cases on the grammar: what stands before the fault is spelled, and the fault stands in
 -- the next part. A fault is known by its kind and by how many bytes are left where it stands.
 use Rattle.std.specs.Prelude.{◌≡◌, ◌≢◌, ◌⊎◌, ℕ, suc, Bool, true, false, ◌==◌, ◌||◌, List, [], ◌∷◌, length, Err}
-use Rattle.jb_tree.specs.declared.refused.Refused.{Refused}
-use Rattle.jb_tree.specs.declared.refused.Refused.TheVariants as refused
+use Rattle.jb_text.specs.declared.refused.Refused.{Refused}
+use Rattle.jb_text.specs.declared.refused.Refused.TheVariants as refused
 use Rattle.jb_tree.specs.Tree.{Tree, Trees, Members, no_trees, tree_then, no_members, member_then}
 use Rattle.jb_read.specs.declared.fault.Broken.{Broken}
 use Rattle.jb_read.specs.declared.fault.FaultKind.TheVariants.{Syntax, Depth}

@@ -6,3 +6,4 @@ pub mod Values
 pub mod Texts
 pub mod Spelling
 pub mod Faults
+pub mod KindName

@@ -1,8 +1,8 @@
 -- Readers of bytes: what is read and what is left, or the first fault.
 use Rattle.std.specs.Prelude.{◌≡◌, ℕ, zero, suc, Bool, ◌==◌, if◌then◌else◌, List, [], ◌∷◌, length, Result, Ok, Err}
 use Rattle.std.specs.Borrow.{Bor}
-use Rattle.jb_tree.specs.declared.refused.Refused.{Refused}
-use Rattle.jb_tree.specs.declared.refused.Refused.TheVariants as refused
+use Rattle.jb_text.specs.declared.refused.Refused.{Refused}
+use Rattle.jb_text.specs.declared.refused.Refused.TheVariants as refused
 use Rattle.jb_read.specs.declared.fault.FaultKind.{FaultKind}
 use Rattle.jb_read.specs.declared.fault.FaultKind.TheVariants.{Syntax}
 use Rattle.jb_read.specs.declared.fault.Broken.{Broken}

@@ -1,5 +1,5 @@
 ghost use Rattle.std.specs.Prelude.{◌≡◌, ◌≤◌, ℕ, length, take, drop, slice_get};
-ghost use Rattle.jb_tree.specs.ByteString.{IsSlice};
+ghost use Rattle.jb_text.specs.ByteString.{IsSlice};
 ghost use Rattle.jb_read.specs.Bytes.{first};
 ghost use Rattle.jb_read.specs.Reading.{broken};
 

@@ -1,5 +1,6 @@
 ghost use Rattle.std.specs.Prelude.{◌≡◌};
-ghost use Rattle.jb_tree.specs.declared.refused.Refused.TheVariants.{Fault};
+ghost use Rattle.jb_read.specs.KindName.{kind_name};
+ghost use Rattle.jb_text.specs.declared.refused.Refused.TheVariants.{Fault};
 
 use jb_tree::Refused;
 
@@ -14,6 +15,20 @@ pub enum FaultKind {
     NumberRange,
     /// A bracket that opens level 128.
     Depth,
+}
+
+impl FaultKind {
+    /// Its name in messages: `syntax`, `float`, `number range` or `depth`.
+    pub fn name(self) -> &'static str
+        ensures { result.now ≡ kind_name self }
+    {
+        match self {
+            FaultKind::Syntax => "syntax",
+            FaultKind::Float => "float",
+            FaultKind::NumberRange => "number range",
+            FaultKind::Depth => "depth",
+        }
+    }
 }
 
 /// The first fault of a text, and the byte where it stands: for `Syntax` the byte itself, or the text's length

@@ -1,7 +1,7 @@
 -- What a reading or a making of values answers: a thing, or why there is none.
 use Rattle.std.specs.Prelude.{◌≡◌, List, [], ◌∷◌, Result, Ok, Err}
-use Rattle.jb_tree.specs.declared.refused.Refused.{Refused}
-use Rattle.jb_tree.specs.declared.refused.Refused.TheVariants.{Fault, Memory}
+use Rattle.jb_text.specs.declared.refused.Refused.{Refused}
+use Rattle.jb_text.specs.declared.refused.Refused.TheVariants.{Fault, Memory}
 use Rattle.jb_shape.specs.declared.shape_error.ShapeError.{ShapeError}
 
 -- the thing or the cause that is wanted; want of memory is free

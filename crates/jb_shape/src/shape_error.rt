@@ -30,7 +30,7 @@ pub enum ShapeError {
 
 impl From<ShapeError> for Refused<ShapeError> {
     ghost use Rattle.std.specs.Prelude.{◌≡◌};
-    ghost use Rattle.jb_tree.specs.declared.refused.Refused.TheVariants as refused_variant;
+    ghost use Rattle.jb_text.specs.declared.refused.Refused.TheVariants as refused_variant;
 
     ghost from_gives = { λ cause refused. refused ≡ refused_variant.Fault cause };
 
