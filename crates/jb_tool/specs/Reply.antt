@@ -1,24 +1,13 @@
 -- What the bytes of a text are replied to.
-use Rattle.std.specs.Prelude.{◌≡◌, ℕ, ◌≤◌, List, [], ◌∷◌, ◌++◌, codes}
+use Rattle.std.specs.Prelude.{◌≡◌, ℕ, List, ◌++◌, codes}
 use Rattle.std.specs.Fmt.{decimal}
 use Rattle.jb_tree.specs.declared.value.Value.{Value}
-use Rattle.jb_read.specs.declared.fault.FaultKind.{FaultKind}
-use Rattle.jb_read.specs.declared.fault.FaultKind.TheVariants.{Syntax, Float, NumberRange, Depth}
 use Rattle.jb_read.specs.declared.fault.ReadFault.{ReadFault}
 use Rattle.jb_read.specs.Faults.{JsonFault}
+use Rattle.jb_read.specs.KindName.{kind_name}
 use Rattle.jb_read.specs.Spelling.{JsonText}
 use Rattle.jb_tool.specs.declared.style.Style.{Style}
 use Rattle.jb_tool.specs.Style.{printed}
-
--- a text as it is written, with its LF
-abbrev pub line : List ℕ → List ℕ
-line text = text ++ 10 ∷ []
-
-abbrev pub kind_name : FaultKind → List ℕ
-kind_name Syntax = codes "syntax"
-kind_name Float = codes "float"
-kind_name NumberRange = codes "number range"
-kind_name Depth = codes "depth"
 
 abbrev pub fault_text : ReadFault → List ℕ
 fault_text fault = kind_name fault.kind ++ (codes " at byte " ++ decimal fault.place)
@@ -34,11 +23,3 @@ pub record Refuses (bytes text : List ℕ) : Type 0 where
   pub fault : ReadFault
   pub breaks : JsonFault bytes fault
   pub says : text ≡ fault_text fault
-
--- a text and its LF, with the status of a value or of a fault
-pub record Replies (style : Style) (bytes : List ℕ) (status : ℕ) (written : List ℕ) : Type 0 where
-  pub text : List ℕ
-  pub whole : written ≡ line text
-  pub status_is : status ≤ 1
-  pub prints : status ≡ 0 → Prints style bytes text
-  pub refuses : status ≡ 1 → Refuses bytes text
