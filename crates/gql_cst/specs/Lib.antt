@@ -5,3 +5,15 @@ pub use Rattle.gql_cst_lexer.specs.Lexical
 pub use Rattle.gql_cst_lexer.specs.Message
 pub use Rattle.gql_cst_lexer.specs.Reading
 pub use Rattle.gql_cst_lexer.specs.Value
+pub mod Forest
+pub mod Held
+pub mod Machine
+pub mod Words
+pub mod Leaves
+pub mod Nesting
+pub mod Sound
+pub mod Outcome
+pub mod Progress
+pub mod Parses
+pub mod Sentences
+pub mod Judged

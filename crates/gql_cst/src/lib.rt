@@ -1,22 +1,41 @@
 //! The syntax of GraphQL texts.
 //!
+//! [`parse_document`], [`parse_selection_set`] and [`parse_type`] read a text by the grammar of GraphQL October 2021,
+//! appendix B, and give its concrete [`Tree`]: every token of the text, white space and comments included, in the nodes
+//! of the grammar. They stop at the first thing that is wrong, which is the [`CstError`] of what was [`Parsed`], or at
+//! one of the [`Limits`].
+//!
 //! A [`Lexer`] cuts a text into [`Token`]s, each with its [`TokenKind`] and its range of bytes, or gives the
 //! [`CstError`] that stands in place of one. [`string_value`] and [`block_string_value`] give the characters
 //! that the token of a string stands for; [`is_block_string`] tells which of the two it is.
 //!
-//! The rules are those of section 2.1 and, for the values of strings, 2.9.4 of GraphQL October 2021.
+//! The rules of tokens are those of section 2.1 and, for the values of strings, 2.9.4 of GraphQL October 2021.
 //!
 //! ```
-//! let mut lexer = Lexer::new("{ name }");
-//! let Some(Ok(token)) = lexer.next_token() else { return };
-//! // token.kind is TokenKind::Punctuator, and token.range is 0..1
+//! let limits = Limits { recursion: 500, tokens: None };
+//! let parsed = parse_document(alloc, "{ name }", &limits)?;
+//! // parsed.error is None, parsed.tree.kind() is SyntaxKind::Document, and parsed.tokens_reached is 5
 //! ```
 #![tactic(auto)]
 
+mod count;
+#[cfg(test)]
+mod grammar_tests;
+mod limits;
+mod machine;
+mod parse;
+mod parser;
 #[cfg(test)]
 mod tests;
+mod tree;
+mod turn;
+mod word;
 
+pub use gql_cst_grammar::SyntaxKind;
 pub use gql_cst_lexer::{
     CstError, Lexer, SyntaxFault, Token, TokenKind, block_string_value, is_block_string,
     string_value,
 };
+pub use limits::{Limits, Parsed};
+pub use parse::{parse_document, parse_selection_set, parse_type};
+pub use tree::{Nodes, Tree};

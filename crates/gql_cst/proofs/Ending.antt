@@ -1,0 +1,195 @@
+-- A parser that goes on by a token, or stops.
+use Rattle.std.proofs.Common.{◌≡◌, ℕ, ◌+◌, ◌<◌, ◌≤◌, inl, inr, Bool, true, false, List, [], ◌∷◌, ◌++◌, map, length, Option, Some, None, refl, ◌∙◌, sym, ap, subst, arith, length-append}
+use Rattle.std.specs.declared.ops.Range.{Range}
+use Rattle.gql_cst_lexer.specs.declared.error.CstError.{CstError}
+use Rattle.gql_cst_lexer.specs.declared.error.CstError.TheVariants.{Syntax, RecursionLimit}
+use Rattle.gql_cst_lexer.specs.declared.error.SyntaxFault.TheVariants.{EndOfText, BadToken}
+use Rattle.gql_cst_grammar.specs.declared.word.Word.{Word}
+use Rattle.gql_cst_grammar.specs.declared.rule.Rule.{Rule}
+use Rattle.gql_cst_grammar.specs.declared.syntax_kind.SyntaxKind.TheVariants as kind
+use Rattle.gql_cst.specs.declared.turn.Turn.{Turn}
+use Rattle.gql_cst.specs.declared.turn.Turn.TheVariants as turn
+use Rattle.gql_cst.specs.declared.machine.Machine.{Machine}
+use Rattle.gql_cst.specs.declared.parser.Parser.{Parser}
+use Rattle.gql_cst.specs.declared.tree.Tree.{Tree}
+use Rattle.gql_cst.specs.Forest.{Plain, plain, nothing}
+use Rattle.gql_cst.specs.Leaves.{Leaf, ignored, leaves_of, IsLeaf}
+use Rattle.gql_cst.specs.Nesting.{nesting_of}
+use Rattle.gql_cst_grammar.specs.declared.symbol.Symbol.{Symbol}
+use Rattle.gql_cst_grammar.specs.declared.symbol.Symbol.TheVariants.{Token, One, Optional, Repeated, Eager, Wrap, Close}
+use Rattle.gql_cst.specs.Machine.{State, Turned, closed_in, turned_at, Settles, takes_it, refuses_it, finishes, later, Judges, told, grown}
+use Rattle.gql_cst.specs.Held.{state}
+use Rattle.gql_cst.specs.Sound.{IsSound}
+use Rattle.gql_cst.specs.Outcome.{IsWithin}
+use Rattle.gql_cst.specs.Progress.{IsRead, IsUnderway, HasStopped, SameText, word_leaf}
+use Rattle.std.proofs.lemmas.List.{map-append}
+use Rattle.gql_cst.proofs.Rows.{nesting_of-append}
+use Rattle.gql_cst.proofs.Sounds.{Keeps, state_of, along, judges_keep, grown_keeps}
+use Rattle.gql_cst.proofs.Held.{held, tiles-then, held-keeps, held-ignored, held-grown, depth-held}
+
+state_of-told : (t : Turn) (s : State) → state_of (told t s) ≡ s
+state_of-told turn.Again s = refl
+state_of-told turn.Taken s = refl
+state_of-told turn.Refused s = refl
+state_of-told turn.Finished s = refl
+
+pub keeps_told : (start : Rule) (next : Option Word) (begun : Bool) (t : Turn) (s new : State) → IsSound s → Judges start next begun s (told t new) → Keeps s new
+keeps_told start next begun t s new h j = along s new _ (sym (state_of-told t new)) (judges_keep start next begun s (told t new) h j)
+
+pub limit_stops : (p : Parser) (range : Range ℕ) → IsUnderway p range.start → IsLeaf p.text.now range.start (word_leaf range)
+    → p.limits.recursion < p.machine.deepest → HasStopped p range.start (Some (RecursionLimit range))
+limit_stops p range h l past = record {
+  tiles = h.tiles;
+  sound = h.sound;
+  flat = h.flat;
+  stops = (omega (arith, past, depth-held (state p.machine) (map plain p.ignored.items) h.sound h.flat), inr (l, h.counted), h.within);
+}
+
+pub limit_ends : (p : Parser) → IsRead p (length p.text.now) → p.limits.recursion < p.machine.deepest
+    → HasStopped p (length p.text.now) (Some (RecursionLimit (record { start = length p.text.now; end = length p.text.now })))
+limit_ends p h past = record {
+  tiles = h.tiles;
+  sound = h.sound;
+  flat = h.flat;
+  stops = (omega (arith, past, depth-held (state p.machine) (map plain p.ignored.items) h.sound h.flat), inl ((refl, refl, refl), h.counted), h.within);
+}
+
+-- a word was judged
+pub judged : (p : Parser) (m : Machine) (b : Bool) (t : Turn) (next : Option Word) (place : ℕ) → IsUnderway p place
+    → Judges p.start next p.begun (state p.machine) (told t (state m)) → IsUnderway (record p { machine = m; begun = b }) place
+judged p m b t next place h j =
+    let k = keeps_told p.start next p.begun t (state p.machine) (state m) h.sound j in
+    let e = held-keeps (state p.machine) (state m) (map plain p.ignored.items) k in
+    record { tiles = rw e h.tiles; counted = rw e h.counted; within = h.within; sound = k.sound; flat = h.flat }
+
+pub judged_end : (p : Parser) (m : Machine) (b : Bool) (t : Turn) (place : ℕ) → IsRead p place
+    → Judges p.start None p.begun (state p.machine) (told t (state m)) → IsRead (record p { machine = m; begun = b }) place
+judged_end p m b t place h j =
+    let k = keeps_told p.start None p.begun t (state p.machine) (state m) h.sound j in
+    let e = held-keeps (state p.machine) (state m) (map plain p.ignored.items) k in
+    record { tiles = rw e h.tiles; counted = rw e h.counted; within = h.within; sound = k.sound; flat = h.flat }
+
+pub bad_stops : (p : Parser) (range : Range ℕ) → IsUnderway p range.start → IsLeaf p.text.now range.start (word_leaf range) → p.machine.deepest ≤ p.limits.recursion
+    → HasStopped p range.start (Some (Syntax BadToken range))
+bad_stops p range h l low = record {
+  tiles = h.tiles;
+  sound = h.sound;
+  flat = h.flat;
+  stops = ((l, h.counted, omega (arith, low, depth-held (state p.machine) (map plain p.ignored.items) h.sound h.flat)), h.within);
+}
+
+length-one : (ls : List Leaf) (l : Leaf) → length (ls ++ (l ∷ [])) ≡ length ls + 1
+length-one ls l = omega (arith, length-append ls (l ∷ []))
+
+-- a word was taken
+pub takes_word : (p q : Parser) (tree : Tree) (range : Range ℕ) → IsUnderway p range.start → IsLeaf p.text.now range.start (word_leaf range)
+    → plain tree ≡ record { kind = kind.Token; start = range.start; end = range.end; children = nothing }
+    → state q.machine ≡ grown (map plain p.ignored.items ++ (plain tree ∷ [])) (state p.machine) → q.ignored.items ≡ []
+    → IsRead (record p { machine = q.machine; ignored = q.ignored }) range.end
+takes_word p q tree range h l e g none =
+    let ignored = map plain p.ignored.items in
+    let leaf = word_leaf range in
+    let trees = ignored ++ (plain tree ∷ []) in
+    let flat : nesting_of trees ≡ 0 = rw (nesting_of-append ignored (plain tree ∷ []), e, h.flat) refl in
+    let f : held (state q.machine) (map plain q.ignored.items) ≡ held (state p.machine) ignored ++ (leaf ∷ []) =
+    ap (λ i. held (state q.machine) (map plain i)) none ∙ ap (λ s. held s []) g ∙ held-grown (state p.machine) ignored (plain tree) h.sound
+    ∙ ap (λ t. held (state p.machine) ignored ++ leaves_of (t ∷ [])) e in
+    record {
+      tiles = rw f (tiles-then p.text.now 0 (held (state p.machine) ignored) range.start leaf h.tiles l);
+      counted = rw f (h.counted ∙ sym (length-one (held (state p.machine) ignored) leaf));
+      within = h.within;
+      sound = subst (λ (s : State). IsSound s) (sym g) (grown_keeps trees (state p.machine) flat h.sound);
+      flat = ap (λ i. nesting_of (map plain i)) none;
+    }
+
+-- an ignored token was read
+pub passes_ignored : (p q : Parser) (tree : Tree) (range : Range ℕ) (n : ℕ) → IsRead p range.start → IsLeaf p.text.now range.start (record { part = ignored; start = range.start; end = range.end })
+    → plain tree ≡ record { kind = kind.Ignored; start = range.start; end = range.end; children = nothing }
+    → q.ignored.items ≡ p.ignored.items ++ (tree ∷ []) → n ≡ p.tokens + 1 → IsWithin p.limits.tokens n
+    → IsRead (record p { ignored = q.ignored; tokens = n }) range.end
+passes_ignored p q tree range n h l e more counted within =
+    let old = map plain p.ignored.items in
+    let leaf : Leaf = record { part = ignored; start = range.start; end = range.end } in
+    let m : map plain q.ignored.items ≡ old ++ (plain tree ∷ []) = ap (λ i. map plain i) more ∙ map-append plain p.ignored.items (tree ∷ []) in
+    let none_more : nesting_of (old ++ (plain tree ∷ [])) ≡ 0 = rw (nesting_of-append old (plain tree ∷ []), e, h.flat) refl in
+    let f : held (state p.machine) (map plain q.ignored.items) ≡ held (state p.machine) old ++ (leaf ∷ []) =
+    ap (λ i. held (state p.machine) i) m ∙ held-ignored (state p.machine) old (plain tree) ∙ ap (λ t. held (state p.machine) old ++ leaves_of (t ∷ [])) e in
+    record {
+      tiles = rw f (tiles-then p.text.now 0 (held (state p.machine) old) range.start leaf h.tiles l);
+      counted = rw f (counted ∙ ap (λ z. z + 1) h.counted ∙ sym (length-one (held (state p.machine) old) leaf));
+      within = within;
+      sound = h.sound;
+      flat = ap nesting_of m ∙ none_more;
+    }
+
+-- ---- the end of the text
+
+-- nothing new begins there
+still_closed : (k : _) (rows : List (List Plain)) (s : State) → (closed_in k rows s).deepest ≡ s.deepest
+still_closed k [] s = refl
+still_closed k (outer ∷ rows) s = refl
+
+still_at : (stack : List Symbol) (s : State) → (state_of (turned_at None stack s)).deepest ≡ s.deepest
+still_at [] s = refl
+still_at (Token t ∷ stack) s = refl
+still_at (One r ∷ stack) s = refl
+still_at (Optional r ∷ stack) s = refl
+still_at (Eager r ∷ stack) s = refl
+still_at (Repeated r ∷ stack) s = refl
+still_at (Wrap k ∷ stack) s = refl
+still_at (Close k ∷ stack) s = still_closed k s.rows (record s { stack = stack })
+
+still_settles : (s : State) (end : Turned) → Settles None s end → (state_of end).deepest ≡ s.deepest
+still_settles s _ (takes_it e) = ap (λ t. (state_of t).deepest) (sym e) ∙ still_at s.stack s
+still_settles s _ (refuses_it e) = ap (λ t. (state_of t).deepest) (sym e) ∙ still_at s.stack s
+still_settles s _ (finishes e) = ap (λ t. (state_of t).deepest) (sym e) ∙ still_at s.stack s
+still_settles s end (later {new = new} e more) = still_settles new end more ∙ ap (λ t. (state_of t).deepest) (sym e) ∙ still_at s.stack s
+
+still_judges : (start : Rule) (begun : Bool) (s : State) (end : Turned) → Judges start None begun s end → (state_of end).deepest ≡ s.deepest
+still_judges start true s end j = still_settles s end j
+still_judges start false s end j = ap (λ t. (state_of t).deepest) j
+
+-- the end of the text was judged
+pub ends_at : (p : Parser) (m : Machine) (b : Bool) (t : Turn) → IsRead p (length p.text.now) → p.machine.deepest ≤ p.limits.recursion
+    → Judges p.start None p.begun (state p.machine) (told t (state m)) → HasStopped (record p { machine = m; begun = b }) (length p.text.now) None
+ends_at p m b t h low j =
+    let r = judged_end p m b t (length p.text.now) h j in
+    let d : m.deepest ≡ p.machine.deepest = ap (λ s. s.deepest) (sym (state_of-told t (state m))) ∙ still_judges p.start p.begun (state p.machine) (told t (state m)) j in
+    record {
+      tiles = r.tiles;
+      sound = r.sound;
+      flat = r.flat;
+      stops = (refl, r.counted, omega (arith, low, d, depth-held (state m) (map plain p.ignored.items) r.sound r.flat), r.within);
+    }
+
+pub cut_at : (p : Parser) (m : Machine) (b : Bool) (t : Turn) → IsRead p (length p.text.now) → p.machine.deepest ≤ p.limits.recursion
+    → Judges p.start None p.begun (state p.machine) (told t (state m))
+    → HasStopped (record p { machine = m; begun = b }) (length p.text.now) (Some (Syntax EndOfText (record { start = length p.text.now; end = length p.text.now })))
+cut_at p m b t h low j =
+    let e = ends_at p m b t h low j in
+    record { tiles = e.tiles; sound = e.sound; flat = e.flat; stops = (((refl, refl, refl), e.stops.1, e.stops.2), e.stops.3) }
+
+-- what changed is the machine, and whether the rule of the whole text has begun
+abbrev pub Moved : Parser → Parser → Type 0
+Moved p q = q ≡ record p { machine = q.machine; begun = q.begun }
+
+pub same_text : (p q : Parser) → Moved p q → SameText p q
+same_text p q e = record { text = ap (λ r. r.text) e; limits = ap (λ r. r.limits) e; start = ap (λ r. r.start) e }
+
+pub moved_end : (p q : Parser) (t : Turn) → Moved p q → IsRead p (length p.text.now) → p.machine.deepest ≤ p.limits.recursion
+    → Judges p.start None p.begun (state p.machine) (told t (state q.machine)) → HasStopped q (length q.text.now) None
+moved_end p q t e h low j = subst (λ (r : Parser). HasStopped r (length r.text.now) None) (sym e) (ends_at p q.machine q.begun t h low j)
+
+pub moved_cut : (p q : Parser) (t : Turn) → Moved p q → IsRead p (length p.text.now) → p.machine.deepest ≤ p.limits.recursion
+    → Judges p.start None p.begun (state p.machine) (told t (state q.machine))
+    → HasStopped q (length q.text.now) (Some (Syntax EndOfText (record { start = length p.text.now; end = length p.text.now })))
+moved_cut p q t e h low j =
+    let error : Option CstError = Some (Syntax EndOfText (record { start = length p.text.now; end = length p.text.now })) in
+    subst (λ (r : Parser). HasStopped r (length r.text.now) error) (sym e) (cut_at p q.machine q.begun t h low j)
+
+pub moved_underway : (p q : Parser) (t : Turn) (next : Option Word) (place : ℕ) → Moved p q → IsUnderway p place
+    → Judges p.start next p.begun (state p.machine) (told t (state q.machine)) → IsUnderway q place
+moved_underway p q t next place e h j = subst (λ (r : Parser). IsUnderway r place) (sym e) (judged p q.machine q.begun t next place h j)
+
+pub moved_leaf : (p q : Parser) (place : ℕ) (leaf : Leaf) → Moved p q → IsLeaf p.text.now place leaf → IsLeaf q.text.now place leaf
+moved_leaf p q place leaf e l = subst (λ (r : Parser). IsLeaf r.text.now place leaf) (sym e) l

@@ -1,0 +1,278 @@
+-- What a parser's steps tell of the sentences of the grammar.
+use Rattle.std.proofs.Common.{◌≡◌, ℕ, Bool, true, false, List, [], ◌∷◌, ◌++◌, map, Option, Some, None, is_some, refl, ◌∙◌, sym, ap, subst, append_assoc, ◌<◌, ◌≤◌, arith}
+use Rattle.std.specs.Prelude.{slice_range}
+use Rattle.std.proofs.lemmas.List.{map-append}
+use Rattle.std.specs.declared.ops.Range.{Range}
+use Rattle.gql_cst_lexer.specs.declared.error.CstError.{CstError}
+use Rattle.gql_cst_lexer.specs.declared.error.CstError.TheVariants.{Syntax, RecursionLimit, TokenLimit}
+use Rattle.gql_cst_lexer.specs.declared.error.SyntaxFault.TheVariants.{EndOfText, BadCharacter, OpenString, BadEscape, BadNumber, BadToken}
+use Rattle.gql_cst_lexer.specs.Reading.{Reading, ReadsError}
+use Rattle.gql_cst_grammar.specs.declared.word.Word.{Word}
+use Rattle.gql_cst_grammar.specs.declared.rule.Rule.{Rule}
+use Rattle.gql_cst_grammar.specs.declared.symbol.Symbol.{Symbol}
+use Rattle.gql_cst_grammar.specs.declared.syntax_kind.SyntaxKind.{SyntaxKind}
+use Rattle.gql_cst_grammar.specs.declared.syntax_kind.SyntaxKind.TheVariants as kind
+use Rattle.gql_cst_grammar.specs.Reads.{Sentence, IsBeginning}
+use Rattle.gql_cst_grammar.specs.Row as row
+use Rattle.gql_cst_grammar.specs.Row.{Row, joined, with_leaf}
+use Rattle.gql_cst_grammar.specs.Rule.{kind_of}
+use Rattle.gql_cst_grammar.specs.Stands.{BetweenIn, way_at}
+use Rattle.gql_cst_grammar.proofs.Unique.{Sentence-unique}
+use Rattle.gql_cst_grammar.proofs.Rooted.{none_beginning, look_in, begun_in, accepted_in}
+use Rattle.gql_cst.specs.declared.turn.Turn.{Turn}
+use Rattle.gql_cst.specs.declared.turn.Turn.TheVariants as turn
+use Rattle.gql_cst.specs.declared.machine.Machine.{Machine}
+use Rattle.gql_cst.specs.declared.parser.Parser.{Parser}
+use Rattle.gql_cst.specs.declared.tree.Tree.{Tree}
+use Rattle.gql_cst.specs.Forest.{plain, nothing}
+use Rattle.gql_cst.specs.Leaves.{Leaf, leaves_of}
+use Rattle.gql_cst.specs.Held.{state}
+use Rattle.gql_cst.specs.Judged.{words_of, word_in, IsStood, IsJudged}
+use Rattle.gql_cst.specs.Machine.{State, Turned, again, taken, refused, finished, Settles, takes_it, refuses_it, finishes, later, Begins, Judges, told, ended, all_ended, grown}
+use Rattle.gql_cst.specs.Sentences.{words, own_word, shown_of, root_kind, Stood}
+use Rattle.gql_cst.specs.Sound.{IsSound}
+use Rattle.gql_cst.specs.Words.{word_of}
+use Rattle.gql_cst.proofs.Ending.{Moved, keeps_told}
+use Rattle.gql_cst.proofs.Held.{held, held-keeps, held-ignored, held-grown}
+use Rattle.gql_cst.proofs.Begun.{Closed, judges_closed}
+use Rattle.gql_cst.proofs.Deeper.{deeper}
+use Rattle.gql_cst.proofs.Verdicts.{shown_of-append, Verdict, judges_verdict}
+
+-- ---- words
+
+pub words-append : (text : List ℕ) (xs ys : List Leaf) → words text (xs ++ ys) ≡ words text xs ++ words text ys
+words-append text [] ys = refl
+words-append text (x ∷ xs) ys =
+    let own = own_word x.part (word_of (slice_range text x.start x.end)) in
+    ap (λ z. own ++ z) (words-append text xs ys) ∙ sym (append_assoc own (words text xs) (words text ys))
+
+nil : {A : Type 0} (xs : List A) → xs ++ [] ≡ xs
+nil [] = refl
+nil (x ∷ xs) = ap (λ ys. x ∷ ys) (nil xs)
+
+joined-nothing : (x : Row) → joined x row.nothing ≡ x
+joined-nothing row.nothing = refl
+joined-nothing (row.leaf w x) = ap (λ y. row.leaf w y) (joined-nothing x)
+joined-nothing (row.node k inner x) = ap (λ y. row.node k inner y) (joined-nothing x)
+
+-- ---- what was read begins a sentence
+
+begins_at : (start : Rule) (text : List ℕ) (begun : Bool) (s : State) (before : List Word) → is_some (kind_of start) ≡ true → Stood start text begun s before → IsBeginning start before
+begins_at start text true s before h stood = begun_in (look_in stood None)
+begins_at start text false s before h stood = subst (λ (ws : List Word). IsBeginning start ws) (sym stood.1) (none_beginning start h)
+
+pub begins : (p : Parser) → IsStood p → IsBeginning p.start (words_of p)
+begins p h = begins_at p.start p.text.now p.begun (state p.machine) (words_of p) h.starts h.stood
+
+pub limit_judged : (p : Parser) (range : Range ℕ) → IsSound (state p.machine) → IsStood p → p.limits.recursion < p.machine.deepest → IsJudged p (Some (RecursionLimit range))
+limit_judged p range sound h past = record {
+  begins = begins p h;
+  judged = λ more other d.
+      omega (arith, past, deeper p.start p.text.now p.begun (state p.machine) (words_of p) sound h.stood more other d);
+}
+
+pub token_limit_judged : (p : Parser) (n : ℕ) (range : Range ℕ) → IsStood p → IsJudged (record p { tokens = n }) (Some (TokenLimit range))
+token_limit_judged p n range h = record { begins = begins p h; judged = tt }
+
+-- a fault of the text itself
+pub fault_judged : (p : Parser) (old new : Reading) (error : CstError) → IsStood p → ReadsError old new error → IsJudged p (Some error)
+fault_judged p old new (Syntax BadCharacter range) h f = record { begins = begins p h; judged = tt }
+fault_judged p old new (Syntax OpenString range) h f = record { begins = begins p h; judged = tt }
+fault_judged p old new (Syntax BadEscape range) h f = record { begins = begins p h; judged = tt }
+fault_judged p old new (Syntax BadNumber range) h f = record { begins = begins p h; judged = tt }
+fault_judged p old new (Syntax EndOfText range) h f = absurd f.stands
+fault_judged p old new (Syntax BadToken range) h f = absurd f.stands
+fault_judged p old new (RecursionLimit range) h f = absurd f
+fault_judged p old new (TokenLimit range) h f = absurd f
+
+-- ---- a judged word
+
+abbrev IsEnd : Turned → Type 0
+IsEnd (again s) = ⊥
+IsEnd (taken s) = Unit {0}
+IsEnd (refused s) = Unit {0}
+IsEnd (finished s) = Unit {0}
+
+settles_end : (next : Option Word) (s : State) (end : Turned) → Settles next s end → IsEnd end
+settles_end next s _ (takes_it e) = tt
+settles_end next s _ (refuses_it e) = tt
+settles_end next s _ (finishes e) = tt
+settles_end next s end (later {new = new} e more) = settles_end next new end more
+
+begins_end : (w : Option (List Symbol)) (next : Option Word) (s : State) (end : Turned) → Begins w next s end → IsEnd end
+begins_end None next s end e = subst (λ (t : Turned). IsEnd t) (sym e) tt
+begins_end (Some a) next s end h = settles_end next _ end h
+
+judges_end : (start : Rule) (next : Option Word) (begun : Bool) (s : State) (end : Turned) → Judges start next begun s end → IsEnd end
+judges_end start next true s end j = settles_end next s end j
+judges_end start next false s end j = begins_end (way_at start next) next s end j
+
+refuses : (start : Rule) (k : SyntaxKind) (text : List ℕ) (before : List Word) (w : Word) (t : Turn) (s : State) → IsEnd (told t s) → (t ≡ turn.Taken → ⊥)
+    → Verdict start k text before (Some w) (told t s) → IsBeginning start (before ++ (w ∷ [])) → ⊥
+refuses start k text before w turn.Again s end not v = absurd end
+refuses start k text before w turn.Taken s end not v = absurd (not refl)
+refuses start k text before w turn.Refused s end not v = v
+refuses start k text before w turn.Finished s end not v = v
+
+bad_at : (p : Parser) (m : Machine) (b : Bool) (t : Turn) (w : Word) (range : Range ℕ) → IsSound (state p.machine) → IsStood p → w ≡ word_in p.text.now range
+    → (t ≡ turn.Taken → ⊥) → Judges p.start (Some w) p.begun (state p.machine) (told t (state m)) → IsJudged (record p { machine = m; begun = b }) (Some (Syntax BadToken range))
+bad_at p m b t w range sound h is not j =
+    let v = judges_verdict p.start p.text.now (Some w) p.begun (state p.machine) (words_of p) (told t (state m)) h.starts sound h.stood j in
+    let no : IsBeginning p.start (words_of p ++ (word_in p.text.now range ∷ [])) → ⊥ =
+    subst (λ (v : Word). IsBeginning p.start (words_of p ++ (v ∷ [])) → ⊥) is
+    (refuses p.start (root_kind p.start) p.text.now (words_of p) w t (state m) (judges_end p.start (Some w) p.begun (state p.machine) (told t (state m)) j) not v) in
+    let same : words_of p ≡ words p.text.now (held (state m) (map plain p.ignored.items)) =
+    ap (λ ls. words p.text.now ls) (sym (held-keeps (state p.machine) (state m) (map plain p.ignored.items) (keeps_told p.start (Some w) p.begun t (state p.machine) (state m) sound j))) in
+    record {
+      begins = subst (λ (ws : List Word). IsBeginning p.start ws) same (begins p h);
+      judged = subst (λ (ws : List Word). IsBeginning p.start (ws ++ (word_in p.text.now range ∷ [])) → ⊥) same no;
+    }
+
+pub bad_judged : (p q : Parser) (t : Turn) (w : Word) (range : Range ℕ) → Moved p q → IsSound (state p.machine) → IsStood p → w ≡ word_in p.text.now range
+    → (t ≡ turn.Taken → ⊥) → Judges p.start (Some w) p.begun (state p.machine) (told t (state q.machine)) → IsJudged q (Some (Syntax BadToken range))
+bad_judged p q t w range e sound h is not j = subst (λ (r : Parser). IsJudged r (Some (Syntax BadToken range))) (sym e) (bad_at p q.machine q.begun t w range sound h is not j)
+
+closed_at : (t : Turn) (s : State) (d : ℕ) → IsEnd (told t s) → (t ≡ turn.Taken → ⊥) → Closed d (told t s) → s.deepest ≡ d
+closed_at turn.Again s d end not c = absurd end
+closed_at turn.Taken s d end not c = absurd (not refl)
+closed_at turn.Refused s d end not c = c
+closed_at turn.Finished s d end not c = c
+
+-- it opened no level
+pub bad_low : (p q : Parser) (t : Turn) (w : Word) → Moved p q → p.machine.deepest ≤ p.limits.recursion → (t ≡ turn.Taken → ⊥)
+    → Judges p.start (Some w) p.begun (state p.machine) (told t (state q.machine)) → q.machine.deepest ≤ q.limits.recursion
+bad_low p q t w e low not j =
+    let end = told t (state q.machine) in
+    let same : q.machine.deepest ≡ p.machine.deepest =
+    closed_at t (state q.machine) p.machine.deepest (judges_end p.start (Some w) p.begun (state p.machine) end j) not (judges_closed p.start w p.begun (state p.machine) end j) in
+    let limit : q.limits.recursion ≡ p.limits.recursion = ap (λ r. r.limits.recursion) e in
+    omega arith
+
+-- ---- a taken word
+
+took_at : (p : Parser) (s : State) (m : Machine) (tree : Tree) (w : Word) (range : Range ℕ) → IsSound (state p.machine) → IsStood p → w ≡ word_in p.text.now range
+    → Judges p.start (Some w) p.begun (state p.machine) (taken s) → plain tree ≡ record { kind = kind.Token; start = range.start; end = range.end; children = nothing }
+    → state m ≡ grown (map plain p.ignored.items ++ (plain tree ∷ [])) s
+    → (before : List Word) → before ≡ words_of p ++ (w ∷ [])
+    → Stood p.start p.text.now true (state m) before
+took_at p s m tree w range sound h is j leaf g before b =
+    let text = p.text.now in
+    let ignored = map plain p.ignored.items in
+    let v : BetweenIn p.start (root_kind p.start) (words_of p ++ (w ∷ [])) s.stack (with_leaf (shown_of text s.row) w) (map (shown_of text) s.rows) =
+    judges_verdict p.start text (Some w) p.begun (state p.machine) (words_of p) (taken s) h.starts sound h.stood j in
+    let one : shown_of text (plain tree ∷ []) ≡ row.leaf w row.nothing = ap (λ t. shown_of text (t ∷ [])) leaf ∙ ap (λ u. row.leaf u row.nothing) (sym is) in
+    let both : shown_of text (ignored ++ (plain tree ∷ [])) ≡ row.leaf w row.nothing =
+    shown_of-append text ignored (plain tree ∷ []) ∙ ap (λ x. joined x (shown_of text (plain tree ∷ []))) h.hidden ∙ one in
+    let all : shown_of text (s.row ++ (ignored ++ (plain tree ∷ []))) ≡ with_leaf (shown_of text s.row) w =
+    shown_of-append text s.row (ignored ++ (plain tree ∷ [])) ∙ ap (λ x. joined (shown_of text s.row) x) both in
+    let v2 = subst (λ (x : Row). BetweenIn p.start (root_kind p.start) (words_of p ++ (w ∷ [])) s.stack x (map (shown_of text) s.rows)) (sym all) v in
+    let v3 = subst (λ (ws : List Word). BetweenIn p.start (root_kind p.start) ws s.stack (shown_of text (s.row ++ (ignored ++ (plain tree ∷ [])))) (map (shown_of text) s.rows)) (sym b) v2 in
+    subst (λ (x : State). Stood p.start text true x before) (sym g) v3
+
+words-grown : (p q : Parser) (m : Machine) (tree : Tree) (w : Word) (range : Range ℕ) (s : State) → IsSound (state p.machine) → w ≡ word_in p.text.now range
+    → Judges p.start (Some w) p.begun (state p.machine) (taken s) → plain tree ≡ record { kind = kind.Token; start = range.start; end = range.end; children = nothing }
+    → (mm : Machine) → state mm ≡ s → state q.machine ≡ grown (map plain p.ignored.items ++ (plain tree ∷ [])) s → q.ignored.items ≡ []
+    → words p.text.now (held (state q.machine) (map plain q.ignored.items)) ≡ words_of p ++ (w ∷ [])
+words-grown p q m tree w range s sound is j leaf mm e g none =
+    let text = p.text.now in
+    let ignored = map plain p.ignored.items in
+    let k = keeps_told p.start (Some w) p.begun turn.Taken (state p.machine) s sound j in
+    let f : held (state q.machine) (map plain q.ignored.items) ≡ held (state p.machine) ignored ++ leaves_of (plain tree ∷ []) =
+    ap (λ i. held (state q.machine) (map plain i)) none ∙ ap (λ x. held x []) g ∙ held-grown s ignored (plain tree) k.sound
+    ∙ ap (λ ls. ls ++ leaves_of (plain tree ∷ [])) (held-keeps (state p.machine) s ignored k) in
+    let one : words text (leaves_of (plain tree ∷ [])) ≡ w ∷ [] = ap (λ t. words text (leaves_of (t ∷ []))) leaf ∙ ap (λ u. u ∷ []) (sym is) in
+    ap (λ ls. words text ls) f ∙ words-append text (held (state p.machine) ignored) (leaves_of (plain tree ∷ [])) ∙ ap (λ z. words_of p ++ z) one
+
+took_in : (p q : Parser) (m : Machine) (b : Bool) (tree : Tree) (w : Word) (range : Range ℕ) → b ≡ true → IsSound (state p.machine) → IsStood p → w ≡ word_in p.text.now range
+    → Judges p.start (Some w) p.begun (state p.machine) (taken (state m)) → plain tree ≡ record { kind = kind.Token; start = range.start; end = range.end; children = nothing }
+    → state q.machine ≡ grown (map plain p.ignored.items ++ (plain tree ∷ [])) (state m) → q.ignored.items ≡ []
+    → IsStood (record p { machine = q.machine; begun = b; ignored = q.ignored })
+took_in p q m b tree w range begun sound h is j leaf g none =
+    let before = words p.text.now (held (state q.machine) (map plain q.ignored.items)) in
+    let stood = took_at p (state m) q.machine tree w range sound h is j leaf g before (words-grown p q m tree w range (state m) sound is j leaf m refl g none) in
+    record {
+      starts = h.starts;
+      hidden = ap (λ i. shown_of p.text.now (map plain i)) none;
+      stood = subst (λ (x : Bool). Stood p.start p.text.now x (state q.machine) before) (sym begun) stood;
+    }
+
+pub took_stands : (p q r : Parser) (t : Turn) (tree : Tree) (w : Word) (range : Range ℕ) → Moved p q → t ≡ turn.Taken → q.begun ≡ true → IsSound (state p.machine) → IsStood p → w ≡ word_in p.text.now range
+    → Judges p.start (Some w) p.begun (state p.machine) (told t (state q.machine)) → plain tree ≡ record { kind = kind.Token; start = range.start; end = range.end; children = nothing }
+    → state r.machine ≡ grown (map plain q.ignored.items ++ (plain tree ∷ [])) (state q.machine) → r.ignored.items ≡ []
+    → IsStood (record q { machine = r.machine; ignored = r.ignored })
+took_stands p q r t tree w range e is_taken begun sound h is j leaf g none =
+    let j2 = subst (λ (x : Turn). Judges p.start (Some w) p.begun (state p.machine) (told x (state q.machine))) is_taken j in
+    let g2 = subst (λ (i : _). state r.machine ≡ grown (map plain i ++ (plain tree ∷ [])) (state q.machine)) (ap (λ x. x.ignored.items) e) g in
+    subst (λ (x : Parser). IsStood (record x { machine = r.machine; ignored = r.ignored })) (sym e)
+    (took_in p r q.machine q.begun tree w range begun sound h is j2 leaf g2 none)
+
+-- ---- an ignored token
+
+pub ignored_stands : (p q : Parser) (tree : Tree) (range : Range ℕ) (n : ℕ) → IsStood p
+    → plain tree ≡ record { kind = kind.Ignored; start = range.start; end = range.end; children = nothing } → q.ignored.items ≡ p.ignored.items ++ (tree ∷ [])
+    → IsStood (record p { ignored = q.ignored; tokens = n })
+ignored_stands p q tree range n h leaf more =
+    let text = p.text.now in
+    let old = map plain p.ignored.items in
+    let m : map plain q.ignored.items ≡ old ++ (plain tree ∷ []) = ap (λ i. map plain i) more ∙ map-append plain p.ignored.items (tree ∷ []) in
+    let hidden = ap (shown_of text) m ∙ shown_of-append text old (plain tree ∷ []) ∙ ap (λ x. joined x (shown_of text (plain tree ∷ []))) h.hidden ∙ ap (λ t. shown_of text (t ∷ [])) leaf in
+    let f : words_of p ≡ words text (held (state p.machine) (map plain q.ignored.items)) =
+    sym (ap (λ i. words text (held (state p.machine) i)) m ∙ ap (λ ls. words text ls) (held-ignored (state p.machine) old (plain tree))
+    ∙ words-append text (held (state p.machine) old) (leaves_of (plain tree ∷ [])) ∙ ap (λ t. words_of p ++ words text (leaves_of (t ∷ []))) leaf ∙ nil (words_of p)) in
+    record {
+      starts = h.starts;
+      hidden = hidden;
+      stood = subst (λ (ws : List Word). Stood p.start text p.begun (state p.machine) ws) f h.stood;
+    }
+
+-- ---- the end of the text
+
+cut_at : (p : Parser) (m : Machine) (b : Bool) (t : Turn) (range : Range ℕ) → IsSound (state p.machine) → IsStood p
+    → (t ≡ turn.Finished → ⊥) → Judges p.start None p.begun (state p.machine) (told t (state m)) → IsJudged (record p { machine = m; begun = b }) (Some (Syntax EndOfText range))
+cut_at p m b t range sound h not j =
+    let v = judges_verdict p.start p.text.now None p.begun (state p.machine) (words_of p) (told t (state m)) h.starts sound h.stood j in
+    let no : (f : Row) → Sentence p.start (words_of p) f → ⊥ =
+    too_short p.start (root_kind p.start) p.text.now (words_of p) t (state m) (judges_end p.start None p.begun (state p.machine) (told t (state m)) j) not v in
+    let same : words_of p ≡ words p.text.now (held (state m) (map plain p.ignored.items)) =
+    ap (λ ls. words p.text.now ls) (sym (held-keeps (state p.machine) (state m) (map plain p.ignored.items) (keeps_told p.start None p.begun t (state p.machine) (state m) sound j))) in
+    record {
+      begins = subst (λ (ws : List Word). IsBeginning p.start ws) same (begins p h);
+      judged = subst (λ (ws : List Word). (f : Row) → Sentence p.start ws f → ⊥) same no;
+    }
+  where
+    too_short : (start : Rule) (k : SyntaxKind) (text : List ℕ) (before : List Word) (t : Turn) (s : State) → IsEnd (told t s) → (t ≡ turn.Finished → ⊥)
+        → Verdict start k text before None (told t s) → (f : Row) → Sentence start before f → ⊥
+    too_short start k text before turn.Again s end not v = absurd end
+    too_short start k text before turn.Taken s end not v = absurd v
+    too_short start k text before turn.Refused s end not v = v
+    too_short start k text before turn.Finished s end not v = absurd (not refl)
+
+pub cut_judged : (p q : Parser) (t : Turn) (range : Range ℕ) → Moved p q → IsSound (state p.machine) → IsStood p
+    → (t ≡ turn.Finished → ⊥) → Judges p.start None p.begun (state p.machine) (told t (state q.machine)) → IsJudged q (Some (Syntax EndOfText range))
+cut_judged p q t range e sound h not j = subst (λ (r : Parser). IsJudged r (Some (Syntax EndOfText range))) (sym e) (cut_at p q.machine q.begun t range sound h not j)
+
+whole_at : (p : Parser) (m : Machine) (b : Bool) → IsSound (state p.machine) → IsStood p
+    → Judges p.start None p.begun (state p.machine) (finished (state m)) → IsJudged (record p { machine = m; begun = b }) None
+whole_at p m b sound h j =
+    let text = p.text.now in
+    let ignored = map plain p.ignored.items in
+    let k = root_kind p.start in
+    let v = judges_verdict p.start text None p.begun (state p.machine) (words_of p) (finished (state m)) h.starts sound h.stood j in
+    let s : Sentence p.start (words_of p) (row.node k (shown_of text (state m).row) row.nothing) = accepted_in v.1 in
+    let same : words_of p ≡ words text (held (state m) ignored) =
+    ap (λ ls. words text ls) (sym (held-keeps (state p.machine) (state m) ignored (keeps_told p.start None p.begun turn.Finished (state p.machine) (state m) sound j))) in
+    let all : all_ended (state m) ≡ (state m).row = ap (λ ss. ended ss (state m).row (state m).rows) v.0 in
+    let tree : shown_of text (all_ended (state m) ++ ignored) ≡ shown_of text (state m).row =
+    shown_of-append text (all_ended (state m)) ignored ∙ ap (λ x. joined (shown_of text (all_ended (state m))) x) h.hidden ∙ joined-nothing (shown_of text (all_ended (state m))) ∙ ap (shown_of text) all in
+    let s2 = subst (λ (x : Row). Sentence p.start (words_of p) (row.node k x row.nothing)) (sym tree) s in
+    let s3 = subst (λ (ws : List Word). Sentence p.start ws (row.node k (shown_of text (all_ended (state m) ++ ignored)) row.nothing)) same s2 in
+    record {
+      begins = subst (λ (ws : List Word). IsBeginning p.start ws) same (begins p h);
+      judged = (s3, λ other d. Sentence-unique d s3);
+    }
+
+pub whole_judged : (p q : Parser) (t : Turn) → Moved p q → t ≡ turn.Finished → IsSound (state p.machine) → IsStood p
+    → Judges p.start None p.begun (state p.machine) (told t (state q.machine)) → IsJudged q None
+whole_judged p q t e is sound h j =
+    let j2 = subst (λ (x : Turn). Judges p.start None p.begun (state p.machine) (told x (state q.machine))) is j in
+    subst (λ (r : Parser). IsJudged r None) (sym e) (whole_at p q.machine q.begun sound h j2)

@@ -1,0 +1,11 @@
+pub mod Ways
+pub mod Rows
+pub mod Sounds
+pub mod Held
+pub mod Ending
+pub mod Falls
+pub mod Verdicts
+pub mod Judging
+pub mod Begun
+pub mod Deeper
+pub mod Whole

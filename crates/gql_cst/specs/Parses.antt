@@ -1,0 +1,42 @@
+-- What a parse gives.
+use Rattle.std.specs.Prelude.{◌≡◌, ℕ, ◌≤◌, List, length, Option, None}
+use Rattle.gql_cst_lexer.specs.declared.error.CstError.{CstError}
+use Rattle.gql_cst_grammar.specs.declared.rule.Rule.{Rule}
+use Rattle.gql_cst_grammar.specs.Reads.{Sentence, IsBeginning}
+use Rattle.gql_cst_grammar.specs.Row as row
+use Rattle.gql_cst_grammar.specs.Row.{Row}
+use Rattle.gql_cst.specs.declared.limits.Limits.{Limits}
+use Rattle.gql_cst.specs.declared.limits.Parsed.{Parsed}
+use Rattle.gql_cst.specs.declared.parser.Parser.{Parser}
+use Rattle.gql_cst.specs.Forest.{Forest, plain}
+use Rattle.gql_cst.specs.Judged.{Judged}
+use Rattle.gql_cst.specs.Leaves.{Leaf, leaves, Tiles}
+use Rattle.gql_cst.specs.Nesting.{nesting}
+use Rattle.gql_cst.specs.Outcome.{IsWithin, Stops}
+use Rattle.gql_cst.specs.Progress.{HasStopped}
+use Rattle.gql_cst.specs.Sentences.{root_kind, words, shown}
+
+-- the reading has ended at some place
+abbrev pub Ended : Parser → Option CstError → Type 0
+Ended p error = (place : ℕ) × HasStopped p place error
+
+-- The tree is a tree of the text up to the place: its tokens follow each other from the text's beginning to there. The
+-- counts are those of the tree, and of the token that was refused. The words of the tree begin a sentence of the start.
+-- The error, or that there is none, tells where the reading stopped, and what that says of sentences.
+pub record Parses (start : Rule) (text : List ℕ) (limits : Limits) (parsed : Parsed) (place : ℕ) (children : Forest) : Type 0 where
+  pub tree_kind : (plain parsed.tree).kind ≡ root_kind start
+  pub tree_children : (plain parsed.tree).children ≡ children
+  pub tiles : Tiles text 0 (leaves children) place
+  pub recursion_reached : parsed.recursion_reached ≡ nesting children
+  pub stops : Stops limits (record { text = text; tokens = length (leaves children); depth = nesting children; place = place; read = parsed.tokens_reached }) parsed.error
+  pub begins : IsBeginning start (words text (leaves children))
+  pub judged : Judged (record { start = start; text = text; words = words text (leaves children); row = row.node (root_kind start) (shown text children) row.nothing; recursion = limits.recursion }) parsed.error
+
+-- A text whose tokens are the words of a sentence, within both limits, has no error.
+abbrev pub Accepts : Rule → List ℕ → Limits → Parsed → Type 0
+Accepts start text limits parsed =
+    (tokens : List Leaf) (tree : Row) → Tiles text 0 tokens (length text) → Sentence start (words text tokens) tree
+    → row.nesting tree ≤ limits.recursion → IsWithin limits.tokens (length tokens) → parsed.error ≡ None
+
+abbrev pub IsParse : Rule → List ℕ → Limits → Parsed → Type 0
+IsParse start text limits parsed = (place : ℕ) × (children : Forest) × Parses start text limits parsed place children

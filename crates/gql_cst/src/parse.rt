@@ -1,0 +1,98 @@
+//! Reads a whole text: a document, a selection set, or a reference to a type.
+
+ghost use Rattle.std.specs.Prelude.{◌≡◌, true, IfOk, OnOk, is_some};
+ghost use Rattle.gql_cst.specs.Progress.{IsRead, HasStopped, SameText};
+ghost use Rattle.gql_cst.specs.Judged.{IsStood, IsJudged};
+ghost use Rattle.gql_cst.specs.Parses.{Accepts, Ended, IsParse};
+ghost use Rattle.gql_cst.specs.Sentences.{root_kind};
+ghost use Rattle.gql_cst_grammar.specs.Rule.{kind_of};
+
+use crate::parser::Parser;
+use crate::{CstError, Lexer, Limits, Parsed, SyntaxKind};
+use gql_cst_grammar::Rule;
+use std::alloc::{AllocError, Global};
+
+/// Reads the text up to its end, or to what ends the reading before.
+fn read_all(parser: &mut Parser, text: &str) -> Result<Option<CstError>, AllocError>
+    requires read { IsRead parser.old 0 }
+    requires text { parser.old.text.now ≡ text.now }
+    requires stood { IsStood parser.old }
+    ensures same { OnOk result (SameText parser.old parser.new) }
+    ensures ended { IfOk result (Ended parser.new) }
+    ensures judged { IfOk result (IsJudged parser.new) }
+{
+    let mut lexer = Lexer::new(text);
+    while let Some(found) = lexer.next_token() {
+        match found {
+            Ok(token) => {
+                if let Some(error) = parser.read(token)? {
+                    return Ok(Some(error));
+                }
+            }
+            Err(error) => return Ok(Some(error)),
+        }
+    }
+    parser.end()
+}
+
+/// The tree of the text as far as it can be read by the rule, whose node has the kind.
+fn parse(
+    alloc: Global,
+    start: Rule,
+    kind: SyntaxKind,
+    text: &str,
+    limits: &Limits,
+) -> Result<Parsed, AllocError>
+    requires starts { is_some (kind_of start) ≡ true }
+    requires kind { kind ≡ root_kind start }
+    ensures parse { IfOk result (IsParse start text.now limits.now) }
+    ensures accepts { IfOk result (Accepts start text.now limits.now) }
+{
+    let mut parser = Parser::new(alloc, start, text, *limits);
+    let error = read_all(&mut parser, text)?;
+    parser.parsed(kind, error)
+}
+
+/// The tree of a document (Document, GraphQL October 2021, section 2.2).
+///
+/// Where the tree has no error, it is the one tree of the whole text. Else it holds the tokens before the error, in the
+/// nodes that were open there, and the error is the first in reading order:
+///
+/// - a fault of the text itself, as [`Lexer::next_token`] gives it, where a token is wanted;
+/// - `TokenLimit` at the first token past `limits.tokens`, tokens that the grammar ignores included;
+/// - `RecursionLimit` at the next token that is not ignored, or at the text's end, where the nesting of selection sets,
+///   object values, list values and list types passes `limits.recursion`;
+/// - `BadToken` at the first token with which no document goes on, and `EndOfText` at the end of a text that begins a
+///   document and is none.
+///
+/// `Err` only for want of memory.
+pub fn parse_document(alloc: Global, text: &str, limits: &Limits) -> Result<Parsed, AllocError>
+    ensures parse { IfOk result (IsParse Rule.Document text.now limits.now) }
+    ensures accepts { IfOk result (Accepts Rule.Document text.now limits.now) }
+{
+    parse(alloc, Rule::Document, SyntaxKind::Document, text, limits)
+}
+
+/// The tree of a selection set (SelectionSet, GraphQL October 2021, section 2.4), or of selections without the braces
+/// around them. Its kind is `FieldSet`. The errors are those of [`parse_document`].
+pub fn parse_selection_set(alloc: Global, text: &str, limits: &Limits) -> Result<Parsed, AllocError>
+    ensures parse { IfOk result (IsParse Rule.FieldSet text.now limits.now) }
+    ensures accepts { IfOk result (Accepts Rule.FieldSet text.now limits.now) }
+{
+    parse(alloc, Rule::FieldSet, SyntaxKind::FieldSet, text, limits)
+}
+
+/// The tree of a reference to a type (Type, GraphQL October 2021, section 2.11). Its kind is `TypeReference`. The errors
+/// are those of [`parse_document`].
+pub fn parse_type(alloc: Global, text: &str, limits: &Limits) -> Result<Parsed, AllocError>
+    ensures parse { IfOk result (IsParse Rule.TypeReference text.now limits.now) }
+    ensures accepts { IfOk result (Accepts Rule.TypeReference text.now limits.now) }
+{
+    parse(
+        alloc,
+        Rule::TypeReference,
+        SyntaxKind::TypeReference,
+        text,
+        limits,
+    )
+}
