@@ -1,0 +1,12 @@
+//! The program that tells whether texts are sentences of GraphQL's grammar, over any source and sink.
+#![tactic(auto)]
+
+pub mod program;
+mod reply;
+mod start;
+
+pub use program::run;
+pub use start::Start;
+
+#[cfg(test)]
+mod tests;
