@@ -1,0 +1,172 @@
+//! Documents.
+
+ghost use Rattle.std.specs.Prelude.{◌≡◌, IfOk};
+ghost use Rattle.gql_cst.specs.Forest.{plain, forest};
+ghost use Rattle.gql_ast.specs.Documents as spec;
+ghost use Rattle.gql_ast.specs.Parts as parts;
+
+use crate::convert::Convert;
+use crate::node::is_of;
+use gql_ast_tree::{
+    Definition, DirectiveDefinition, EnumTypeDefinition, EnumTypeExtension, FragmentDefinition,
+    InputObjectTypeDefinition, InputObjectTypeExtension, InterfaceTypeDefinition,
+    InterfaceTypeExtension, ObjectTypeDefinition, ObjectTypeExtension, OperationDefinition,
+    ScalarTypeDefinition, ScalarTypeExtension, SchemaDefinition, SchemaExtension,
+    UnionTypeDefinition, UnionTypeExtension,
+};
+use gql_cst::{SyntaxKind, Tree};
+use gql_source::FileId;
+use jb_text::Memory;
+use std::alloc::Global;
+
+/// The definition of an operation or a fragment.
+#[tactic(auto, unfolding(crate::specs::Documents::executable_definition_of))]
+fn executable_definition(
+    alloc: Global,
+    tree: &Tree,
+    text: &str,
+    file_id: FileId,
+) -> Result<Option<Definition>, Memory>
+    ensures { IfOk result (λ made. made ≡ spec.executable_definition_of text.now file_id (plain tree.now)) }
+{
+    if let Some(found) = OperationDefinition::convert(alloc, tree, text, file_id)? {
+        return Ok(Some(Definition::OperationDefinition(found)));
+    }
+    let found = FragmentDefinition::convert(alloc, tree, text, file_id)?;
+    Ok(found.map(Definition::FragmentDefinition))
+}
+
+/// The definition of a schema or a directive.
+#[tactic(auto, unfolding(crate::specs::Documents::schema_definition_of))]
+fn schema_definition(
+    alloc: Global,
+    tree: &Tree,
+    text: &str,
+    file_id: FileId,
+) -> Result<Option<Definition>, Memory>
+    ensures { IfOk result (λ made. made ≡ spec.schema_definition_of text.now file_id (plain tree.now)) }
+{
+    if let Some(found) = DirectiveDefinition::convert(alloc, tree, text, file_id)? {
+        return Ok(Some(Definition::DirectiveDefinition(found)));
+    }
+    let found = SchemaDefinition::convert(alloc, tree, text, file_id)?;
+    Ok(found.map(Definition::SchemaDefinition))
+}
+
+/// The definition of a type.
+#[tactic(auto, unfolding(crate::specs::Documents::type_definition_of))]
+fn type_definition(
+    alloc: Global,
+    tree: &Tree,
+    text: &str,
+    file_id: FileId,
+) -> Result<Option<Definition>, Memory>
+    ensures { IfOk result (λ made. made ≡ spec.type_definition_of text.now file_id (plain tree.now)) }
+{
+    if let Some(found) = ScalarTypeDefinition::convert(alloc, tree, text, file_id)? {
+        return Ok(Some(Definition::ScalarTypeDefinition(found)));
+    }
+    if let Some(found) = ObjectTypeDefinition::convert(alloc, tree, text, file_id)? {
+        return Ok(Some(Definition::ObjectTypeDefinition(found)));
+    }
+    if let Some(found) = InterfaceTypeDefinition::convert(alloc, tree, text, file_id)? {
+        return Ok(Some(Definition::InterfaceTypeDefinition(found)));
+    }
+    if let Some(found) = UnionTypeDefinition::convert(alloc, tree, text, file_id)? {
+        return Ok(Some(Definition::UnionTypeDefinition(found)));
+    }
+    if let Some(found) = EnumTypeDefinition::convert(alloc, tree, text, file_id)? {
+        return Ok(Some(Definition::EnumTypeDefinition(found)));
+    }
+    let found = InputObjectTypeDefinition::convert(alloc, tree, text, file_id)?;
+    Ok(found.map(Definition::InputObjectTypeDefinition))
+}
+
+/// The extension of a schema or a type.
+#[tactic(auto, unfolding(crate::specs::Documents::extension_of))]
+fn extension(
+    alloc: Global,
+    tree: &Tree,
+    text: &str,
+    file_id: FileId,
+) -> Result<Option<Definition>, Memory>
+    ensures { IfOk result (λ made. made ≡ spec.extension_of text.now file_id (plain tree.now)) }
+{
+    if let Some(found) = SchemaExtension::convert(alloc, tree, text, file_id)? {
+        return Ok(Some(Definition::SchemaExtension(found)));
+    }
+    if let Some(found) = ScalarTypeExtension::convert(alloc, tree, text, file_id)? {
+        return Ok(Some(Definition::ScalarTypeExtension(found)));
+    }
+    if let Some(found) = ObjectTypeExtension::convert(alloc, tree, text, file_id)? {
+        return Ok(Some(Definition::ObjectTypeExtension(found)));
+    }
+    if let Some(found) = InterfaceTypeExtension::convert(alloc, tree, text, file_id)? {
+        return Ok(Some(Definition::InterfaceTypeExtension(found)));
+    }
+    if let Some(found) = UnionTypeExtension::convert(alloc, tree, text, file_id)? {
+        return Ok(Some(Definition::UnionTypeExtension(found)));
+    }
+    if let Some(found) = EnumTypeExtension::convert(alloc, tree, text, file_id)? {
+        return Ok(Some(Definition::EnumTypeExtension(found)));
+    }
+    let found = InputObjectTypeExtension::convert(alloc, tree, text, file_id)?;
+    Ok(found.map(Definition::InputObjectTypeExtension))
+}
+
+/// One way to define something.
+#[tactic(auto, unfolding(crate::specs::Documents::choice_of))]
+fn choice(
+    alloc: Global,
+    tree: &Tree,
+    text: &str,
+    file_id: FileId,
+) -> Result<Option<Definition>, Memory>
+    ensures { IfOk result (λ made. made ≡ spec.choice_of text.now file_id (plain tree.now)) }
+{
+    if let Some(found) = executable_definition(alloc, tree, text, file_id)? {
+        return Ok(Some(found));
+    }
+    if let Some(found) = schema_definition(alloc, tree, text, file_id)? {
+        return Ok(Some(found));
+    }
+    if let Some(found) = type_definition(alloc, tree, text, file_id)? {
+        return Ok(Some(found));
+    }
+    let found = extension(alloc, tree, text, file_id)?;
+    Ok(found)
+}
+
+fn first_choice(
+    alloc: Global,
+    nodes: &[Tree],
+    text: &str,
+    file_id: FileId,
+) -> Result<Option<Definition>, Memory>
+    ensures { IfOk result (λ made. made ≡ parts.first (spec.choice_of text.now file_id) (forest nodes.now)) }
+{
+    for node in nodes {
+        if let Some(found) = choice(alloc, node, text, file_id)? {
+            return Ok(Some(found));
+        }
+    }
+    Ok(None)
+}
+
+impl Convert for Definition {
+    ghost meaning = { spec.definition_of };
+
+    #[tactic(auto, unfolding(crate::specs::Documents::definition_of))]
+    fn convert(
+        alloc: Global,
+        tree: &Tree,
+        text: &str,
+        file_id: FileId,
+    ) -> Result<Option<Definition>, Memory> {
+        if !is_of(tree, SyntaxKind::Definition) {
+            return Ok(None);
+        }
+        let found = first_choice(alloc, tree.children().as_slice(), text, file_id)?;
+        Ok(found)
+    }
+}

@@ -1,0 +1,59 @@
+//! Documents.
+
+ghost use Rattle.std.specs.Prelude.{◌≡◌, IfOk, IsSome};
+ghost use Rattle.std.specs.Map.{lookup};
+ghost use Rattle.gql_source.specs.File.{is_file};
+ghost use Rattle.gql_cst.specs.Forest.{plain};
+ghost use Rattle.gql_ast.specs.Documents as spec;
+
+use crate::convert::gather;
+use gql_ast_tree::Definition;
+use gql_cst::Tree;
+use gql_source::{FileId, SourceMap};
+use jb_text::{Listed, Memory};
+use std::alloc::Global;
+
+/// A document: its definitions, and the files that their locations speak of.
+#[derive(Drop)]
+pub struct Document {
+    pub sources: SourceMap,
+    pub definitions: Listed<Definition>,
+}
+
+impl Document {
+    /// The document of a concrete tree, which is one of the text of the file `file_id` of `sources`.
+    ///
+    /// Definitions that lack a required part are left out. `Err` only for want of memory.
+    pub fn from_cst(
+        alloc: Global,
+        tree: &Tree,
+        file_id: FileId,
+        sources: SourceMap,
+    ) -> Result<Document, Memory>
+        requires { IsSome (lookup (is_file file_id) sources) }
+        ensures sources { IfOk result (λ document. document.sources ≡ sources) }
+        ensures definitions { IfOk result (λ document. document.definitions ≡ spec.definitions (spec.text_of file_id sources) file_id (plain tree.now)) }
+    {
+        let definitions = definitions(alloc, tree, file_id, &sources)?;
+        Ok(Document {
+            sources,
+            definitions,
+        })
+    }
+}
+
+/// The definitions of a concrete tree of the text of the file.
+fn definitions(
+    alloc: Global,
+    tree: &Tree,
+    file_id: FileId,
+    sources: &SourceMap,
+) -> Result<Listed<Definition>, Memory>
+    requires { IsSome (lookup (is_file file_id) sources.now) }
+    ensures { IfOk result (λ made. made ≡ spec.definitions (spec.text_of file_id sources.now) file_id (plain tree.now)) }
+{
+    let file = sources.get(file_id).unwrap();
+    let text = file.source_text();
+    let list = gather(alloc, tree.children().as_slice(), text, file_id)?;
+    Ok(list)
+}

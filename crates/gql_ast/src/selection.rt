@@ -1,0 +1,250 @@
+//! Selections.
+
+ghost use Rattle.std.specs.Prelude.{◌≡◌, IfOk};
+ghost use Rattle.gql_cst.specs.Forest.{plain, forest};
+ghost use Rattle.gql_ast.specs.Parts as parts;
+ghost use Rattle.gql_ast.specs.Selections as spec;
+
+use crate::convert::{Convert, keep};
+use crate::directive::{arguments, directives};
+use crate::node::{child, inside, is_of, location};
+use crate::token::nth_name;
+use crate::type_ref::named_type_in;
+use gql_ast_tree::{Field, FragmentSpread, InlineFragment, Name, Selection};
+use gql_cst::{SyntaxKind, Tree};
+use gql_source::FileId;
+use jb_text::{Listed, Memory};
+use std::alloc::Global;
+
+impl Convert for Selection {
+    ghost meaning = { spec.selection_of };
+
+    fn convert(
+        alloc: Global,
+        tree: &Tree,
+        text: &str,
+        file_id: FileId,
+    ) -> Result<Option<Selection>, Memory> {
+        let made = selection(alloc, tree, text, file_id)?;
+        Ok(made)
+    }
+}
+
+impl Convert for Field {
+    ghost meaning = { spec.field_of };
+
+    fn convert(
+        alloc: Global,
+        tree: &Tree,
+        text: &str,
+        file_id: FileId,
+    ) -> Result<Option<Field>, Memory> {
+        let made = field(alloc, tree, text, file_id)?;
+        Ok(made)
+    }
+}
+
+impl Convert for InlineFragment {
+    ghost meaning = { spec.inline_fragment_of };
+
+    fn convert(
+        alloc: Global,
+        tree: &Tree,
+        text: &str,
+        file_id: FileId,
+    ) -> Result<Option<InlineFragment>, Memory> {
+        let made = inline_fragment(alloc, tree, text, file_id)?;
+        Ok(made)
+    }
+}
+
+impl Convert for FragmentSpread {
+    ghost meaning = { spec.spread_of };
+
+    #[tactic(auto, unfolding(crate::specs::Selections::spread_of))]
+    fn convert(
+        alloc: Global,
+        tree: &Tree,
+        text: &str,
+        file_id: FileId,
+    ) -> Result<Option<FragmentSpread>, Memory> {
+        if !is_of(tree, SyntaxKind::FragmentSpread) {
+            return Ok(None);
+        }
+        let nodes = tree.children().as_slice();
+        let names = inside(nodes, SyntaxKind::FragmentName);
+        let Some(fragment_name) = nth_name(alloc, names, text, file_id, 0)? else {
+            return Ok(None);
+        };
+        Ok(Some(FragmentSpread {
+            fragment_name,
+            directives: directives(alloc, nodes, text, file_id)?,
+            location: location(file_id, tree),
+        }))
+    }
+}
+
+/// The type that a fragment is on.
+#[tactic(auto, unfolding(crate::specs::Selections::type_condition))]
+pub(crate) fn type_condition(
+    alloc: Global,
+    nodes: &[Tree],
+    text: &str,
+    file_id: FileId,
+) -> Result<Option<Name>, Memory>
+    ensures { IfOk result (λ made. made ≡ spec.type_condition text.now file_id (forest nodes.now)) }
+{
+    let nodes = inside(nodes, SyntaxKind::TypeCondition);
+    let name = named_type_in(alloc, nodes, text, file_id)?;
+    Ok(name)
+}
+
+/// The alias of a field.
+fn alias(alloc: Global, nodes: &[Tree], text: &str, file_id: FileId) -> Result<Option<Name>, Memory>
+    ensures { IfOk result (λ made. made ≡ spec.alias text.now file_id (forest nodes.now)) }
+{
+    let nodes = inside(nodes, SyntaxKind::Alias);
+    let name = nth_name(alloc, nodes, text, file_id, 0)?;
+    Ok(name)
+}
+
+#[cycle(selection)]
+#[tactic(auto, unfolding(crate::specs::Selections::field_step))]
+fn field(alloc: Global, tree: &Tree, text: &str, file_id: FileId) -> Result<Option<Field>, Memory>
+    ensures { IfOk result (λ made. made ≡ spec.field_of text.now file_id (plain tree.now)) }
+{
+    if !is_of(tree, SyntaxKind::Field) {
+        return Ok(None);
+    }
+    let nodes = tree.children().as_slice();
+    let Some(name) = nth_name(alloc, nodes, text, file_id, 0)? else {
+        return Ok(None);
+    };
+    Ok(Some(Field {
+        alias: alias(alloc, nodes, text, file_id)?,
+        name,
+        arguments: arguments(alloc, nodes, text, file_id)?,
+        directives: directives(alloc, nodes, text, file_id)?,
+        selection_set: selected(alloc, nodes, text, file_id)?,
+        location: location(file_id, tree),
+    }))
+}
+
+#[cycle(selection)]
+#[tactic(auto, unfolding(crate::specs::Selections::inline_step))]
+fn inline_fragment(
+    alloc: Global,
+    tree: &Tree,
+    text: &str,
+    file_id: FileId,
+) -> Result<Option<InlineFragment>, Memory>
+    ensures { IfOk result (λ made. made ≡ spec.inline_fragment_of text.now file_id (plain tree.now)) }
+{
+    if !is_of(tree, SyntaxKind::InlineFragment) {
+        return Ok(None);
+    }
+    let nodes = tree.children().as_slice();
+    if child(nodes, SyntaxKind::SelectionSet).is_none() {
+        return Ok(None);
+    }
+    Ok(Some(InlineFragment {
+        type_condition: type_condition(alloc, nodes, text, file_id)?,
+        directives: directives(alloc, nodes, text, file_id)?,
+        selection_set: selected(alloc, nodes, text, file_id)?,
+        location: location(file_id, tree),
+    }))
+}
+
+/// One way to select: a field, a fragment by its name, or a fragment in its place.
+#[cycle(selection)]
+#[tactic(auto, unfolding(crate::specs::Selections::choice_step))]
+fn choice(
+    alloc: Global,
+    tree: &Tree,
+    text: &str,
+    file_id: FileId,
+) -> Result<Option<Selection>, Memory>
+    ensures { IfOk result (λ made. made ≡ spec.choice_of text.now file_id (plain tree.now)) }
+{
+    if is_of(tree, SyntaxKind::Field) {
+        let made = field(alloc, tree, text, file_id)?;
+        return Ok(made.map(Selection::Field));
+    }
+    if is_of(tree, SyntaxKind::FragmentSpread) {
+        let made = FragmentSpread::convert(alloc, tree, text, file_id)?;
+        return Ok(made.map(Selection::FragmentSpread));
+    }
+    let made = inline_fragment(alloc, tree, text, file_id)?;
+    Ok(made.map(Selection::InlineFragment))
+}
+
+#[cycle(selection)]
+fn first_choice(
+    alloc: Global,
+    nodes: &[Tree],
+    text: &str,
+    file_id: FileId,
+) -> Result<Option<Selection>, Memory>
+    ensures { IfOk result (λ made. made ≡ parts.head (spec.choices text.now file_id (forest nodes.now))) }
+{
+    for node in nodes {
+        if let Some(found) = choice(alloc, node, text, file_id)? {
+            return Ok(Some(found));
+        }
+    }
+    Ok(None)
+}
+
+/// The selection that a tree stands for.
+#[cycle(selection)]
+#[tactic(auto, unfolding(crate::specs::Selections::selection_step))]
+fn selection(
+    alloc: Global,
+    tree: &Tree,
+    text: &str,
+    file_id: FileId,
+) -> Result<Option<Selection>, Memory>
+    ensures { IfOk result (λ made. made ≡ spec.selection_of text.now file_id (plain tree.now)) }
+{
+    if !is_of(tree, SyntaxKind::Selection) {
+        return Ok(None);
+    }
+    let made = first_choice(alloc, tree.children().as_slice(), text, file_id)?;
+    Ok(made)
+}
+
+/// The selections that the trees stand for.
+#[cycle(selection)]
+fn selections(
+    alloc: Global,
+    nodes: &[Tree],
+    text: &str,
+    file_id: FileId,
+) -> Result<Listed<Selection>, Memory>
+    ensures { IfOk result (λ made. made ≡ spec.selections text.now file_id (forest nodes.now)) }
+{
+    let mut list = Listed::new(alloc);
+    for node in nodes {
+        keep(&mut list, selection(alloc, node, text, file_id)?)?;
+    }
+    Ok(list)
+}
+
+/// The selections in the first selection set among the trees.
+#[cycle(selection)]
+fn selected(
+    alloc: Global,
+    nodes: &[Tree],
+    text: &str,
+    file_id: FileId,
+) -> Result<Listed<Selection>, Memory>
+    ensures { IfOk result (λ made. made ≡ spec.selected text.now file_id (forest nodes.now)) }
+{
+    let list = selections(
+        alloc,
+        inside(nodes, SyntaxKind::SelectionSet),
+        text,
+        file_id,
+    )?;
+    Ok(list)
+}
