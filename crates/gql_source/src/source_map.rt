@@ -1,9 +1,9 @@
 //! Source files by their numbers.
 
-ghost use Rattle.std.specs.Prelude.{◌≡◌, [], true, position, IfOk, OnOk, OnErr};
+ghost use Rattle.std.specs.Prelude.{◌≡◌, ◌↔◌, [], true, length, take, position, IsTrue, IfOk, OnOk, OnErr};
 ghost use Rattle.std.specs.Option.{option_copied};
 ghost use Rattle.std.specs.Map.{lookup};
-ghost use Rattle.gql_source.specs.File.{is_file, put, are_distinct};
+ghost use Rattle.gql_source.specs.File.{is_file, put, put_absent, joined, are_distinct};
 
 use crate::{FileId, Memory, SourceFile};
 use std::alloc::Global;
@@ -59,6 +59,61 @@ impl SourceMap {
     {
         let at = place_of(&self.entries, id)?;
         Some(&self.entries[at].1)
+    }
+
+    /// How many files there are.
+    #[must_use]
+    pub fn len(&self) -> usize
+        ensures { result ≡ length self.now }
+    {
+        self.entries.len()
+    }
+
+    /// Whether there are no files.
+    #[must_use]
+    pub fn is_empty(&self) -> bool
+        ensures { IsTrue result ↔ (self.now ≡ []) }
+    {
+        self.entries.is_empty()
+    }
+
+    /// Keeps the first `count` files.
+    pub fn truncate(&mut self, count: usize)
+        ensures { self.new ≡ take count self.old }
+    {
+        self.entries.truncate(count);
+    }
+
+    /// Puts each file of `others`, in turn, behind the others, unless a file has its number. Refused for want of
+    /// memory it leaves the files as they were.
+    pub fn merge(&mut self, others: SourceMap) -> Result<(), Memory>
+        ensures joined { OnOk result (self.new ≡ joined self.old others) }
+        ensures front { take (length self.old) self.new ≡ self.old }
+        ensures unchanged { OnErr result (self.new ≡ self.old) }
+    {
+        let count = self.len();
+        let SourceMap { entries } = others;
+        for (id, file) in entries {
+            match self.insert_absent(id, file) {
+                Ok(()) => {}
+                Err(refused) => {
+                    self.truncate(count);
+                    return Err(refused);
+                }
+            }
+        }
+        Ok(())
+    }
+
+    /// Puts the file under its number, unless a file has that.
+    fn insert_absent(&mut self, id: FileId, file: SourceFile) -> Result<(), Memory>
+        ensures put { OnOk result (self.new ≡ put_absent id file self.old) }
+        ensures unchanged { OnErr result (self.new ≡ self.old) }
+    {
+        if self.get(id).is_some() {
+            return Ok(());
+        }
+        self.insert(id, file)
     }
 
     /// A copy of all files.
