@@ -1,0 +1,5 @@
+pub mod Order
+pub mod List
+pub mod Reported
+pub mod Walk
+pub mod RequestFault

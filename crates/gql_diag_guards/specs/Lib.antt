@@ -1,0 +1,4 @@
+pub mod Depth
+pub mod DepthGuarding
+pub mod Stack
+pub mod StackGuarding

@@ -1,0 +1,25 @@
+-- Guards of a stack of names.
+use Rattle.std.specs.Prelude.{◌≡◌, ◌≢◌, Result, IsErrAnd, ℕ, length, Option, Some}
+use Rattle.jb_text.specs.declared.refused.Refused.{Refused}
+use Rattle.jb_text.specs.declared.refused.Refused.TheVariants as refused_variant
+use Rattle.gql_diag_guards.specs.declared.depth.RecursionLimitError.{RecursionLimitError}
+use Rattle.gql_ast_tree.specs.Names.{Named}
+use Rattle.gql_diag_guards.specs.declared.recursion.RecursionGuard.{RecursionGuard}
+use Rattle.gql_diag_guards.specs.Stack.{Stack, with_name}
+
+-- the stack that it guards
+abbrev pub stacked : RecursionGuard → Stack
+stacked guard = guard.stack.now
+
+-- how many names were open before the step that gave it, if a step did
+abbrev pub pops : RecursionGuard → Option ℕ
+pops guard = guard.undo
+
+-- the guard of one name more, which steps back when it is dropped
+pub record IsPushed (before : Stack) (name : Named) (guard : RecursionGuard) : Type 0 where
+  pub more : stacked guard ≡ with_name name before
+  pub back : pops guard ≡ Some (length before.names)
+
+-- the refusal of a step at the limit
+abbrev pub IsLimited : {A : Type 0} → Result A (Refused RecursionLimitError) → Type 0
+IsLimited result = IsErrAnd result (λ cause. cause ≢ refused_variant.Memory)

@@ -1,0 +1,34 @@
+//! Whole reports, as they are written.
+
+use crate::CliReport;
+use gql_source::{FileId, SourceFile, SourceMap, SourceSpan};
+use jb_io::SureSink;
+use std::test::Fail;
+
+#[test]
+fn a_report_is_its_lines(rt: HostRuntime) -> Result<(), Fail> {
+    let file = FileId { number: 3 };
+    let mut sources = SourceMap::new(rt.alloc());
+    sources.insert(file, SourceFile::new(rt.alloc(), "p", "type A")?)?;
+
+    let start = Some(SourceSpan::new(file, 0, 4));
+    let mut report = CliReport::builder(rt.alloc(), &sources, start);
+    report.with_message("old")?;
+    report.with_message("m")?;
+    report.with_label_opt(start, "l")?;
+    report.with_label_opt(None, "nowhere")?;
+    report.with_label_opt(Some(SourceSpan::new(file, 7, 7)), "past the end")?;
+    report.with_label_opt(Some(SourceSpan::new(FileId::NONE, 0, 0)), "in no file")?;
+    report.with_note("n")?;
+    report.with_help("h")?;
+    let mut sink = SureSink::new(rt.alloc(), 64)?;
+    report.write(rt.alloc(), &mut sink).ok().ok_or("refused")?;
+    assert_eq!(rt;
+        sink.written(),
+        b"Error: m\np:1:1: l\nHelp: h\nNote: n\n".as_slice()
+    );
+
+    let empty = CliReport::builder(rt.alloc(), &sources, None);
+    assert_eq!(rt; empty.into_string(rt.alloc())?.as_str(), "Error: \n");
+    Ok(())
+}

@@ -1,0 +1,5 @@
+pub mod Response
+pub mod ErrorAt
+pub mod Puts
+pub mod Reading
+pub mod Held

@@ -1,0 +1,29 @@
+//! Responses to GraphQL requests, and their errors: printed as JSON, and read back.
+//!
+//! A response prints `errors` where there are any, and then `data` (GraphQL October 2021, section 7.1). Printing goes
+//! straight to the text, and the text is exactly the compact JSON of the value that `specs/` says.
+#![tactic(auto)]
+
+mod error_parts;
+mod execution_response;
+mod fault;
+mod graphql_error;
+pub mod laws;
+mod location;
+mod parts;
+mod path;
+mod printed;
+
+pub use execution_response::ExecutionResponse;
+pub use fault::ResponseFault;
+pub use graphql_error::GraphQLError;
+pub use path::ResponseDataPathSegment;
+
+/// An object of JSON, as the data of a response.
+pub type JsonMap = jb_tree::Map;
+
+/// A JSON value.
+pub type JsonValue = jb_tree::Value;
+
+#[cfg(test)]
+mod tests;
