@@ -1,9 +1,9 @@
 -- When each refusal of a request comes.
-use Rattle.std.specs.Prelude.{◌≡◌, ℕ, ◌⊎◌, Bool, true, List, [], Option, Some, None, IsSome, Ok, Err, codes}
+use Rattle.std.specs.Prelude.{◌≡◌, ℕ, ◌⊎◌, Bool, true, List, [], Option, Some, None, IsSome, codes}
 use Rattle.std.specs.Borrow.{Bor}
 use Rattle.jb_tree.specs.declared.value.Value.{Value}
-use Rattle.jb_tree.specs.declared.refused.Refused.{Refused}
-use Rattle.jb_tree.specs.declared.refused.Refused.TheVariants as refused
+use Rattle.jb_text.specs.declared.refused.Refused.{Refused}
+use Rattle.jb_text.specs.declared.refused.Refused.TheVariants as refused
 use Rattle.jb_tree.specs.Value.{object_members}
 use Rattle.jb_read.specs.Spelling.{JsonText}
 use Rattle.jb_read.specs.Faults.{JsonFault}

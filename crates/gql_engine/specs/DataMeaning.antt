@@ -8,7 +8,7 @@ use Rattle.jb_tree.specs.Value.{object_members, string_text}
 use Rattle.gql_exec.specs.declared.schema.Schema.{Schema}
 use Rattle.gql_exec.specs.declared.schema.ObjectType.{ObjectType}
 use Rattle.gql_exec.specs.declared.schema.TypeRef.{TypeRef}
-use Rattle.gql_exec.specs.declared.schema.TypeRef.TheVariants.{Int, String, Boolean, Object}
+use Rattle.gql_exec.specs.declared.schema.TypeRef.TheVariants.{Object}
 use Rattle.gql_exec.specs.Meaning.{Meaning, gives_leaf, gives_object, fails_with}
 use Rattle.gql_exec.specs.declared.resolver.ResolveError.{ResolveError}
 use Rattle.gql_exec.specs.declared.resolver.ResolveError.TheVariants.{Field as Failed, Memory}

@@ -5,6 +5,6 @@ pub mod DataMeaning
 pub mod DataName
 pub mod Decision
 pub mod Program
-pub mod Replies
 pub mod Reply
 pub mod Request
+pub mod Task

@@ -1,5 +1,5 @@
 -- What a JSON value asks, where it is a request, and else why it is none.
-use Rattle.std.specs.Prelude.{◌≡◌, ℕ, Bool, true, false, if◌then◌else◌, List, [], ◌++◌, Option, Some, None, unwrap_or, Result, Ok, Err, codes}
+use Rattle.std.specs.Prelude.{◌≡◌, ℕ, Bool, false, if◌then◌else◌, List, [], ◌++◌, Option, Some, None, unwrap_or, Result, Ok, Err, codes, ◌||◌, not, is_some, nat_eq, length}
 use Rattle.std.specs.Borrow.{Bor}
 use Rattle.std.specs.Option.{option_map, option_copied}
 use Rattle.std.specs.Str.{bytes_eq}
@@ -31,6 +31,10 @@ pub record Asked : Type 0 where
   pub variables : Option Members
   pub introspection : Bool
   pub root : Option Members
+
+-- the request gives what can't be answered yet: an operation name, variables or introspection
+abbrev pub has_options : Asked → Bool
+has_options request = is_some request.operation_name || (not (nat_eq (length (unwrap_or request.variables [])) 0) || request.introspection)
 
 -- a value of the kind that the member must have
 abbrev pub of_kind : {A : Type 0} → Member → Option A → Result A RequestFault

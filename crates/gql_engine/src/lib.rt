@@ -11,6 +11,7 @@ mod plain;
 pub mod program;
 mod reply;
 mod request;
+mod task;
 
 pub use answering::{AnswerError, UnbuiltPart, VariablesFault, answer};
 pub use data_object::DataObject;

@@ -1,35 +1,16 @@
 ghost use Rattle.std.specs.Prelude.{◌≡◌, ◌≢◌, ◌≤◌, ◌⊎◌, ◌↔◌, IsTrue};
-ghost use Rattle.gql_engine.specs.Program.{AsksAnswer, BreaksOff, IsLong, Serves, usage};
+ghost use Rattle.gql_engine.specs.Program.{AsksAnswer, IsLong, usage};
 ghost use Rattle.gql_engine.specs.Reply.{Answers, Refuses};
 ghost use Rattle.jb_io.specs.Sink.{Takes, TakesFront};
 ghost use Rattle.jb_io.specs.Source.{GivesMore};
 ghost use Rattle.jb_io.specs.Stream.{HasFailed};
+ghost use Rattle.jb_serve.specs.Run.{BreaksOff, Serves};
 
-use crate::reply::reply_to;
-use jb_io::{InputFault, Sink, SinkFault, Source, SureSink, SureSource, read_to_end, write_all};
-use jb_tree::Refused;
+use crate::task::task_asked;
+use jb_io::{Sink, Source, SureSink, SureSource};
+use jb_serve::serve;
+pub use jb_serve::{ANSWERED, MISUSED, NO_MEMORY, REFUSED, SINK_FAILED, SOURCE_FAILED, TOO_LONG};
 use std::alloc::Global;
-
-/// The status where a response was written.
-pub const ANSWERED: u8 = 0;
-
-/// The status where it was written why the request is refused.
-pub const REFUSED: u8 = 1;
-
-/// The status where the words are no command, and the usage line was written.
-pub const MISUSED: u8 = 2;
-
-/// The status for want of memory. Nothing was written.
-pub const NO_MEMORY: u8 = 3;
-
-/// The status where the source could not be read. Nothing was written.
-pub const SOURCE_FAILED: u8 = 4;
-
-/// The status where the sink could not be written. It took only the first of the output.
-pub const SINK_FAILED: u8 = 5;
-
-/// The status where the source gave more than [`jb_io::INPUT_LIMIT`] bytes. Nothing was written.
-pub const TOO_LONG: u8 = 6;
 
 const USAGE: &str = "usage: gql_program answer\n";
 
@@ -60,38 +41,10 @@ pub fn run<S: Source, K: Sink>(alloc: Global, words: &[String], source: &mut S, 
     ensures source_failed { result ≡ SOURCE_FAILED → HasFailed (S.faults source.old) (S.faults source.new) }
     ensures too_long { result ≡ TOO_LONG → GivesMore (S.left source.old) (S.left source.new) }
     ensures sink_failed { result ≡ SINK_FAILED → HasFailed (K.faults sink.old) (K.faults sink.new) }
-    ensures broken_off { result ≡ SINK_FAILED → AsksAnswer words.now → BreaksOff
+    ensures broken_off { result ≡ SINK_FAILED → AsksAnswer words.now → BreaksOff Answers Refuses
         (S.left source.old) (S.left source.new) (K.taken sink.old) (K.taken sink.new) }
 {
-    if !asks_answer(words) {
-        return match write_all(sink, USAGE.as_bytes()) {
-            Ok(()) => MISUSED,
-            Err(SinkFault) => SINK_FAILED,
-        };
-    }
-    let bytes = match read_to_end(alloc, source) {
-        Ok(bytes) => bytes,
-        Err(Refused::Memory) => return NO_MEMORY,
-        Err(Refused::Fault(InputFault::SourceFailed)) => return SOURCE_FAILED,
-        Err(Refused::Fault(InputFault::TooLong)) => return TOO_LONG,
-    };
-    let Ok(reply) = reply_to(alloc, &bytes) else {
-        return NO_MEMORY;
-    };
-    match write_all(sink, reply.line.as_slice()) {
-        Ok(()) => reply.status,
-        Err(SinkFault) => SINK_FAILED,
-    }
-}
-
-// Whether the words are the one command.
-fn asks_answer(words: &[String]) -> bool
-    ensures { IsTrue result ↔ AsksAnswer words.now }
-{
-    match words {
-        [word] => word.as_str() == "answer",
-        _ => false,
-    }
+    serve(alloc, task_asked(words), USAGE, source, sink)
 }
 
 /// [`run`] in memory, where neither reading nor writing fails: the status is never [`SOURCE_FAILED`] or
@@ -105,6 +58,12 @@ pub fn run_in_memory(
     ensures misused { result ≡ MISUSED ↔ ¬ AsksAnswer words.now }
     ensures read { result ≢ SOURCE_FAILED }
     ensures written { result ≢ SINK_FAILED }
+    ensures answered { result ≡ ANSWERED → Serves Answers
+        (⟦<SureSource as Source>⟧.left source.old) (⟦<SureSource as Source>⟧.left source.new)
+        (⟦<SureSink as Sink>⟧.taken sink.old) (⟦<SureSink as Sink>⟧.taken sink.new) }
+    ensures refused { result ≡ REFUSED → Serves Refuses
+        (⟦<SureSource as Source>⟧.left source.old) (⟦<SureSource as Source>⟧.left source.new)
+        (⟦<SureSink as Sink>⟧.taken sink.old) (⟦<SureSink as Sink>⟧.taken sink.new) }
 
     // A long input is refused, and no other.
     ensures long { result ≡ TOO_LONG → IsLong (⟦<SureSource as Source>⟧.left source.old) }
@@ -118,7 +77,7 @@ pub fn run_in_memory(
 mod tests {
     use super::*;
     use bytes::Bytes;
-    use jb_io::{INPUT_LIMIT, ReaderSource, WriterSink};
+    use jb_io::{INPUT_LIMIT, ReaderSource, WriterSink, read_to_end};
     use std::io;
     use std::io::{ErrorKind, Read};
     use std::test::Fail;

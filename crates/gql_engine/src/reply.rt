@@ -1,45 +1,34 @@
 //! The reply to the bytes of a request: a response, or why it is refused.
 
-ghost use Rattle.std.specs.Prelude.{◌≡◌, IfOk};
+ghost use Rattle.std.specs.Prelude.{◌≡◌, false, IfErr, IfOk};
 ghost use Rattle.jb_print.specs.Compact.{compact};
 ghost use Rattle.gql_engine.specs.Decision.{Decides};
-ghost use Rattle.gql_engine.specs.Replies.{Replies};
-ghost use Rattle.gql_engine.specs.Reply.{AnswersAsked, kind_name as kind_name_of, read_message as read_message_of, refusal_value, line as line_of};
-ghost use Rattle.gql_engine.specs.Request.{asked_in};
+ghost use Rattle.gql_engine.specs.Reply.{AnswersAsked, IsRefusedFor, read_message as read_message_of, refusal_value};
+ghost use Rattle.gql_engine.specs.Request.{asked_in, has_options as has_options_of};
 
 use crate::answering::{UnbuiltPart, respond};
 use crate::data_object::DataObject;
-use crate::program::{ANSWERED, REFUSED};
 use crate::request::{Request, decode};
+use crate::task::Task;
 use bytes::Bytes;
 use jb_print::to_bytes;
-use jb_read::{FaultKind, ReadFault, from_bytes_whole};
+use jb_read::{ReadFault, from_bytes_whole};
+use jb_serve::{Command, Reply};
 use jb_tree::{ByteString, Listed, Map, Refused, Text, Value};
 use std::alloc::{AllocError, Global};
 
-/// What the program writes of a request, and the status that it then ends with.
-#[derive(Drop)]
-pub(crate) struct Reply {
-    pub(crate) status: u8,
-    /// The text and its LF.
-    pub(crate) line: Vec<u8>,
-}
+impl Command for Task {
+    ghost use Rattle.gql_engine.specs.Reply.{Answers, Refuses};
 
-/// The reply to the request that `bytes` hold. `Err` only for want of memory.
-pub(crate) fn reply_to(alloc: Global, bytes: &Bytes) -> Result<Reply, AllocError>
-    ensures { IfOk result (λ reply. Replies bytes.now reply.status reply.line.items) }
-{
-    match decide(alloc, bytes)? {
-        Decision::Answered(text) => Ok(Reply {
-            status: ANSWERED,
-            line: line(alloc, &text)?,
-        }),
-        Decision::Refused(message) => {
-            let text = refusal(alloc, message.as_str())?;
-            Ok(Reply {
-                status: REFUSED,
-                line: line(alloc, &text)?,
-            })
+    ghost answers = { λ _. Answers };
+
+    ghost refuses = { λ _. Refuses };
+
+    fn reply(&self, alloc: Global, bytes: &Bytes) -> Result<Reply, AllocError> {
+        let Task::Answer = self;
+        match decide(alloc, bytes)? {
+            Decision::Answered(text) => Ok(Reply::Answer(text)),
+            Decision::Refused(message) => Ok(Reply::Refusal(refusal(alloc, message.as_str())?)),
         }
     }
 }
@@ -75,13 +64,11 @@ fn decide(alloc: Global, bytes: &Bytes) -> Result<Decision, AllocError>
 
 /// The text of a request's response.
 fn answered(alloc: Global, request: &Request<'_>) -> Result<Bytes, Refused<UnbuiltPart>>
+    ensures plain { IfOk result (λ _. has_options_of (asked_in request.now) ≡ false) }
     ensures answered { IfOk result (AnswersAsked (asked_in request.now)) }
+    ensures refused { IfErr result (IsRefusedFor (asked_in request.now)) }
 {
-    let has_variables = match request.variables {
-        Some(variables) => !variables.is_empty(),
-        None => false,
-    };
-    if request.operation_name.is_some() || has_variables || request.introspection {
+    if has_options(request) {
         return Err(Refused::Fault(UnbuiltPart::Options));
     }
     let no_members = Map::new(alloc);
@@ -89,24 +76,24 @@ fn answered(alloc: Global, request: &Request<'_>) -> Result<Bytes, Refused<Unbui
     respond(alloc, request.schema, request.query, &root)
 }
 
+/// Whether the request gives what can't be answered yet.
+fn has_options(request: &Request<'_>) -> bool
+    ensures { result ≡ has_options_of (asked_in request.now) }
+{
+    let variables = match request.variables {
+        Some(variables) => variables.len(),
+        None => 0,
+    };
+    request.operation_name.is_some() || variables != 0 || request.introspection
+}
+
 /// The message of a text that is no JSON.
 fn read_message(alloc: Global, fault: ReadFault) -> Result<Text, AllocError>
     ensures { IfOk result (λ text. text ≡ read_message_of fault) }
 {
-    let kind = kind_name(fault.kind);
+    let kind = fault.kind.name();
     let place = fault.place;
     Ok(Text::from_string(format!(in alloc; "request: {kind} at byte {place}")?))
-}
-
-fn kind_name(kind: FaultKind) -> &'static str
-    ensures { result.now ≡ kind_name_of kind }
-{
-    match kind {
-        FaultKind::Syntax => "syntax",
-        FaultKind::Float => "float",
-        FaultKind::NumberRange => "number range",
-        FaultKind::Depth => "depth",
-    }
 }
 
 /// The text of a refusal with this one message.
@@ -124,14 +111,4 @@ fn refusal(alloc: Global, message: &str) -> Result<Bytes, AllocError>
         Value::Array(errors),
     )?;
     to_bytes(alloc, &Value::Object(members))
-}
-
-/// A text and its LF.
-fn line(alloc: Global, text: &Bytes) -> Result<Vec<u8>, AllocError>
-    ensures { IfOk result (λ written. written.items ≡ line_of text.now) }
-{
-    let mut line = Vec::with_capacity(alloc, text.len().saturating_add(1))?;
-    line.extend_from_slice(text.as_slice())?;
-    line.push(b'\n')?;
-    Ok(line)
 }

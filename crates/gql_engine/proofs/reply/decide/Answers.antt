@@ -11,7 +11,7 @@ returns-in-Err-Fault c =
 pub returns-in-Err-Fault-answered : goal.returns-in-Err-Fault-answered
 returns-in-Err-Fault-answered c =
     let part = c.in-Err-Fault-answered.part in
-    let cause = not_built c.in-Ok.value (asked_in c.in-Ok-decode.request) part c.in-Ok.ensures.spelled c.in-Ok-decode.ensures in
+    let cause = not_built c.in-Ok.value (asked_in c.in-Ok-decode.request) part c.in-Ok.ensures.spelled c.in-Ok-decode.ensures (rw c.in-Err-Fault-answered.field-0-is at c.in-Err-Fault-answered.ensures.refused) in
     subst (Cause c.args.bytes.now) (sym (c.in_ok-from_str-in-Err-Fault-answered.ensures ∙ c.message.ensures)) cause
 
 pub returns : goal.returns
