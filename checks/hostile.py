@@ -4,15 +4,9 @@
 Each must end with a status of its own, and with the one wanted where that can be told apart from the program: a request
 that is no JSON text is refused, one that is whole is answered. `checks/hostile.py all` tries every one."""
 import json
-import pathlib
-import re
-import subprocess
 import sys
-import tempfile
 
-ROOT = pathlib.Path(__file__).resolve().parent.parent
-ENGINE = ROOT / "crates" / "gql_program"
-SYNTAX = ROOT / "crates" / "gql_syntax"
+from shared.trying import try_cases
 
 ANSWERED, REFUSED, TOO_LONG = 0, 1, 6
 
@@ -98,21 +92,12 @@ def syntax_cases():
     yield "fields", ("{" + fields(100_000) + "}").encode(), [ANSWERED]
 
 
-def statuses(program, word, cases):
-    """The status of each case by its name."""
-    with tempfile.TemporaryDirectory() as folder:
-        for name, text, _wanted in cases:
-            (pathlib.Path(folder) / name).write_bytes(text)
-        command = ["rt", "try", "--cases", folder, "--", word]
-        run = subprocess.run(command, cwd=program, capture_output=True, text=True, check=False)
-    return {name: int(status) for name, status in re.findall(r"(?m)^case=(\S+) .*?status=(\d+)", run.stdout + run.stderr)}
-
-
 def main():
     step = 1 if sys.argv[1:] == ["all"] else STEP
     passed = failed = 0
-    for program, word, cases in [(ENGINE, "answer", list(engine_cases(step))), (SYNTAX, "document", list(syntax_cases()))]:
-        found = statuses(program, word, cases)
+    programs = [("gql_program", "answer", list(engine_cases(step))), ("gql_syntax", "document", list(syntax_cases()))]
+    for program, word, cases in programs:
+        found, _as_wanted = try_cases(program, word, [(name, text, None) for name, text, _statuses in cases])
         for name, _text, wanted in cases:
             if found.get(name) in wanted:
                 passed += 1

@@ -6,14 +6,9 @@ recogniser is Earley's: it keeps every way to read what came so far, so the firs
 the fault. A list of tokens is written with spaces between them, and the program must tell the same place.
 `checks/sentences.py all` tries every list."""
 import itertools
-import pathlib
-import re
-import subprocess
 import sys
-import tempfile
 
-ROOT = pathlib.Path(__file__).resolve().parent.parent
-PROGRAM = ROOT / "crates" / "gql_syntax"
+from shared.trying import try_cases
 
 # A rule is its ways, divided by `|`. Rules begin with a capital; `name` is any name, other words stand for themselves.
 # `X?` is optional and `X*` any number; `X!` is optional too, but must come where a brace follows.
@@ -175,24 +170,16 @@ def cases_of(group):
 
 def run_cases(word, cases):
     """The texts of which the program, asked to read a `word`, tells otherwise than the recogniser."""
-    with tempfile.TemporaryDirectory() as folder:
-        for number, (text, wanted) in enumerate(cases):
-            (pathlib.Path(folder) / f"case{number}").write_text(text, encoding="utf-8")
-            if wanted != SENTENCE:
-                (pathlib.Path(folder) / f"case{number}.stdout").write_text(wanted, encoding="utf-8")
-        command = ["rt", "try", "--cases", folder, "--", word]
-        run = subprocess.run(command, cwd=PROGRAM, capture_output=True, text=True, check=False)
-    said = run.stdout + run.stderr
-    statuses = dict(re.findall(r"(?m)^case=case(\d+) .*?status=(\d+)", said))
-    as_wanted = set(re.findall(r"(?m)^case=case(\d+) .*?output=expected", said))
-    for number, (text, wanted) in enumerate(cases):
-        name = str(number)
-        if wanted == SENTENCE:
-            fits = statuses.get(name) == "0"
-        else:
-            fits = statuses.get(name) == "1" and name in as_wanted
+    named = [
+        (f"case{number}", text.encode(), None if wanted == SENTENCE else wanted)
+        for number, (text, wanted) in enumerate(cases)
+    ]
+    statuses, as_wanted = try_cases("gql_syntax", word, named)
+    for name, text, wanted in named:
+        status = statuses.get(name)
+        fits = status == 0 if wanted is None else status == 1 and name in as_wanted
         if not fits:
-            yield text, wanted.strip(), statuses.get(name)
+            yield text.decode(), (wanted or SENTENCE).strip(), status
 
 
 def main():
