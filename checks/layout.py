@@ -23,6 +23,8 @@ def faults():
             lines = file.read_text().count("\n")
             if lines > MOST_LINES:
                 yield f"{file.relative_to(ROOT)} has {lines} lines"
+            if file.suffix == ".rt":
+                yield from (f"{file.relative_to(ROOT)}: no clause says what `{name}` gives" for name in unsaid(file))
         root = folder / "src" / "lib.rt"
         if root.exists():
             text = root.read_text()
@@ -30,6 +32,15 @@ def faults():
                 yield f"{root.relative_to(ROOT)} has no page of documentation"
             if re.search(r"(?m)^\s*(pub )?(fn|struct|enum|trait|impl)\b", text):
                 yield f"{root.relative_to(ROOT)} holds more than modules and exports"
+
+
+def unsaid(file):
+    """The public functions of a file that have neither a clause on their result nor a word on why there is none."""
+    text = file.read_text().split("#[cfg(test)]\nmod tests {")[0]
+    for found in re.finditer(r"(?m)^((?: *(?:///|#\[).*\n)*) *pub (?:const |unsafe )*fn (\w+)([^{}]*(?:\{[^\n]*\}[^{}]*)*)", text):
+        documentation, name, head = found.groups()
+        if "ensures" not in head and "No clause says" not in documentation:
+            yield name
 
 
 def main():

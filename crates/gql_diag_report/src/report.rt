@@ -58,7 +58,7 @@ impl<'s> CliReport<'s> {
         }
     }
 
-    /// Where the report takes its memory.
+    /// Where the report takes its memory. No clause says which: contracts see a report without its allocator.
     #[must_use]
     pub fn allocator(&self) -> Global {
         self.alloc

@@ -132,6 +132,8 @@ fn name_len(bytes: &[u8]) -> usize
 
 /// The schema that a plain text defines.
 ///
+/// No clause says which: what a text means is not defined here, and this reader goes once the parser takes its place.
+///
 /// # Errors
 ///
 /// [`NotPlain`] where the text is no plain schema, [`Refused::Memory`] for want of memory.
@@ -232,6 +234,8 @@ fn add<V: Drop>(
 }
 
 /// The selection set that a plain query asks of the root type.
+///
+/// No clause says which, as with [`schema`].
 ///
 /// # Errors
 ///
