@@ -76,12 +76,14 @@ impl ByteString {
         })
     }
 
+    /// The text.
     pub fn as_str(&self) -> &str
         ensures { result.now ≡ self.now }
     {
         unsafe { str::from_utf8_unchecked(self.held.as_slice()) }
     }
 
+    /// The bytes of the text, shared and not copied.
     pub fn inner(&self) -> &Bytes
         ensures { result.now ≡ self.now }
     {

@@ -35,6 +35,7 @@ impl Model for Number {
 }
 
 impl Number {
+    /// The number that equals `value`.
     pub fn from_i64(value: i64) -> Number
         ensures { result ≡ value }
     {
@@ -49,6 +50,7 @@ impl Number {
         }
     }
 
+    /// The number that equals `value`.
     pub fn from_u64(value: u64) -> Number
         ensures { result ≡ pos value }
     {

@@ -48,6 +48,7 @@ impl Text {
         self.held
     }
 
+    /// The text, lent.
     pub fn as_str(&self) -> &str
         ensures { result.now ≡ self.now }
     {
