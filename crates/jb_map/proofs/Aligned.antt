@@ -8,15 +8,10 @@ use Rattle.std.proofs.lemmas.List.Quantifiers.{position-Some}
 use Rattle.std.proofs.lemmas.Bool.Decides.{nat_tests}
 use Rattle.indexmap.proofs.ReorderLemmas.{exchange, get_or-swap}
 use Rattle.std.proofs.Common.{IfSome, Box}
-use Rattle.std.specs.Map.{keys_of}
 use Rattle.std.specs.declared.alloc.Global.{Global}
 use Rattle.jb_map.specs.Covers.{Covers}
-use Rattle.jb_map.proofs.Positions.{absent_from_position}
+use Rattle.jb_map.proofs.Positions.{absent_from_position, none_any}
 use Rattle.jb_map.proofs.TextOrder.{same_text}
-
-none_any : {X : Type 0} (p : X → Bool) (xs : List X) → AllByRecursion (λ x. p x ≡ false) xs → list_any p xs ≡ false
-none_any p [] h = refl
-none_any p (x ∷ xs) h = λ i. h.0 i || none_any p xs h.1 i
 
 -- a key that is somewhere has a place
 pub no_none : (k : List ℕ) (ks : List (List ℕ)) → list_any (bytes_eq k) ks ≡ true → position (bytes_eq k) ks ≡ None → ⊥
@@ -56,12 +51,6 @@ take_same (suc n) [] (y ∷ ys) le e f = absurd (omega arith)
 take_same (suc n) (x ∷ xs) (y ∷ ys) le e f =
     let rest = take_same n xs ys (omega arith) (omega arith) (λ k d l. f (suc k) d (omega arith)) in
     λ i. f 0 x (omega arith) i ∷ rest i
-
--- the key at a place, by the pair at it
-pub key_at_place : {V : Type 0} (es : List (List ℕ × V)) (i : ℕ) (e : List ℕ × V) → i < length es → e ≡ get_or es i e → (d : List ℕ) → get_or (keys_of es) i d ≡ e.0
-key_at_place [] i e within is d = absurd (omega arith)
-key_at_place (x ∷ es) zero e within is d = ap (λ p. p.0) (sym is)
-key_at_place (x ∷ es) (suc i) e within is d = key_at_place es i e (omega arith) is d
 
 all_mono : (P Q : List ℕ → Type 0) → ((k : List ℕ) → P k → Q k) → (ks : List (List ℕ)) → AllByRecursion P ks → AllByRecursion Q ks
 all_mono P Q f [] h = tt

@@ -1,21 +1,13 @@
 -- One pair of a list of pairs, written and read by its place.
-use Rattle.std.proofs.Common.{◌≡◌, ℕ, zero, suc, ◌<◌, List, [], ◌∷◌, ◌++◌, length, get_or, slice_get, slice_set, Some, None, Option, IfSome, Box, refl, sym, ap, ◌∙◌, subst, position, take, drop, is_some, Bool, true, false, cond, arith, ◌+◌}
+use Rattle.std.proofs.Common.{◌≡◌, ℕ, zero, suc, ◌<◌, List, [], ◌∷◌, ◌++◌, length, get_or, slice_get, Some, None, Option, refl, sym, ap, ◌∙◌, subst, position, take, drop, is_some, Bool, true, false, cond, arith, ◌+◌}
 use Rattle.std.specs.Option.{option_map}
 use Rattle.std.specs.Str.{bytes_eq}
 use Rattle.std.specs.List.{IsDistinct}
 use Rattle.std.specs.Map.{keys_of, values_of, lookup, lookup_entry}
 use Rattle.std.specs.Cmp.Lexicographic.{nat_list_eq_equiv}
-use Rattle.std.specs.declared.alloc.Global.{Global}
-use Rattle.std.proofs.lemmas.Option.{slice_get-map, slice_get-get_or}
-use Rattle.std.proofs.lemmas.List.{map-append, take_more}
-use Rattle.std_collections.proofs.Entries.{keys_set_value_at}
-use Rattle.std_collections.proofs.HashLookup.{distinct_push, IsFirst, IsAbsent}
-use Rattle.indexmap.proofs.MapLemmas.{Missing-position, absent_before, some_index}
-use Rattle.indexmap.specs.IndexMap.{set_value_at}
-
--- the keys are distinct, and a table that is there has just them
-abbrev pub Tabled : Option (Box (List (List ℕ)) Global) → List (List ℕ) → Type 0
-Tabled t ks = IsDistinct bytes_eq ks × IfSome t (λ b. b.value ≡ ks)
+use Rattle.std.proofs.lemmas.List.{take_more}
+use Rattle.std_collections.proofs.HashLookup.{IsFirst, IsAbsent}
+use Rattle.indexmap.proofs.MapLemmas.{absent_before, some_index}
 
 none_by_test : {X : Type 0} (r : Option X) → is_some r ≡ false → r ≡ None
 none_by_test None h = refl
@@ -27,31 +19,6 @@ within_by_get (y ∷ ys) zero x h = omega arith
 within_by_get (y ∷ ys) (suc i) x h = let below : i < length ys = within_by_get ys i x h in omega arith
 
 module _ {V : Type 0} where
-  -- a pair written with its own key only changes the value
-  pub set_pair : (es : List (List ℕ × V)) (i : ℕ) (e : List ℕ × V) (v : V) → e ≡ get_or es i e → slice_set es i (e.0, v) ≡ set_value_at es i v
-  set_pair [] i e v h = refl
-  set_pair (x ∷ xs) zero e v h = ap (λ (p : List ℕ × V). (p.0, v) ∷ xs) h
-  set_pair (x ∷ xs) (suc i) e v h = ap (λ l. x ∷ l) (set_pair xs i e v h)
-
-  pub keys-set_pair : (es : List (List ℕ × V)) (i : ℕ) (e : List ℕ × V) (v : V) → e ≡ get_or es i e → keys_of (slice_set es i (e.0, v)) ≡ keys_of es
-  keys-set_pair es i e v h = ap keys_of (set_pair es i e v h) ∙ keys_set_value_at es i v
-
-  pub value_at_place : (es : List (List ℕ × V)) (i : ℕ) (e : List ℕ × V) → i < length es → e ≡ get_or es i e → slice_get (values_of es) i ≡ Some e.1
-  value_at_place es i e within h =
-      slice_get-map (λ (p : List ℕ × V). p.1) es i ∙ ap (option_map (λ (p : List ℕ × V). p.1)) (slice_get-get_or es i e within ∙ ap Some (sym h))
-
-  pub keys_push : (es : List (List ℕ × V)) (e : List ℕ × V) → keys_of (es ++ e ∷ []) ≡ keys_of es ++ e.0 ∷ []
-  keys_push es e = map-append (λ (p : List ℕ × V). p.0) es (e ∷ [])
-
-  -- one more pair, whose key is new, and which a table that is there notes
-  pub Tabled-push : (t : Option (Box (List (List ℕ)) Global)) (es : List (List ℕ × V)) (e : List ℕ × V)
-      → IsDistinct bytes_eq (keys_of es) → position (bytes_eq e.0) (keys_of es) ≡ None → IfSome t (λ b. b.value ≡ keys_of es ++ e.0 ∷ [])
-      → Tabled t (keys_of (es ++ e ∷ []))
-  Tabled-push t es e distinct absent noted = (
-    distinct_push bytes_eq nat_list_eq_equiv es e distinct (Missing-position (bytes_eq e.0) es absent).absent,
-    subst (λ ks. IfSome t (λ b. b.value ≡ ks)) (sym (keys_push es e)) noted,
-  )
-
   split_at : (es : List (List ℕ × V)) (i : ℕ) (e : List ℕ × V) → i < length es → e ≡ get_or es i e → es ≡ take i es ++ e ∷ drop (suc i) es
   split_at [] i e within h = absurd (omega arith)
   split_at (x ∷ xs) zero e within h = ap (λ (p : List ℕ × V). p ∷ xs) (sym h)

@@ -1,7 +1,9 @@
 pub mod Aligned
+pub mod ColumnLemmas
 pub mod Entries
 pub mod EntryLemmas
 pub mod Inserted
+pub mod KeyLists
 pub mod Ordered
 pub mod Positions
 pub mod Retention

@@ -1,5 +1,5 @@
 -- Places in a list that was mapped, and what it means that nothing is found.
-use Rattle.std.proofs.Common.{◌≡◌, ℕ, ◌+◌, Bool, false, cond, not, Some, None, List, [], ◌∷◌, map, nat_lt, position, refl, sym, ap, ◌∙◌, subst, ◌||◌, ◌++◌, if◌then◌else◌, zero, suc, ◌<◌, length, slice_get, swap_remove, IfSome, Option, arith}
+use Rattle.std.proofs.Common.{◌≡◌, ℕ, ◌+◌, Bool, false, cond, not, Some, None, List, [], ◌∷◌, map, nat_lt, position, refl, sym, ap, ◌∙◌, subst, ◌||◌, ◌++◌, if◌then◌else◌, zero, suc, ◌<◌, length, get_or, slice_get, swap_remove, IfSome, Option, arith}
 use Rattle.std.specs.List.{prefix_len, list_any, AllByRecursion}
 use Rattle.std.specs.Map.{keys_of}
 use Rattle.std.specs.Str.{bytes_eq}
@@ -22,12 +22,16 @@ module _ {X Y : Type 0} (f : X → Y) where
   list_any-absent t [] h = refl
   list_any-absent t (x ∷ xs) h = λ i. h.0 i || list_any-absent t xs h.1 i
 
-abbrev beside : {K : Type 0} → K → K × ℕ
+abbrev pub beside : {K : Type 0} → K → K × ℕ
 beside k = (k, 0)
 
-keys_back : {K : Type 0} (ks : List K) → keys_of (map beside ks) ≡ ks
+pub keys_back : {K : Type 0} (ks : List K) → keys_of (map beside ks) ≡ ks
 keys_back [] = refl
 keys_back (k ∷ ks) = ap (λ l. k ∷ l) (keys_back ks)
+
+pub none_any : {X : Type 0} (p : X → Bool) (xs : List X) → AllByRecursion (λ x. p x ≡ false) xs → list_any p xs ≡ false
+none_any p [] h = refl
+none_any p (x ∷ xs) h = λ i. h.0 i || none_any p xs h.1 i
 
 -- a test that passes nowhere fails everywhere
 pub absent_from_position : {K : Type 0} (t : K → Bool) (ks : List K) → position t ks ≡ None → AllByRecursion (λ k. t k ≡ false) ks
@@ -56,3 +60,9 @@ removed_texts f ks new i None within is went d = absurd (none_within ks i within
 removed_texts f ks new i (Some k) within is went d =
     let some : 0 < length ks = omega arith in
     ap (map f) went ∙ map-swap_remove f ks i k some ∙ swap_remove-default (map f ks) i (f k) d (omega (arith, length-map ks f))
+
+-- the item at a place, whatever stands for a place outside
+pub same_at : {X : Type 0} (xs : List X) (i : ℕ) (x d : X) → i < length xs → x ≡ get_or xs i x → x ≡ get_or xs i d
+same_at [] i x d within at = absurd (omega arith)
+same_at (y ∷ xs) zero x d within at = at
+same_at (y ∷ xs) (suc i) x d within at = same_at xs i x d (omega arith) at

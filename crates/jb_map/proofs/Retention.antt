@@ -1,9 +1,45 @@
 -- What a walk that keeps some of the pairs leaves.
-use Rattle.std.proofs.Common.{◌≡◌, ℕ, Bool, true, false, cond, List, [], ◌∷◌, length, refl, sym, subst, arith}
-use Rattle.std.specs.List.{AllByRecursion, IsDistinct, items_where_true}
-use Rattle.std.specs.List.Retain.{IsFiltered, ReturnsInTurn}
+use Rattle.std.proofs.Common.{◌≡◌, ℕ, zero, suc, ◌+◌, ◌<◌, ◌≤◌, Bool, true, false, cond, List, [], ◌∷◌, ◌++◌, length, get_or, take, drop, swap, zip, slice_set, refl, sym, ap, ◌∙◌, subst, arith, append_assoc, append-nil}
+use lib.Seq.{drop-cons, drop-set-lt}
+use Rattle.std.specs.List.{AllByRecursion, IsDistinct}
 use Rattle.std.specs.Map.{keys_of}
+use Rattle.std.specs.Str.{bytes_eq}
+use Rattle.std.proofs.lemmas.Slice.Zip.{get_or-zip}
+use Rattle.std_collections.proofs.Zip.{keys_of-zip, length-zip_even}
+use Rattle.jb_map.proofs.ColumnLemmas.{zip-swap}
 use Rattle.jb_map.specs.Retained.{Retains}
+use Rattle.jb_map.proofs.Positions.{same_at}
+
+module _ {X : Type 0} where
+  front : (xs : List X) (k i : ℕ) (d : X) → k ≤ i → i < length xs → take (suc k) (slice_set (slice_set xs k (get_or xs i d)) i (get_or xs k d)) ≡ take k xs ++ get_or xs i d ∷ []
+  front [] k i d le lt = absurd (omega arith)
+  front (x ∷ xs) zero zero d le lt = refl
+  front (x ∷ xs) zero (suc i) d le lt = refl
+  front (x ∷ xs) (suc k) zero d le lt = absurd (omega arith)
+  front (x ∷ xs) (suc k) (suc i) d le lt = ap (λ l. x ∷ l) (front xs k i d (omega arith) (omega arith))
+
+  -- an item that was exchanged with one that is not behind it
+  pub moved_front : (xs : List X) (k i : ℕ) (x : X) → k ≤ i → i < length xs → x ≡ get_or xs i x → (ys : List X) → take (k + 1) (swap xs k i) ++ ys ≡ take k xs ++ x ∷ ys
+  moved_front [] k i x le lt e ys = absurd (omega arith)
+  moved_front (d ∷ xs) k i x le lt e ys =
+      let s : k + 1 ≡ suc k = omega arith in
+      ap (λ n. take n (swap (d ∷ xs) k i) ++ ys) s ∙ ap (λ l. l ++ ys) (front (d ∷ xs) k i d le lt ∙ ap (λ y. take k (d ∷ xs) ++ y ∷ []) (sym (same_at (d ∷ xs) i x d lt e)))
+      ∙ append_assoc (take k (d ∷ xs)) (x ∷ []) ys
+
+  pub moved_back : (xs : List X) (k i : ℕ) → k ≤ i → drop (i + 1) (swap xs k i) ≡ drop (i + 1) xs
+  moved_back [] k i le = refl
+  moved_back (d ∷ xs) k i le = drop-set-lt (i + 1) _ i _ (omega arith) ∙ drop-set-lt (i + 1) (d ∷ xs) k _ (omega arith)
+
+  pub begins : (xs : List X) (i : ℕ) (x : X) → i < length xs → x ≡ get_or xs i x → drop i xs ≡ x ∷ drop (i + 1) xs
+  begins xs i x h e =
+      let s : suc i ≡ i + 1 = omega arith in
+      drop-cons xs i x h ∙ (λ j. sym e j ∷ drop (s j) xs)
+
+  pub drop_all : (xs : List X) (i : ℕ) → length xs ≤ i → drop i xs ≡ []
+  drop_all [] zero h = refl
+  drop_all [] (suc i) h = refl
+  drop_all (x ∷ xs) zero h = absurd (omega arith)
+  drop_all (x ∷ xs) (suc i) h = drop_all xs i (omega arith)
 
 module _ {V : Type 0} (T : List ℕ → V → Bool → Type 0) where
   -- what holds of each key holds of each that is kept
@@ -25,23 +61,41 @@ module _ {V : Type 0} (T : List ℕ → V → Bool → Type 0) where
       by_test true a r = (a, r)
       by_test false a r = r
 
-  -- a filter by a closure that stays as it is
-  module _ {F : Type 0} (R : F → List ℕ × V → Bool → F → Type 0) (f : F) (says : (e : List ℕ × V) (b : Bool) (f' : F) → R f e b f' → T e.0 e.1 b × (f' ≡ f)) where
-    in_turn : (bs : List Bool) (q : F) (es : List (List ℕ × V)) → length bs ≡ length es → ReturnsInTurn R f bs es q → Retains T es (items_where_true bs es)
-    in_turn [] q [] long h = refl
-    in_turn [] q (e ∷ es) long h = absurd (omega arith)
-    in_turn (b ∷ bs) q [] long h = absurd (omega arith)
-    in_turn (true ∷ bs) q (e ∷ es) long h =
-        let said = says e true h.0 h.1 in
-        (true, items_where_true bs es, said.0, in_turn bs q es (omega arith) (subst (λ g. ReturnsInTurn R g bs es q) said.1 h.2), refl)
-    in_turn (false ∷ bs) q (e ∷ es) long h =
-        let said = says e false h.0 h.1 in
-        (false, items_where_true bs es, said.0, in_turn bs q es (omega arith) (subst (λ g. ReturnsInTurn R g bs es q) said.1 h.2), refl)
+  -- the same of keys and values in columns
+  module _ (ks ls : List (List ℕ)) (vs ws : List V) (even : length vs ≡ length ks) (even' : length ws ≡ length ls) (kept : Retains T (zip ks vs) (zip ls ws)) where
+    pub column_kept : (P : List ℕ → Type 0) → AllByRecursion P ks → AllByRecursion P ls
+    column_kept P all = subst (AllByRecursion P) (keys_of-zip ls ws even') (kept_keys P (zip ks vs) (zip ls ws) kept (subst (AllByRecursion P) (sym (keys_of-zip ks vs even)) all))
 
-    pub retained : (es kept : List (List ℕ × V)) → IsFiltered R f es kept → Retains T es kept
-    retained es kept h = subst (Retains T es) (sym h.4) (in_turn h.0 h.1 es h.2 h.3)
+    pub column_distinct : IsDistinct bytes_eq ks → IsDistinct bytes_eq ls
+    column_distinct d = subst (IsDistinct bytes_eq) (keys_of-zip ls ws even') (kept_distinct bytes_eq (zip ks vs) (zip ls ws) kept (subst (IsDistinct bytes_eq) (sym (keys_of-zip ks vs even)) d))
 
--- the same, with the filter first
-pub filtered_as : {V F : Type 0} (T : List ℕ → V → Bool → Type 0) (R : F → List ℕ × V → Bool → F → Type 0) (f : F) (es kept : List (List ℕ × V)) → IsFiltered R f es kept
-    → ((e : List ℕ × V) (b : Bool) (f' : F) → R f e b f' → T e.0 e.1 b × (f' ≡ f)) → Retains T es kept
-filtered_as T R f es kept h says = retained T R f says es kept h
+  -- of the pairs at the start those before the place i were tested, and those of them that stay are the first n now
+  abbrev pub Sifts : List (List ℕ × V) → List (List ℕ × V) → ℕ → ℕ → Type 0
+  Sifts start now n i = (rest : List (List ℕ × V)) → Retains T (drop i now) rest → Retains T start (take n now ++ rest)
+
+  module _ (start now : List (List ℕ × V)) (n i : ℕ) (e : List ℕ × V) (within : i < length now) (at : e ≡ get_or now i e) (so_far : Sifts start now n i) where
+    pub passed : T e.0 e.1 false → Sifts start now n (i + 1)
+    passed says rest h = so_far rest (subst (λ l. Retains T l rest) (sym (begins now i e within at)) (false, rest, says, h, refl))
+
+    pub kept : T e.0 e.1 true → n ≤ i → Sifts start (swap now n i) (n + 1) (i + 1)
+    kept says le rest h =
+        let on = subst (λ l. Retains T l rest) (moved_back now n i le) h in
+        subst (Retains T start) (sym (moved_front now n i e le within at rest))
+        (so_far (e ∷ rest) (subst (λ l. Retains T l (e ∷ rest)) (sym (begins now i e within at)) (true, rest, says, on, refl)))
+
+  pub sifted : (start now : List (List ℕ × V)) (n i : ℕ) → length now ≤ i → Sifts start now n i → Retains T start (take n now)
+  sifted start now n i all h = subst (Retains T start) (append-nil (take n now)) (h [] (subst (λ l. Retains T l []) (sym (drop_all now i all)) refl))
+
+  module _ (start : List (List ℕ × V)) (ks : List (List ℕ)) (vs : List V) (n i : ℕ) (k : List ℕ) (v : V) (even : length vs ≡ length ks) (within : i < length ks)
+      (key : k ≡ get_or ks i k) (value : v ≡ get_or vs i v) (so_far : Sifts start (zip ks vs) n i) where
+    here : i < length (zip ks vs)
+    here = omega (arith, length-zip_even ks vs even)
+
+    pair : (k, v) ≡ get_or (zip ks vs) i (k, v)
+    pair = (λ j. (key j, value j)) ∙ sym (get_or-zip ks vs i (k, v) within (omega arith))
+
+    pub columns_passed : T k v false → Sifts start (zip ks vs) n (i + 1)
+    columns_passed says = passed start (zip ks vs) n i (k, v) here pair so_far says
+
+    pub columns_moved : T k v true → n ≤ i → Sifts start (zip (swap ks n i) (swap vs n i)) (n + 1) (i + 1)
+    columns_moved says le = subst (λ l. Sifts start l (n + 1) (i + 1)) (sym (zip-swap ks vs n i even)) (kept start (zip ks vs) n i (k, v) here pair so_far says le)

@@ -1,5 +1,5 @@
 -- Pairs that a sort has put into the order of their keys.
-use Rattle.std.proofs.Common.{◌≡◌, ℕ, suc, ◌+◌, ◌<◌, Bool, true, false, Some, None, List, [], ◌∷◌, length, get_or, refl, sym, ap, subst, ◌∙◌, arith}
+use Rattle.std.proofs.Common.{◌≡◌, ℕ, suc, ◌+◌, ◌<◌, Bool, true, false, Some, None, List, [], ◌∷◌, length, get_or, zip, refl, sym, ap, subst, ◌∙◌, arith}
 use mathlib.Core.Bool.{true≢false}
 use Rattle.std.specs.Str.{bytes_eq}
 use Rattle.std.specs.List.{IsDistinct}
@@ -11,6 +11,7 @@ use Rattle.std.proofs.lemmas.List.{length-map}
 use Rattle.std.proofs.lemmas.List.Sorted.{IsPermutation-map}
 use Rattle.std.proofs.lemmas.Map.Keys.{apart_from_distinct}
 use Rattle.indexmap.proofs.MapLemmas.{distinct_permutation, lookup_permutation, sorted_keys}
+use Rattle.std_collections.proofs.Zip.{keys_of-zip}
 use Rattle.jb_map.specs.ByKey.{is_below, by_key}
 use Rattle.jb_map.proofs.TextOrder.{below_trans, below_from_rest, below_one_way, same_text, by_order}
 use Rattle.jb_map.proofs.Ordered.{Ascending, Ascending-by_key, AllKeys-mono, None-above, Some-first, skip_first, lookup-by_key}
@@ -95,3 +96,8 @@ module _ {V : Type 0} where
       let apart = distinct_permuted es fs moved distinct in
       same_from_lookups fs (by_key es) (ascending_sorted fs apart sorted) (Ascending-by_key es distinct)
       (λ k. lookup_permutation nat_list_eq_equiv es fs moved apart (bytes_eq k) (nat_list_eq_equiv.congr k) ∙ sym (lookup-by_key k es))
+
+  -- the keys of two columns, where the pairs of both were put into another order
+  pub columns_permuted : (ks ls : List (List ℕ)) (vs ws : List V) → length vs ≡ length ks → length ws ≡ length ls → IsPermutation (zip ks vs) (zip ls ws) → IsPermutation ks ls
+  columns_permuted ks ls vs ws even even' moved =
+      subst (λ l. IsPermutation l ls) (keys_of-zip ks vs even) (subst (IsPermutation (keys_of (zip ks vs))) (keys_of-zip ls ws even') (keys_permuted (zip ks vs) (zip ls ws) moved))

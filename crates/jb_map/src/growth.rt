@@ -1,11 +1,15 @@
-ghost use Rattle.std.specs.Prelude.{◌≡◌, [], IfOk, OnOk, OnErr, MatchOption, reverse};
+ghost use Rattle.std.specs.Prelude.{◌≡◌, [], IfOk, OnOk, OnErr, MatchOption, length, reverse, zip, vec_len};
 ghost use Rattle.std.specs.Str.{bytes_eq};
 ghost use Rattle.indexmap.specs.IndexMap.{insert_entry, insert_all};
 ghost use Rattle.jb_map.specs.Moved.{InsertsSome, MovesSome};
 
+use super::columns::pop_pair;
+use super::key_column::KeyColumn;
+use super::key_list::KeyList;
 use super::pairs::Pairs;
 use jb_text::{ByteString, Listed};
 use std::alloc::{AllocError, Global};
+use std::mem;
 
 impl<V: Drop> Pairs<V> {
     /// A map of these pairs, inserted in order: of pairs with one key the first gives the place and the last the
@@ -40,22 +44,50 @@ impl<V: Drop> Pairs<V> {
         ensures emptied { OnOk result (other.new ≡ []) }
         ensures refused { OnErr result (MovesSome self.old other.old self.new other.new) }
     {
-        other.table = None;
-        other.held.reverse();
-        let moved = self.take_back_to_front(&mut other.held);
-        other.held.reverse();
+        match mem::replace(&mut other.keys, KeyColumn::new()).into_list() {
+            Some(mut list) => {
+                let moved = self.take_pairs(&mut list, &mut other.values);
+                other.keys = KeyColumn::from_list(list);
+                moved
+            }
+            None => Ok(()),
+        }
+    }
+
+    /// Inserts the pairs of these keys and values in order, as [`Pairs::append`] does.
+    fn take_pairs(&mut self, list: &mut KeyList, values: &mut Vec<V>) -> Result<(), AllocError>
+        requires { length values.old.items ≡ length list.old }
+        ensures pairs { OnOk result (self.new ≡ insert_all bytes_eq self.old (zip list.old values.old.items)) }
+        ensures emptied { OnOk result (zip list.new values.new.items ≡ []) }
+        ensures refused { OnErr result (MovesSome self.old (zip list.old values.old.items) self.new (zip list.new values.new.items)) }
+        ensures even { length values.new.items ≡ length list.new }
+    {
+        let mut texts = list.take_texts(*values.allocator());
+        texts.reverse();
+        values.reverse();
+        let moved = self.take_back_to_front(&mut texts, values);
+        texts.reverse();
+        values.reverse();
+        list.put_texts(texts);
         moved
     }
 
-    /// Inserts pairs that are taken from the back of a list.
-    fn take_back_to_front(&mut self, pairs: &mut Vec<(ByteString, V)>) -> Result<(), AllocError>
-        ensures pairs { OnOk result (self.new ≡ insert_all bytes_eq self.old (reverse pairs.old.items)) }
-        ensures emptied { OnOk result (pairs.new.items ≡ []) }
-        ensures refused { OnErr result (MovesSome self.old (reverse pairs.old.items) self.new (reverse pairs.new.items)) }
+    /// Inserts pairs that are taken from the back of a list of keys and one of values.
+    fn take_back_to_front(
+        &mut self,
+        texts: &mut Vec<ByteString>,
+        values: &mut Vec<V>,
+    ) -> Result<(), AllocError>
+        requires { vec_len values.old ≡ vec_len texts.old }
+        ensures pairs { OnOk result (self.new ≡ insert_all bytes_eq self.old (reverse (zip texts.old.items values.old.items))) }
+        ensures emptied { OnOk result (zip texts.new.items values.new.items ≡ []) }
+        ensures refused { OnErr result (MovesSome self.old (reverse (zip texts.old.items values.old.items)) self.new (reverse (zip texts.new.items values.new.items))) }
+        ensures even { vec_len values.new ≡ vec_len texts.new }
     {
-        while let Some((key, value)) = pairs.pop() {
-            if let Some(pair) = self.put(key, value) {
-                pairs.push_reserved(pair);
+        while let Some((key, value)) = pop_pair(texts, values) {
+            if let Some((key, value)) = self.put(key, value) {
+                texts.push_reserved(key);
+                values.push_reserved(value);
                 return Err(AllocError);
             }
         }

@@ -1,8 +1,8 @@
-//! The walks of a map. Each is seen as the list of what it has left, and ends for good, from whichever ends it is taken.
-ghost use Rattle.std.specs.Prelude.{◌≡◌, length};
+//! The walks of a map that give pairs. Each is seen as the list of what it has left, and ends for good, from whichever
+//! ends it is taken.
+ghost use Rattle.std.specs.Prelude.{◌≡◌, length, zip};
 ghost use Rattle.std.specs.Iterator.{at_most};
-ghost use Rattle.std.specs.Map.Iter.{TakesFirst, TakesLast, deref, deref_pair};
-ghost use Rattle.std.specs.Map.{keys_of, values_of};
+ghost use Rattle.std.specs.Map.Iter.{TakesFirst, TakesLast, deref_pair};
 
 use super::pairs::Pairs;
 use jb_text::ByteString;
@@ -13,11 +13,12 @@ use std::{slice, vec};
 /// The pairs of a map in order.
 #[derive(Drop)]
 pub struct Iter<'a, V> {
-    left: slice::Iter<'a, (ByteString, V)>,
+    keys: slice::Iter<'a, ByteString>,
+    values: slice::Iter<'a, V>,
 }
 
 impl<'a, V> Model for Iter<'a, V> {
-    ghost use Rattle.std.specs.Prelude.{List, ℕ};
+    ghost use Rattle.std.specs.Prelude.{◌≡◌, List, ℕ, length, zip};
     ghost use Rattle.std.specs.Coded.{coded_list, coded×, coded_ℕ};
     ghost use Rattle.std.specs.Slice.Iter.{iter_rest};
 
@@ -25,14 +26,20 @@ impl<'a, V> Model for Iter<'a, V> {
 
     ghost coded = { coded_list (coded× (coded_list coded_ℕ) V.code) };
 
-    ghost view = { λ s. iter_rest s.left };
+    ghost view = { λ s. zip (iter_rest s.keys) (iter_rest s.values) };
+
+    ghost invariant = { λ s. length (iter_rest s.values) ≡ length (iter_rest s.keys) };
 }
 
 impl<'a, V> Iter<'a, V> {
-    pub(crate) fn new(pairs: &'a [(ByteString, V)]) -> Iter<'a, V>
-        ensures { result ≡ pairs.now }
+    pub(crate) fn new(keys: &'a [ByteString], values: &'a [V]) -> Iter<'a, V>
+        requires { length values.now ≡ length keys.now }
+        ensures { result ≡ zip keys.now values.now }
     {
-        Iter { left: pairs.iter() }
+        Iter {
+            keys: keys.iter(),
+            values: values.iter(),
+        }
     }
 }
 
@@ -44,8 +51,8 @@ impl<'a, V> Iterator for Iter<'a, V> {
     ghost remaining = { λ s. at_most (length s) };
 
     fn next(&mut self) -> Option<(&'a ByteString, &'a V)> {
-        let pair = self.left.next()?;
-        Some((&pair.0, &pair.1))
+        let key = self.keys.next()?;
+        Some((key, self.values.next().unwrap()))
     }
 
     fn size_hint(&self) -> (usize, Option<usize>) {
@@ -58,150 +65,28 @@ impl<'a, V> DoubleEndedIterator for Iter<'a, V> {
     ghost next_back_gives = { TakesLast deref_pair };
 
     fn next_back(&mut self) -> Option<(&'a ByteString, &'a V)> {
-        let pair = self.left.next_back()?;
-        Some((&pair.0, &pair.1))
+        let key = self.keys.next_back()?;
+        Some((key, self.values.next_back().unwrap()))
     }
 }
 
 impl<'a, V> ExactSizeIterator for Iter<'a, V> {
     fn len(&self) -> usize {
-        self.left.len()
+        self.keys.len()
     }
 }
 
 impl<'a, V> FusedIterator for Iter<'a, V> {}
 
-/// The keys of a map in order.
-#[derive(Drop)]
-pub struct Keys<'a, V> {
-    pairs: Iter<'a, V>,
-}
-
-impl<'a, V> Model for Keys<'a, V> {
-    ghost use Rattle.std.specs.Prelude.{List, ℕ};
-    ghost use Rattle.std.specs.Map.{keys_of};
-
-    ghost Value = { List (List ℕ) };
-
-    ghost view = { λ s. keys_of s.pairs };
-}
-
-impl<'a, V> Keys<'a, V> {
-    pub(crate) fn new(pairs: &'a [(ByteString, V)]) -> Keys<'a, V>
-        ensures { result ≡ keys_of pairs.now }
-    {
-        Keys {
-            pairs: Iter::new(pairs),
-        }
-    }
-}
-
-impl<'a, V> Iterator for Keys<'a, V> {
-    type Item = &'a ByteString;
-
-    ghost next_gives = { TakesFirst deref };
-
-    ghost remaining = { λ s. at_most (length s) };
-
-    fn next(&mut self) -> Option<&'a ByteString> {
-        let pair = self.pairs.next()?;
-        Some(pair.0)
-    }
-
-    fn size_hint(&self) -> (usize, Option<usize>) {
-        let len = self.len();
-        (len, Some(len))
-    }
-}
-
-impl<'a, V> DoubleEndedIterator for Keys<'a, V> {
-    ghost next_back_gives = { TakesLast deref };
-
-    fn next_back(&mut self) -> Option<&'a ByteString> {
-        let pair = self.pairs.next_back()?;
-        Some(pair.0)
-    }
-}
-
-impl<'a, V> ExactSizeIterator for Keys<'a, V> {
-    fn len(&self) -> usize {
-        self.pairs.len()
-    }
-}
-
-impl<'a, V> FusedIterator for Keys<'a, V> {}
-
-/// The values of a map in order.
-#[derive(Drop)]
-pub struct Values<'a, V> {
-    pairs: Iter<'a, V>,
-}
-
-impl<'a, V> Model for Values<'a, V> {
-    ghost use Rattle.std.specs.Prelude.{List};
-    ghost use Rattle.std.specs.Coded.{coded_list};
-    ghost use Rattle.std.specs.Map.{values_of};
-
-    ghost Value = { List V };
-
-    ghost coded = { coded_list V.code };
-
-    ghost view = { λ s. values_of s.pairs };
-}
-
-impl<'a, V> Values<'a, V> {
-    pub(crate) fn new(pairs: &'a [(ByteString, V)]) -> Values<'a, V>
-        ensures { result ≡ values_of pairs.now }
-    {
-        Values {
-            pairs: Iter::new(pairs),
-        }
-    }
-}
-
-impl<'a, V> Iterator for Values<'a, V> {
-    type Item = &'a V;
-
-    ghost next_gives = { TakesFirst deref };
-
-    ghost remaining = { λ s. at_most (length s) };
-
-    fn next(&mut self) -> Option<&'a V> {
-        let pair = self.pairs.next()?;
-        Some(pair.1)
-    }
-
-    fn size_hint(&self) -> (usize, Option<usize>) {
-        let len = self.len();
-        (len, Some(len))
-    }
-}
-
-impl<'a, V> DoubleEndedIterator for Values<'a, V> {
-    ghost next_back_gives = { TakesLast deref };
-
-    fn next_back(&mut self) -> Option<&'a V> {
-        let pair = self.pairs.next_back()?;
-        Some(pair.1)
-    }
-}
-
-impl<'a, V> ExactSizeIterator for Values<'a, V> {
-    fn len(&self) -> usize {
-        self.pairs.len()
-    }
-}
-
-impl<'a, V> FusedIterator for Values<'a, V> {}
-
 /// The pairs of a map in order, each by value.
 #[derive(Drop)]
 pub struct IntoIter<V> {
-    left: vec::IntoIter<(ByteString, V)>,
+    keys: vec::IntoIter<ByteString>,
+    values: vec::IntoIter<V>,
 }
 
 impl<V> Model for IntoIter<V> {
-    ghost use Rattle.std.specs.Prelude.{List, ℕ};
+    ghost use Rattle.std.specs.Prelude.{◌≡◌, List, ℕ, length, zip};
     ghost use Rattle.std.specs.Coded.{coded_list, coded×, coded_ℕ};
     ghost use Rattle.std.specs.Vec.Iter.{into_iter_items};
 
@@ -209,15 +94,19 @@ impl<V> Model for IntoIter<V> {
 
     ghost coded = { coded_list (coded× (coded_list coded_ℕ) V.code) };
 
-    ghost view = { λ s. into_iter_items s.left };
+    ghost view = { λ s. zip (into_iter_items s.keys) (into_iter_items s.values) };
+
+    ghost invariant = { λ s. length (into_iter_items s.values) ≡ length (into_iter_items s.keys) };
 }
 
 impl<V> IntoIter<V> {
-    pub(crate) fn new(pairs: Vec<(ByteString, V)>) -> IntoIter<V>
-        ensures { result ≡ pairs.items }
+    fn new(keys: Vec<ByteString>, values: Vec<V>) -> IntoIter<V>
+        requires { length values.items ≡ length keys.items }
+        ensures { result ≡ zip keys.items values.items }
     {
         IntoIter {
-            left: pairs.into_iter(),
+            keys: keys.into_iter(),
+            values: values.into_iter(),
         }
     }
 }
@@ -230,7 +119,8 @@ impl<V: Drop> Iterator for IntoIter<V> {
     ghost remaining = { λ s. at_most (length s) };
 
     fn next(&mut self) -> Option<(ByteString, V)> {
-        self.left.next()
+        let key = self.keys.next()?;
+        Some((key, self.values.next().unwrap()))
     }
 
     fn size_hint(&self) -> (usize, Option<usize>) {
@@ -243,13 +133,14 @@ impl<V: Drop> DoubleEndedIterator for IntoIter<V> {
     ghost next_back_gives = { TakesLast (λ p. p) };
 
     fn next_back(&mut self) -> Option<(ByteString, V)> {
-        self.left.next_back()
+        let key = self.keys.next_back()?;
+        Some((key, self.values.next_back().unwrap()))
     }
 }
 
 impl<V: Drop> ExactSizeIterator for IntoIter<V> {
     fn len(&self) -> usize {
-        self.left.len()
+        self.keys.len()
     }
 }
 
@@ -263,6 +154,8 @@ impl<V: Drop> IntoIterator for Pairs<V> {
     ghost into_iter_gives = { λ m r. r ≡ m };
 
     fn into_iter(self) -> IntoIter<V> {
-        IntoIter::new(self.into_pairs())
+        let Pairs { keys, values } = self;
+        let alloc = *values.allocator();
+        IntoIter::new(keys.into_texts(alloc), values)
     }
 }

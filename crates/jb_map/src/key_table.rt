@@ -1,7 +1,6 @@
 ghost use Rattle.std.specs.Prelude.{◌≡◌, ◌<◌, ℕ, List, None, [], ◌∷◌, ◌++◌, OnOk, OnErr, length, position, swap_remove, swap, take, slice_index_or, true, false};
 ghost use Rattle.std.specs.Str.{bytes_eq};
 ghost use Rattle.std.specs.List.{IsDistinct, list_any};
-ghost use Rattle.std.specs.Map.{keys_of};
 ghost use Rattle.jb_map.specs.Covers.{Covers};
 
 use indexmap::IndexSet;
@@ -24,6 +23,7 @@ impl Model for KeyTable {
 }
 
 impl KeyTable {
+    /// A table without keys. It allocates nothing until the first `push`.
     pub fn new(alloc: Global) -> KeyTable
         ensures { result ≡ [] }
     {
@@ -59,16 +59,16 @@ impl KeyTable {
         let _key = self.texts.swap_remove_index(index);
     }
 
-    /// Brings the keys into the order of these pairs, and takes out those that are not among them. It takes no memory.
-    pub fn align<V>(&mut self, held: &[(ByteString, V)])
-        requires distinct { IsDistinct bytes_eq (keys_of held.now) }
-        requires covered { Covers self.old (keys_of held.now) }
-        ensures { self.new ≡ keys_of held.now }
+    /// Brings the keys into the order of these texts, and takes out those that are not among them. It takes no memory.
+    pub fn align(&mut self, texts: &[ByteString])
+        requires distinct { IsDistinct bytes_eq texts.now }
+        requires covered { Covers self.old texts.now }
+        ensures { self.new ≡ texts.now }
     {
-        for index in 0..held.len() {
-            self.bring(held[index].0.as_str(), index);
+        for index in 0..texts.len() {
+            self.bring(texts[index].as_str(), index);
         }
-        self.cut(held.len());
+        self.cut(texts.len());
     }
 
     /// Moves a key that is at `index` or later to `index`.

@@ -4,19 +4,26 @@
 #![tactic(auto)]
 
 mod by_key;
+mod columns;
 mod compared;
 mod entry;
 mod growth;
 mod iter;
+mod iter_mut;
+mod key_column;
+mod key_list;
 mod key_table;
 mod lent;
 mod order;
 mod pairs;
+mod parts;
 mod removal;
 
 pub use entry::{Entry, OccupiedEntry, VacantEntry};
-pub use iter::{IntoIter, Iter, Keys, Values};
+pub use iter::{IntoIter, Iter};
+pub use iter_mut::{IterMut, ValuesMut};
 pub use pairs::Pairs;
+pub use parts::{Keys, Values};
 
 #[cfg(test)]
 mod tests;

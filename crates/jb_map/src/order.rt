@@ -1,4 +1,4 @@
-ghost use Rattle.std.specs.Prelude.{◌≡◌, IfSome, OnOk, OnErr};
+ghost use Rattle.std.specs.Prelude.{◌≡◌, IfSome, OnOk, OnErr, length, zip, vec_len};
 ghost use Rattle.std.specs.Str.{bytes_eq};
 ghost use Rattle.std.specs.List.{IsDistinct};
 ghost use Rattle.std.specs.List.Sorted.{IsPermutation};
@@ -9,10 +9,13 @@ ghost use Rattle.jb_map.specs.ByKey.{by_key};
 ghost use Rattle.jb_map.specs.Covers.{Covers};
 ghost use Rattle.jb_map.specs.Retained.{Keeps, Retains};
 
+use super::columns::{join, keep_pairs, split};
+use super::key_column::KeyColumn;
+use super::key_list::KeyList;
 use super::key_table::KeyTable;
 use super::pairs::Pairs;
 use jb_text::ByteString;
-use std::alloc::AllocError;
+use std::alloc::{AllocError, Global};
 use std::cmp::Ordering;
 
 impl<V: Drop> Pairs<V> {
@@ -21,8 +24,7 @@ impl<V: Drop> Pairs<V> {
         requires { F.IsAlwaysCallable keep }
         ensures { Retains (Keeps F.Fn keep) self.old self.new }
     {
-        keep_pairs(&mut self.held, keep);
-        align_table(&mut self.table, self.held.as_slice());
+        self.keys.retain(&mut self.values, keep);
     }
 
     /// Puts the pairs into the order of their keys' bytes. `Err` only for want of memory, with the map as it was.
@@ -30,34 +32,92 @@ impl<V: Drop> Pairs<V> {
         ensures sorted { OnOk result (self.new ≡ by_key self.old) }
         ensures refused { OnErr result (self.new ≡ self.old) }
     {
-        let sorted = sort_pairs(&mut self.held);
-        align_table(&mut self.table, self.held.as_slice());
+        let alloc = *self.values.allocator();
+        self.keys.sort(alloc, &mut self.values)
+    }
+}
+
+impl KeyColumn {
+    /// Keeps the keys and the values for which `keep` gives true.
+    fn retain<V: Drop, F: Fn(&ByteString, &V) -> bool>(&mut self, values: &mut Vec<V>, keep: F)
+        requires callable { F.IsAlwaysCallable keep }
+        requires even { length values.old.items ≡ length self.old }
+        ensures kept { Retains (Keeps F.Fn keep) (zip self.old values.old.items) (zip self.new values.new.items) }
+        ensures even { length values.new.items ≡ length self.new }
+    {
+        if let Some(list) = &mut self.list {
+            list.retain(values, keep);
+        }
+    }
+
+    /// Puts the keys and the values into the order of the keys' bytes. `Err` only for want of memory, with both as
+    /// they were.
+    fn sort<V: Drop>(&mut self, alloc: Global, values: &mut Vec<V>) -> Result<(), AllocError>
+        requires { length values.old.items ≡ length self.old }
+        ensures sorted { OnOk result (zip self.new values.new.items ≡ by_key (zip self.old values.old.items)) }
+        ensures refused { OnErr result (zip self.new values.new.items ≡ zip self.old values.old.items) }
+        ensures even { length values.new.items ≡ length self.new }
+    {
+        match &mut self.list {
+            Some(list) => list.sort(alloc, values),
+            None => Ok(()),
+        }
+    }
+}
+
+impl KeyList {
+    /// As [`KeyColumn::retain`].
+    fn retain<V: Drop, F: Fn(&ByteString, &V) -> bool>(&mut self, values: &mut Vec<V>, keep: F)
+        requires callable { F.IsAlwaysCallable keep }
+        requires even { length values.old.items ≡ length self.old }
+        ensures kept { Retains (Keeps F.Fn keep) (zip self.old values.old.items) (zip self.new values.new.items) }
+        ensures even { length values.new.items ≡ length self.new }
+    {
+        keep_pairs(&mut self.texts, values, keep);
+        align_table(&mut self.table, self.texts.as_slice());
+    }
+
+    /// As [`KeyColumn::sort`].
+    fn sort<V: Drop>(&mut self, alloc: Global, values: &mut Vec<V>) -> Result<(), AllocError>
+        requires { length values.old.items ≡ length self.old }
+        ensures sorted { OnOk result (zip self.new values.new.items ≡ by_key (zip self.old values.old.items)) }
+        ensures refused { OnErr result (zip self.new values.new.items ≡ zip self.old values.old.items) }
+        ensures even { length values.new.items ≡ length self.new }
+    {
+        let sorted = sort_columns(alloc, &mut self.texts, values);
+        align_table(&mut self.table, self.texts.as_slice());
         sorted
     }
 }
 
-/// Brings the keys of the table, where there is one, into the order of these pairs.
-fn align_table<V>(table: &mut Option<Box<KeyTable>>, held: &[(ByteString, V)])
-    requires distinct { IsDistinct bytes_eq (keys_of held.now) }
-    requires covered { IfSome table.old (λ t. Covers t.value (keys_of held.now)) }
-    ensures { IfSome table.new (λ t. t.value ≡ keys_of held.now) }
+/// Brings the keys of the table, where there is one, into the order of these texts.
+fn align_table(table: &mut Option<Box<KeyTable>>, texts: &[ByteString])
+    requires distinct { IsDistinct bytes_eq texts.now }
+    requires covered { IfSome table.old (λ t. Covers t.value texts.now) }
+    ensures { IfSome table.new (λ t. t.value ≡ texts.now) }
 {
     if let Some(keys) = table {
-        keys.align(held);
+        keys.align(texts);
     }
 }
 
-/// Keeps the pairs for which `keep` gives true.
-fn keep_pairs<V: Drop, F: Fn(&ByteString, &V) -> bool>(held: &mut Vec<(ByteString, V)>, keep: F)
-    requires { F.IsAlwaysCallable keep }
-    ensures { Retains (Keeps F.Fn keep) held.old.items held.new.items }
+/// Puts distinct keys, and the values in step, into the order of the keys.
+fn sort_columns<V: Drop>(
+    alloc: Global,
+    texts: &mut Vec<ByteString>,
+    values: &mut Vec<V>,
+) -> Result<(), AllocError>
+    requires distinct { IsDistinct bytes_eq texts.old.items }
+    requires even { vec_len values.old ≡ vec_len texts.old }
+    ensures permutation { IsPermutation (zip texts.old.items values.old.items) (zip texts.new.items values.new.items) }
+    ensures sorted { OnOk result (zip texts.new.items values.new.items ≡ by_key (zip texts.old.items values.old.items)) }
+    ensures refused { OnErr result (zip texts.new.items values.new.items ≡ zip texts.old.items values.old.items) }
+    ensures even { vec_len values.new ≡ vec_len texts.new }
 {
-    held.retain(
-        |pair: &(ByteString, V)| -> bool
-            requires { F.IsAlwaysCallable keep }
-            ensures { Keeps F.Fn keep pair.now.0 pair.now.1 result }
-        { keep(&pair.0, &pair.1) },
-    );
+    let mut pairs = join(alloc, texts, values)?;
+    let sorted = sort_pairs(&mut pairs);
+    split(pairs, texts, values);
+    sorted
 }
 
 /// Puts pairs with distinct keys into the order of these.

@@ -1,9 +1,8 @@
-ghost use Rattle.std.specs.Prelude.{◌≡◌, ◌<◌, ℕ, List, Some, IfSome, length, slice_get, swap_remove};
+ghost use Rattle.std.specs.Prelude.{◌≡◌, ◌<◌, Some, length, slice_get, swap_remove};
 ghost use Rattle.std.specs.Str.{bytes_eq};
-ghost use Rattle.std.specs.Map.{keys_of, lookup, lookup_entry};
+ghost use Rattle.std.specs.Map.{lookup, lookup_entry};
 ghost use Rattle.indexmap.specs.IndexMap.{swap_remove_entry};
 
-use super::key_table::KeyTable;
 use super::pairs::Pairs;
 use jb_text::ByteString;
 
@@ -36,18 +35,6 @@ impl<V: Drop> Pairs<V> {
         ensures pair { slice_get self.old index ≡ Some result }
         ensures pairs { self.new ≡ swap_remove self.old index result }
     {
-        forget_key(&mut self.table, self.held.as_slice(), index);
-        self.held.swap_remove(index)
-    }
-}
-
-/// Takes the key at `index` out of the table, where there is one.
-fn forget_key<V>(table: &mut Option<Box<KeyTable>>, held: &[(ByteString, V)], index: usize)
-    requires within { index < length held.now }
-    requires fits { IfSome table.old (λ t. t.value ≡ keys_of held.now) }
-    ensures { (d : List ℕ) → IfSome table.new (λ t. t.value ≡ swap_remove (keys_of held.now) index d) }
-{
-    if let Some(keys) = table {
-        keys.swap_remove(index);
+        (self.keys.swap_remove(index), self.values.swap_remove(index))
     }
 }

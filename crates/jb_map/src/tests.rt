@@ -68,3 +68,64 @@ fn changes(rt: HostRuntime) -> Result<(), Fail> {
     assert_eq!(rt; all.iter().next_back().map(|pair| *pair.1), Some(9));
     Ok(())
 }
+
+/// A map of three pairs.
+fn three(alloc: Global) -> Result<Pairs<u64>, Fail> {
+    let mut list = Listed::new(alloc);
+    for number in 0..3u64 {
+        list.push((key(alloc, number)?, number))?;
+    }
+    Ok(Pairs::from_pairs(alloc, list)?)
+}
+
+/// What a walk from both ends writes is found by key.
+#[test]
+fn changes_values_by_pairs(rt: HostRuntime) -> Result<(), Fail> {
+    let alloc = rt.alloc();
+    let mut map = three(alloc)?;
+    let mut walk = map.iter_mut();
+    assert_eq!(rt; walk.len(), 3);
+    let (text, value) = walk.next_back().ok_or("no last pair")?;
+    assert_eq!(rt; text.as_str(), "key 2");
+    *value = 22;
+    let (text, value) = walk.next().ok_or("no first pair")?;
+    assert_eq!(rt; text.as_str(), "key 0");
+    *value = 20;
+    assert_eq!(rt; walk.len(), 1);
+    let (text, value) = walk.next_back().ok_or("no pair between")?;
+    assert_eq!(rt; text.as_str(), "key 1");
+    *value = 21;
+    assert!(rt; walk.next().is_none());
+    assert_eq!(rt; walk.len(), 0);
+    assert_eq!(rt; order(alloc, &map)?.as_str(), "key 0;key 1;key 2;");
+    assert_eq!(rt; map.get("key 0").copied(), Some(20));
+    assert_eq!(rt; map.get("key 1").copied(), Some(21));
+    assert_eq!(rt; map.get("key 2").copied(), Some(22));
+    Ok(())
+}
+
+/// The same of the walk that gives the values alone, which ends for good.
+#[test]
+fn changes_values(rt: HostRuntime) -> Result<(), Fail> {
+    let alloc = rt.alloc();
+    let mut map = three(alloc)?;
+    let mut walk = map.values_mut();
+    assert_eq!(rt; walk.len(), 3);
+    let value = walk.next().ok_or("no first value")?;
+    assert_eq!(rt; *value, 0);
+    *value = 20;
+    let value = walk.next_back().ok_or("no last value")?;
+    assert_eq!(rt; *value, 2);
+    *value = 22;
+    let value = walk.next().ok_or("no value between")?;
+    *value = 21;
+    assert!(rt; walk.next_back().is_none());
+    assert!(rt; walk.next().is_none());
+    assert!(rt; walk.next_back().is_none());
+    assert_eq!(rt; walk.len(), 0);
+    assert_eq!(rt; order(alloc, &map)?.as_str(), "key 0;key 1;key 2;");
+    assert_eq!(rt; map.get("key 0").copied(), Some(20));
+    assert_eq!(rt; map.get("key 1").copied(), Some(21));
+    assert_eq!(rt; map.get("key 2").copied(), Some(22));
+    Ok(())
+}

@@ -1,18 +1,17 @@
 -- `Pairs` as a type that may hold the type that holds it, by its values.
-use Rattle.std.specs.Prelude.{ℕ, Bool, true, false, cond, ◌&&◌, ◌++◌, map, length, Option, Some, None, IfSome, Box}
-use mathlib.Core.Path.{◌≡◌, refl, sym, ap, subst, ◌∙◌}
+use Rattle.std.specs.Prelude.{ℕ, Bool, true, false, cond, ◌&&◌, ◌++◌, map, length, zip}
+use mathlib.Core.Path.{◌≡◌, refl, sym, ap, ◌∙◌}
 use mathlib.Core.List.{List, [], ◌∷◌}
-use mathlib.Core.HLevel.{×_prop, Unit-prop}
-use mathlib.Core.Former.{Former, this, const, pair, list, via, children}
-use base.Stored.{Coded-set, coded_list, coded_ℕ}
+use native.Mathlib.Nat.{ℕ_set}
+use native.Mathlib.Omega.{arith}
+use mathlib.Core.Former.{Former, one_more, this, const, pair, list, via, children}
 use denote.RattleType.{RattleType}
 use denote.HoleLaws.{Alike}
-use denote.HolePlaces.{Recodes, struct_places, laid, stays}
+use denote.HolePlaces.{Recodes, struct_places, laid}
 use denote.Hole.Carrier.{listed}
 use denote.Hole.Fix.{over}
 use denote.Param.Weighed.{Weighed, most}
-use denote.Model.Placed.{view_places}
-use denote.Struct.Tuple.{Tuple, tuple_type}
+use denote.Model.Placed.{held, view_places_where}
 use Rattle.std.specs.formers.vec.Vec as vec
 use Rattle.std.specs.declared.alloc.Global.{Global}
 use Rattle.std.specs.contracts.alloc.Global as heap
@@ -23,10 +22,9 @@ use Rattle.std.specs.Cmp.Lexicographic.{pointwise}
 use Rattle.std.specs.List.{flat_map}
 use Rattle.std.specs.Hash.{HashWrites, usize}
 use Rattle.std.specs.Str.{bytes_eq}
-use Rattle.std.specs.List.{IsDistinct, IsDistinct-prop}
 use Rattle.std.specs.Map.{values_of}
 use lib.ListN.{length-map}
-use Rattle.std_collections.specs.Layout.Former.{entry, on_value, entries_puts, values_listed, keys_on_values, entries_recoded}
+use Rattle.std_collections.specs.Layout.Former.{entry, on_value, entries_puts, values_listed, entries_recoded}
 use Rattle.jb_map.specs.ByKey.{is_below, put_by_key, by_key, same_pair, same_pairs, pair_input, pairs_input}
 use Rattle.jb_map.specs.declared.pairs.Pairs.TheInside.{Inside}
 use Rattle.jb_map.specs.declared.pairs.Pairs.TheView.{view, invariant}
@@ -52,38 +50,31 @@ the_items X d = values_of d
 pub the_items_listed : (X : Type 0) (d : List (Bytes × X)) → listed _ (children (the_former this) X d) ≡ the_items X d
 the_items_listed X d = values_listed Bytes X d
 
-abbrev Table : Type 0
-Table = Option (Box (List Bytes) Global)
-
+-- the keys are no part of what a map holds: they are texts alone
 abbrev fields : Former {0}
-fields = via (pair (const Table) (vec.the_former (entry this Bytes) Global)) Inside (λ X a. (a.table, a.held)) (λ X v. record { table = v.0; held = v.1 }) (λ X a. refl) (λ X v. refl)
+fields = via (pair (const (List Bytes)) (vec.the_former this Global)) Inside (λ X a. (a.keys, a.values)) (λ X v. record { keys = v.0; values = v.1 }) (λ X a. refl) (λ X v. refl)
 
--- the keys are distinct, and a table has just them
-abbrev Tabled : Table → List Bytes → Type 0
-Tabled t ks = IsDistinct bytes_eq ks × IfSome t (λ b. b.value ≡ ks)
+zip-map : {X Y : Type 0} (h : X → Y) (ks : List Bytes) (vs : List X) → zip ks (map h vs) ≡ map (on_value h) (zip ks vs)
+zip-map h [] vs = refl
+zip-map h (k ∷ ks) [] = refl
+zip-map h (k ∷ ks) (v ∷ vs) = ap (λ l. (k, h v) ∷ l) (zip-map h ks vs)
 
-fits-prop : (t : Table) (ks : List Bytes) → IsProp (IfSome t (λ b. b.value ≡ ks))
-fits-prop None ks = Unit-prop
-fits-prop (Some b) ks = Coded-set (coded_list (coded_list coded_ℕ)) _ _
-
-Tabled-prop : (t : Table) (ks : List Bytes) → IsProp (Tabled t ks)
-Tabled-prop t ks = ×_prop (IsDistinct-prop bytes_eq ks) (fits-prop t ks)
+zip-held : (X : Type 0) (ks : List Bytes) (vs : List X) → length vs ≡ length ks → held (list (entry this Bytes)) X (zip ks vs) ≡ held (list this) X vs
+zip-held X [] [] e = refl
+zip-held X [] (v ∷ vs) e = absurd (omega arith)
+zip-held X (k ∷ ks) [] e = absurd (omega arith)
+zip-held X (k ∷ ks) (v ∷ vs) e = λ i. (one_more (zip-held X ks vs (omega arith) i).0, (v, (zip-held X ks vs (omega arith) i).1))
 
 module _ (R S : RattleType) (h : R.Denot → S.Denot) where
-  abbrev PairRow : RattleType → RattleType
-  PairRow T = Tuple (key.the_row ∷ T ∷ [])
-
-  pair_places : Alike R S h → Alike (PairRow R) (PairRow S) (on_value h)
-  pair_places a = struct_places (tuple_type (key.the_row ∷ R ∷ [])) (tuple_type (key.the_row ∷ S ∷ [])) ((λ k. k), (h, tt)) (on_value h) (λ d. refl) refl
-      (stays key.the_row, (laid R S h a, tt))
-
   pub the_places : Alike R S h → Alike (C.the_row R) (C.the_row S) ((the_former this).map R.Denot S.Denot h)
-  the_places a = view_places fields (the_former this) view (λ X Y k u. refl) (λ X u. refl) R.Denot S.Denot h (C.the_row R).coded (C.the_row S).coded
-      (invariant R.Denot) (invariant S.Denot) (λ u. Tabled-prop u.table _) (λ u. Tabled-prop u.table _)
-      (λ u. subst (Tabled u.table) (sym (keys_on_values h u.held.items))) (λ u. subst (Tabled u.table) (keys_on_values h u.held.items))
+  the_places a = view_places_where fields (the_former this) view (λ X Y k u. zip-map k u.keys u.values.items)
+      (λ X u. length u.values.items ≡ length u.keys) (λ X Y k u e. sym (length-map u.values.items k) ∙ e) (λ X u e. zip-held X u.keys u.values.items e)
+      R.Denot S.Denot h (C.the_row R).coded (C.the_row S).coded
+      (invariant R.Denot) (invariant S.Denot) (λ u. ℕ_set _ _) (λ u. ℕ_set _ _)
+      (λ u e. length-map u.values.items h ∙ e) (λ u e. sym (length-map u.values.items h) ∙ e) (λ u e. e)
       (over (I.the_row R)) (over (I.the_row S))
-      (struct_places (I.the_type R) (I.the_type S) ((λ t. t), (vec.mapped (on_value h), tt)) _ (λ d. refl) refl
-      ((refl, (λ n. refl, λ n. refl)), (laid _ _ _ (vec.the_places heap.the_row ghosts (PairRow R) (PairRow S) (on_value h) (pair_places a)), tt)))
+      (struct_places (I.the_type R) (I.the_type S) ((λ t. t), (vec.mapped h, tt)) _ (λ d. refl) refl
+      ((refl, (λ n. refl, λ n. refl)), (laid _ _ _ (vec.the_places heap.the_row ghosts R S h a), tt)))
 
   pub the_codes_placed : Recodes R S h → Recodes (C.the_row R) (C.the_row S) ((the_former this).map R.Denot S.Denot h)
   the_codes_placed e d = entries_recoded key.the_row R S h e d

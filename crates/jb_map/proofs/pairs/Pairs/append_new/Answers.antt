@@ -1,15 +1,18 @@
-use Rattle.std.proofs.Common.{◌≡◌, subst, ap, ◌∙◌, sym, ◌++◌, ◌∷◌, [], IfSome, position, None}
+use Rattle.std.proofs.Common.{ap, ◌∙◌, zip, ◌++◌, ◌∷◌, [], position}
 use Rattle.std.specs.Str.{bytes_eq}
-use Rattle.std.specs.Map.{keys_of}
-use Rattle.jb_map.proofs.Entries.{Tabled, Tabled-push}
+use Rattle.indexmap.proofs.ReorderLemmas.{parts, zip_push}
 use Rattle.jb_map.proofs.pairs.Pairs.append_new.Goals as goal
 
-pub invariant_of-self-in-Ok : goal.invariant_of-self-in-Ok
-invariant_of-self-in-Ok g c =
-    let table = c.note_key.new.table in
-    let held = c.self.inside.held.items in
-    let all = c.push_reserved.ensures.items ∙ ap (λ l. l ++ (c.args.key, c.args.value) ∷ []) c.reserve.ensures.items in
-    let absent = subst (λ l. position (bytes_eq c.args.key) (keys_of l) ≡ None) (sym c.self.view_is) c.requires in
-    let noted = subst (λ k. IfSome table (λ b. b.value ≡ keys_of c.as_slice.result.now ++ k ∷ [])) c.as_str.ensures c.in-Ok.ensures.noted in
-    let noted_held = subst (λ l. IfSome table (λ b. b.value ≡ keys_of l ++ c.args.key ∷ [])) (c.as_slice.ensures.value ∙ c.reserve.ensures.items) noted in
-    subst (λ l. Tabled table (keys_of l)) (sym all) (Tabled-push table held (c.args.key, c.args.value) c.self.invariant.0 absent noted_held)
+pub push-requires : goal.push-requires
+push-requires g c =
+    let o = parts _ _ _ c.self.view_is c.self.invariant in
+    ap (position (bytes_eq c.args.key)) o.keys ∙ c.requires
+
+pub returns-in-Ok-clause-pairs : goal.returns-in-Ok-clause-pairs
+returns-in-Ok-clause-pairs g c =
+    let ks = c.self.inside.keys in
+    let vs = c.self.inside.values.items in
+    let k = c.args.key in
+    let v = c.args.value in
+    let values = c.push_reserved.ensures.items ∙ ap (λ l. l ++ v ∷ []) c.reserve.ensures.items in
+    (λ j. zip (c.in-Ok.ensures.pushed j) (values j)) ∙ zip_push ks vs k v c.self.invariant ∙ ap (λ l. l ++ (k, v) ∷ []) c.self.view_is

@@ -1,21 +1,25 @@
-use Rattle.std.proofs.Common.{◌∙◌, ap, sym, subst, Some, slice_get, slice_set, ◌<◌, length}
-use Rattle.std.specs.Map.{values_of}
+use Rattle.std.proofs.Common.{◌∙◌, ap, sym, Some, slice_get, ◌<◌, length, arith}
 use Rattle.indexmap.specs.IndexMap.{set_value_at}
-use Rattle.jb_map.proofs.Entries.{Tabled, set_pair, keys-set_pair, value_at_place}
+use Rattle.indexmap.proofs.ReorderLemmas.{parts}
+use Rattle.std_collections.proofs.Zip.{slice_get_at, zip-set_value}
 use Rattle.jb_map.proofs.pairs.Pairs.replace_at.Goals as goal
 
-pub invariant_of-self : goal.invariant_of-self
-invariant_of-self g c =
-    subst (Tabled c.self.inside.table) (sym (keys-set_pair c.self.inside.held.items c.args.index c.index_mut.result.now _ c.index_mut.ensures.value)) c.self.invariant
+pub index_mut-requires : goal.index_mut-requires
+index_mut-requires g c =
+    let o = parts _ _ _ c.self.view_is c.self.invariant in
+    omega (arith, o.values_length, c.self.inside.values.ok.0, c.requires)
 
 pub returns-clause-old : goal.returns-clause-old
 returns-clause-old g c =
-    ap (λ es. slice_get (values_of es) c.args.index) (sym c.self.view_is)
-    ∙ value_at_place c.self.inside.held.items c.args.index c.index_mut.result.now (subst (λ es. c.args.index < length es) (sym c.self.view_is) c.requires) c.index_mut.ensures.value
-    ∙ ap Some (sym c.replace.ensures.value)
+    let o = parts _ _ _ c.self.view_is c.self.invariant in
+    let vs = c.self.inside.values.items in
+    let i = c.args.index in
+    let within : i < length vs = omega (arith, o.values_length, c.requires) in
+    ap (λ l. slice_get l i) (sym o.values) ∙ slice_get_at vs i c.index_mut.result.now within c.index_mut.ensures.value ∙ ap Some (sym c.replace.ensures.value)
 
 pub returns-clause-pairs : goal.returns-clause-pairs
 returns-clause-pairs g c =
-    ap (λ v. slice_set c.self.inside.held.items c.args.index (c.index_mut.result.now.0, v)) c.replace.ensures.after
-    ∙ set_pair c.self.inside.held.items c.args.index c.index_mut.result.now c.args.value c.index_mut.ensures.value
-    ∙ ap (λ es. set_value_at es c.args.index c.args.value) c.self.view_is
+    let ks = c.self.inside.keys in
+    let vs = c.self.inside.values.items in
+    let i = c.args.index in
+    zip-set_value ks vs i _ ∙ (λ j. set_value_at (c.self.view_is j) i (c.replace.ensures.after j))

@@ -1,7 +1,0 @@
-use Rattle.std.specs.Str.{bytes_eq}
-use Rattle.std.specs.Cmp.Lexicographic.{nat_list_eq_equiv}
-use Rattle.std_collections.proofs.HashLookup.{distinct_nil}
-use Rattle.jb_map.proofs.pairs.Pairs.clear.Goals as goal
-
-pub invariant_of-self : goal.invariant_of-self
-invariant_of-self g c = (distinct_nil bytes_eq nat_list_eq_equiv _ c.clear.ensures.items, tt)
