@@ -28,6 +28,7 @@ impl<'a> Model for Cursor<'a> {
 }
 
 impl<'a> Cursor<'a> {
+    /// A cursor at the first byte of `text`.
     pub fn new(text: &'a Bytes) -> Cursor<'a>
         ensures { result ≡ text.now }
     {
@@ -44,12 +45,14 @@ impl<'a> Cursor<'a> {
         self.rest.len()
     }
 
+    /// The bytes that have not been passed.
     pub fn rest(&self) -> &'a [u8]
         ensures { result.now ≡ self.now }
     {
         self.rest
     }
 
+    /// The next byte, which stays; `None` at the end.
     pub fn peek(&self) -> Option<u8>
         ensures { result ≡ first self.now }
     {
@@ -63,6 +66,7 @@ impl<'a> Cursor<'a> {
         self.rest.get(count).copied()
     }
 
+    /// Passes `count` bytes.
     pub fn skip(&mut self, count: usize)
         requires { count ≤ length self.old }
         ensures { self.new ≡ drop count self.old }

@@ -32,7 +32,7 @@ pub trait Index: Drop {
     fn index_into<'v>(&self, v: &'v Value) -> Option<&'v Value>
         ensures { option_copied result ≡ finds self.now v.now };
 
-    /// The same, to be changed in its place.
+    /// The same, to be changed in its place. No clause says what a write there leaves of the rest.
     fn index_into_mut<'v>(&self, v: &'v mut Value) -> Option<&'v mut Value>
         ensures { option_copied_mut result ≡ finds self.now v.old };
 
@@ -43,7 +43,7 @@ pub trait Index: Drop {
         ensures made { IsMade result v.old v.new (makes self.now v.old) }
         ensures there { OnOk result (IsSome (finds self.now v.new)) };
 
-    /// Makes the place as `make_place` does, and lends it.
+    /// Makes the place as `make_place` does, and lends it. No clause says what a write there leaves of the rest.
     fn index_or_insert<'v>(
         &self,
         alloc: Global,
@@ -149,7 +149,8 @@ impl Value {
         index.index_into(self)
     }
 
-    /// The same, to be changed in its place.
+    /// The same, to be changed in its place. No clause says that a write there leaves the rest as it was: a caller whose
+    /// proof needs that goes by `as_array_mut` or `as_object_mut`, and by `get_mut` of the list or the map.
     pub fn get_mut<I: Index>(&mut self, index: I) -> Option<&mut Value>
         ensures { option_copied_mut result ≡ I.Index.finds index self.old }
     {

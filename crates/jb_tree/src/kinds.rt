@@ -5,24 +5,28 @@ ghost use Rattle.jb_tree.specs.Value.{object_members, array_items, string_text, 
 use super::value::Value;
 
 impl Value {
+    /// Whether this is an object.
     pub fn is_object(&self) -> bool
         ensures { result ≡ is_some (object_members self.now) }
     {
         self.as_object().is_some()
     }
 
+    /// Whether this is an array.
     pub fn is_array(&self) -> bool
         ensures { result ≡ is_some (array_items self.now) }
     {
         self.as_array().is_some()
     }
 
+    /// Whether this is a text.
     pub fn is_string(&self) -> bool
         ensures { result ≡ is_some (string_text self.now) }
     {
         self.as_str().is_some()
     }
 
+    /// Whether this is a number.
     pub fn is_number(&self) -> bool
         ensures { result ≡ is_some (whole_number self.now) }
     {
@@ -50,12 +54,14 @@ impl Value {
         false
     }
 
+    /// Whether this is `true` or `false`.
     pub fn is_boolean(&self) -> bool
         ensures { result ≡ is_some (truth_value self.now) }
     {
         self.as_bool().is_some()
     }
 
+    /// Whether this is `null`.
     pub fn is_null(&self) -> bool
         ensures { result ≡ is_null self.now }
     {

@@ -18,9 +18,13 @@ mod value;
 
 pub use from_json::FromJsonFault;
 pub use index::{Index, IndexError};
-pub use jb_map::{Entry, IntoIter, Iter, Keys, OccupiedEntry, Pairs, VacantEntry, Values};
+pub use jb_map::{
+    Entry, IntoIter, Iter, IterMut, Keys, OccupiedEntry, Pairs, VacantEntry, Values, ValuesMut,
+};
 pub use jb_text::{ByteString, Listed, ListedIter, Memory, Number, Refused, SliceFault, Text};
 pub use value::{Map, Value};
 
+#[cfg(test)]
+mod member_tests;
 #[cfg(test)]
 mod tests;

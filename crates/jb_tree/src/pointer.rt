@@ -27,7 +27,7 @@ impl Value {
         child(place, rest)
     }
 
-    /// The same, to be changed in its place.
+    /// The same, to be changed in its place. No clause says what a write there leaves of the rest.
     pub fn pointer_mut(&mut self, pointer: &str) -> Option<&mut Value>
         ensures { option_copied_mut result ≡ pointed pointer.now self.old }
     {
