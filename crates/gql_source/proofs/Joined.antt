@@ -1,5 +1,5 @@
 -- The first files of a list, and files put behind others.
-use Rattle.std.proofs.Common.{◌≡◌, ℕ, zero, suc, ◌≤◌, Bool, true, false, not, ◌&&◌, ◌||◌, List, [], ◌∷◌, ◌++◌, length, take, Some, None, is_some, cond, refl, sym, ◌∙◌, ap, arith, rules}
+use Rattle.std.proofs.Common.{◌≡◌, ℕ, zero, suc, Bool, true, false, not, ◌&&◌, ◌||◌, [], ◌∷◌, ◌++◌, length, take, Some, None, is_some, cond, refl, ◌∙◌, ap, arith}
 use Rattle.std.specs.Map.{lookup}
 use Rattle.gql_source.specs.declared.file_id.FileId.{FileId}
 use Rattle.gql_source.specs.File.{File, Files, is_file, put, put_absent, joined, has_file, are_distinct}

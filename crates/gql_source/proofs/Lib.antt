@@ -1,3 +1,4 @@
 pub mod Files
 pub mod LineStarts
 mod Joined
+pub mod LineSteps

@@ -95,7 +95,7 @@ impl SourceFile {
 }
 
 /// Whether the line ends with the byte at `at`.
-fn ends_line(text: &[u8], at: usize) -> bool
+pub(crate) fn ends_line(text: &[u8], at: usize) -> bool
     requires { at < length text.now }
     ensures { result ≡ lines.ends_line text.now at }
 {
@@ -149,8 +149,12 @@ fn line_column(text: &[u8], starts: &[usize], offset: usize) -> LineColumn
 fn count_characters(bytes: &[u8]) -> usize
     ensures { result ≡ count_by lines.begins_character bytes.now }
 {
-    bytes
-        .iter()
-        .filter(|byte| **byte < 0x80 || 0xC0 <= **byte)
-        .count()
+    bytes.iter().filter(|byte| begins_character(**byte)).count()
+}
+
+/// Whether the byte begins a character.
+pub(crate) fn begins_character(byte: u8) -> bool
+    ensures { result ≡ lines.begins_character byte }
+{
+    byte < 0x80 || 0xC0 <= byte
 }

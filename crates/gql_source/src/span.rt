@@ -14,7 +14,7 @@ use std::ops::Range;
 /// A part of a file's text, by the offsets of its bytes.
 ///
 /// A contract sees a record with `file_id`, `offset` and `end_offset`.
-#[derive(Clone, Copy, Debug, PartialEq, Eq)]
+#[derive(Clone, Copy, Debug, PartialEq, Eq, Hash)]
 pub struct SourceSpan {
     file_id: FileId,
     offset: usize,

@@ -1,6 +1,6 @@
 //! Worked rows, and each public call once.
 
-use crate::{FileId, FileIds, LineColumn, SourceFile, SourceMap, SourceSpan};
+use crate::{FileId, FileIds, LineColumn, LineCursor, SourceFile, SourceMap, SourceSpan};
 use std::process::Abort;
 use std::test::Fail;
 
@@ -27,6 +27,7 @@ fn lines_and_columns(rt: HostRuntime) -> Result<(), Fail> {
     for (text, places) in rows {
         let file = SourceFile::new(rt.alloc(), "rows.graphql", text)?;
         check_places(&rt, &file, places);
+        check_cursor(&rt, text, places);
     }
     Ok(())
 }
@@ -40,6 +41,18 @@ fn check_places(rt: &impl Abort, file: &SourceFile, places: &[(usize, usize)]) {
         );
     }
     assert_eq!(rt; file.get_line_column(places.len()), None);
+}
+
+// Forwards, and then each place from the one behind it.
+fn check_cursor(rt: &impl Abort, text: &str, places: &[(usize, usize)]) {
+    let mut cursor = LineCursor::new(text);
+    for (offset, (line, column)) in places.iter().enumerate() {
+        assert_eq!(rt; cursor.get_line_column(offset), at(*line, *column));
+    }
+    assert_eq!(rt; cursor.get_line_column(places.len()), None);
+    for (offset, (line, column)) in places.iter().enumerate().rev() {
+        assert_eq!(rt; cursor.get_line_column(offset), at(*line, *column));
+    }
 }
 
 #[test]

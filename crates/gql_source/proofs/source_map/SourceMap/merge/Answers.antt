@@ -1,5 +1,5 @@
 use Rattle.std.proofs.Common.{◌∙◌, ap, sym, subst, ◌≡◌, length, take}
-use Rattle.gql_source.specs.File.{Files, put_absent, joined}
+use Rattle.gql_source.specs.File.{Files, put_absent}
 use Rattle.gql_source.proofs.Joined.{joined-append, put_absent-front}
 use Rattle.gql_source.proofs.source_map.SourceMap.merge.Goals as goal
 
