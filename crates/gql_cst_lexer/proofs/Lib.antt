@@ -3,7 +3,7 @@ pub mod BlockValue
 pub mod Bounds
 pub mod Choices
 pub mod Cuts
-pub mod Laws
+pub mod Fronts
 pub mod Lengths
 pub mod Only
 pub mod Runs

@@ -8,7 +8,7 @@ use Rattle.gql_cst_lexer.specs.Class.{Text, is_name_continue, is_source}
 use Rattle.gql_cst_lexer.specs.Lex.{Lexed, token, fault, lex, lex_as, number, comment, dots, mark, block_string, string, quoted, unexpected, run_len, blank_len, is_block_quote, is_mark, is_control_at, goes_on, whole_end}
 use Rattle.gql_cst_lexer.specs.Lexical.{Begins, BeginsNone, BeginsBlank, OpensString, OpensBlock, Reaches, BreaksAt, IsToken, IsFault, Stands, IsNumber, IsControl, EndsLine, StandsOne, is_spread, number_end, comment_end, string_end, block_end}
 use Rattle.gql_cst_lexer.proofs.Choices.{past_end}
-use Rattle.gql_cst_lexer.proofs.Laws.{lex-stands}
+use Rattle.gql_cst_lexer.proofs.Fronts.{lex-stands}
 use Rattle.gql_cst_lexer.specs.declared.class.ByteClass.{ByteClass}
 use Rattle.gql_cst_lexer.specs.declared.class.ByteClass.TheVariants as class
 use Rattle.gql_cst_lexer.specs.declared.error.SyntaxFault.{SyntaxFault}

@@ -8,7 +8,7 @@ use Rattle.std.specs.Prelude.{◌==◌}
 use Rattle.std.specs.Str.{IsUtf8, IsCharBoundary}
 use Rattle.std.proofs.lemmas.Str.{IsUtf8-drop, IsCharBoundary-from_rest}
 use Rattle.gql_cst_lexer.proofs.Bounds.{token-bound, fault-bound}
-use Rattle.gql_cst_lexer.proofs.Laws.{lex-stands}
+use Rattle.gql_cst_lexer.proofs.Fronts.{lex-stands}
 use Rattle.gql_cst_lexer.specs.declared.token.FaultAt.{FaultAt}
 use Rattle.gql_cst_lexer.specs.declared.token.TokenKind.{TokenKind}
 

@@ -20,6 +20,7 @@ mod block_string;
 mod class;
 mod cut;
 mod error;
+pub mod laws;
 mod lexer;
 mod line;
 mod number;

@@ -1,0 +1,4 @@
+pub mod Tokens
+pub mod Counts
+pub mod Filled
+pub mod Parsing
