@@ -49,3 +49,7 @@ size-inside kind (tree_then k start end children rest) =
       | true ↦ omega arith
       | false ↦ (let rest_of : size (inside kind rest) ≤ size rest = size-inside kind rest in omega arith)
     ]
+
+-- a row that is the children of a tree has their size
+pub size-of : (trees items : List Tree) (row : Forest) → trees ≡ items → forest items ≡ row → size (forest trees) ≡ size row
+size-of trees items row is plainly = ap (λ l. size (forest l)) is ∙ ap size plainly

@@ -1,11 +1,11 @@
 //! Selections.
 
-ghost use Rattle.std.specs.Prelude.{◌≡◌, IfOk};
+ghost use Rattle.std.specs.Prelude.{◌≡◌, ◌++◌, IfOk, OnOk, is_some, option_to_list};
 ghost use Rattle.gql_cst.specs.Forest.{plain, forest};
 ghost use Rattle.gql_ast.specs.Parts as parts;
 ghost use Rattle.gql_ast.specs.Selections as spec;
 
-use crate::convert::{Convert, keep};
+use crate::convert::Convert;
 use crate::directive::{arguments, directives};
 use crate::node::{child, inside, is_of, location};
 use crate::token::nth_name;
@@ -39,7 +39,8 @@ impl Convert for Field {
         text: &str,
         file_id: FileId,
     ) -> Result<Option<Field>, Memory> {
-        let made = field(alloc, tree, text, file_id)?;
+        let selections = selected(alloc, tree.children().as_slice(), text, file_id)?;
+        let made = field(alloc, tree, text, file_id, selections)?;
         Ok(made)
     }
 }
@@ -53,7 +54,8 @@ impl Convert for InlineFragment {
         text: &str,
         file_id: FileId,
     ) -> Result<Option<InlineFragment>, Memory> {
-        let made = inline_fragment(alloc, tree, text, file_id)?;
+        let selections = selected(alloc, tree.children().as_slice(), text, file_id)?;
+        let made = inline_fragment(alloc, tree, text, file_id, selections)?;
         Ok(made)
     }
 }
@@ -108,10 +110,16 @@ fn alias(alloc: Global, nodes: &[Tree], text: &str, file_id: FileId) -> Result<O
     Ok(name)
 }
 
-#[cycle(selection)]
+/// The field with these selections.
 #[tactic(auto, unfolding(crate::specs::Selections::field_step))]
-fn field(alloc: Global, tree: &Tree, text: &str, file_id: FileId) -> Result<Option<Field>, Memory>
-    ensures { IfOk result (λ made. made ≡ spec.field_of text.now file_id (plain tree.now)) }
+fn field(
+    alloc: Global,
+    tree: &Tree,
+    text: &str,
+    file_id: FileId,
+    selections: Listed<Selection>,
+) -> Result<Option<Field>, Memory>
+    ensures { IfOk result (λ made. made ≡ spec.field_step text.now file_id (plain tree.now) selections) }
 {
     if !is_of(tree, SyntaxKind::Field) {
         return Ok(None);
@@ -125,20 +133,21 @@ fn field(alloc: Global, tree: &Tree, text: &str, file_id: FileId) -> Result<Opti
         name,
         arguments: arguments(alloc, nodes, text, file_id)?,
         directives: directives(alloc, nodes, text, file_id)?,
-        selection_set: selected(alloc, nodes, text, file_id)?,
+        selection_set: selections,
         location: location(file_id, tree),
     }))
 }
 
-#[cycle(selection)]
+/// The fragment in its place with these selections.
 #[tactic(auto, unfolding(crate::specs::Selections::inline_step))]
 fn inline_fragment(
     alloc: Global,
     tree: &Tree,
     text: &str,
     file_id: FileId,
+    selections: Listed<Selection>,
 ) -> Result<Option<InlineFragment>, Memory>
-    ensures { IfOk result (λ made. made ≡ spec.inline_fragment_of text.now file_id (plain tree.now)) }
+    ensures { IfOk result (λ made. made ≡ spec.inline_step text.now file_id (plain tree.now) selections) }
 {
     if !is_of(tree, SyntaxKind::InlineFragment) {
         return Ok(None);
@@ -150,84 +159,82 @@ fn inline_fragment(
     Ok(Some(InlineFragment {
         type_condition: type_condition(alloc, nodes, text, file_id)?,
         directives: directives(alloc, nodes, text, file_id)?,
-        selection_set: selected(alloc, nodes, text, file_id)?,
+        selection_set: selections,
         location: location(file_id, tree),
     }))
 }
 
-/// One way to select: a field, a fragment by its name, or a fragment in its place.
-#[cycle(selection)]
+/// One way to select, with these selections in it: a field, a fragment by its name, or a fragment in its place.
 #[tactic(auto, unfolding(crate::specs::Selections::choice_step))]
 fn choice(
     alloc: Global,
     tree: &Tree,
     text: &str,
     file_id: FileId,
+    selections: Listed<Selection>,
 ) -> Result<Option<Selection>, Memory>
-    ensures { IfOk result (λ made. made ≡ spec.choice_of text.now file_id (plain tree.now)) }
+    ensures { IfOk result (λ made. made ≡ spec.choice_step text.now file_id (plain tree.now) selections) }
 {
     if is_of(tree, SyntaxKind::Field) {
-        let made = field(alloc, tree, text, file_id)?;
+        let made = field(alloc, tree, text, file_id, selections)?;
         return Ok(made.map(Selection::Field));
     }
     if is_of(tree, SyntaxKind::FragmentSpread) {
         let made = FragmentSpread::convert(alloc, tree, text, file_id)?;
         return Ok(made.map(Selection::FragmentSpread));
     }
-    let made = inline_fragment(alloc, tree, text, file_id)?;
+    let made = inline_fragment(alloc, tree, text, file_id, selections)?;
     Ok(made.map(Selection::InlineFragment))
 }
 
-#[cycle(selection)]
-fn first_choice(
-    alloc: Global,
-    nodes: &[Tree],
-    text: &str,
-    file_id: FileId,
-) -> Result<Option<Selection>, Memory>
-    ensures { IfOk result (λ made. made ≡ parts.head (spec.choices text.now file_id (forest nodes.now))) }
-{
-    for node in nodes {
-        if let Some(found) = choice(alloc, node, text, file_id)? {
-            return Ok(Some(found));
-        }
-    }
-    Ok(None)
-}
-
-/// The selection that a tree stands for.
-#[cycle(selection)]
-#[tactic(auto, unfolding(crate::specs::Selections::selection_step))]
-fn selection(
+/// Adds one way to select at the end of the list, and says whether the tree is one.
+///
+/// It stands apart from [`add_selection`], whose frames stand on each other where selections are nested: so a level
+/// takes little of the stack.
+#[inline(never)]
+fn add_choice(
+    list: &mut Listed<Selection>,
     alloc: Global,
     tree: &Tree,
     text: &str,
     file_id: FileId,
-) -> Result<Option<Selection>, Memory>
-    ensures { IfOk result (λ made. made ≡ spec.selection_of text.now file_id (plain tree.now)) }
+    selections: Listed<Selection>,
+) -> Result<bool, Memory>
+    ensures told { IfOk result (λ added. added ≡ is_some (spec.choice_step text.now file_id (plain tree.now) selections)) }
+    ensures kept { OnOk result (list.new ≡ list.old ++ option_to_list (spec.choice_step text.now file_id (plain tree.now) selections)) }
 {
-    if !is_of(tree, SyntaxKind::Selection) {
-        return Ok(None);
+    match choice(alloc, tree, text, file_id, selections)? {
+        Some(found) => {
+            list.push(found)?;
+            Ok(true)
+        }
+        None => Ok(false),
     }
-    let made = first_choice(alloc, tree.children().as_slice(), text, file_id)?;
-    Ok(made)
 }
 
-/// The selections that the trees stand for.
+/// Adds the selection that the tree stands for, if it stands for one, at the end of the list.
 #[cycle(selection)]
-fn selections(
+#[tactic(auto, unfolding(crate::specs::Selections::selection_step))]
+fn add_selection(
+    list: &mut Listed<Selection>,
     alloc: Global,
-    nodes: &[Tree],
+    tree: &Tree,
     text: &str,
     file_id: FileId,
-) -> Result<Listed<Selection>, Memory>
-    ensures { IfOk result (λ made. made ≡ spec.selections text.now file_id (forest nodes.now)) }
+) -> Result<(), Memory>
+    ensures { OnOk result (list.new ≡ list.old ++ option_to_list (spec.selection_of text.now file_id (plain tree.now))) }
 {
-    let mut list = Listed::new(alloc);
-    for node in nodes {
-        keep(&mut list, selection(alloc, node, text, file_id)?)?;
+    if !is_of(tree, SyntaxKind::Selection) {
+        return Ok(());
     }
-    Ok(list)
+    let parts = tree.children().as_slice();
+    for node in parts {
+        let inner = selected(alloc, node.children().as_slice(), text, file_id)?;
+        if add_choice(list, alloc, node, text, file_id, inner)? {
+            return Ok(());
+        }
+    }
+    Ok(())
 }
 
 /// The selections in the first selection set among the trees.
@@ -240,11 +247,33 @@ fn selected(
 ) -> Result<Listed<Selection>, Memory>
     ensures { IfOk result (λ made. made ≡ spec.selected text.now file_id (forest nodes.now)) }
 {
-    let list = selections(
-        alloc,
-        inside(nodes, SyntaxKind::SelectionSet),
-        text,
-        file_id,
-    )?;
+    let mut list = Listed::new(alloc);
+    let set = inside(nodes, SyntaxKind::SelectionSet);
+    for node in set {
+        add_selection(&mut list, alloc, node, text, file_id)?;
+    }
     Ok(list)
+}
+
+/// The selection that the tree stands for.
+#[tactic(auto, unfolding(crate::specs::Selections::selection_step))]
+fn selection(
+    alloc: Global,
+    tree: &Tree,
+    text: &str,
+    file_id: FileId,
+) -> Result<Option<Selection>, Memory>
+    ensures { IfOk result (λ made. made ≡ spec.selection_of text.now file_id (plain tree.now)) }
+{
+    if !is_of(tree, SyntaxKind::Selection) {
+        return Ok(None);
+    }
+    let parts = tree.children().as_slice();
+    for node in parts {
+        let inner = selected(alloc, node.children().as_slice(), text, file_id)?;
+        if let Some(found) = choice(alloc, node, text, file_id, inner)? {
+            return Ok(Some(found));
+        }
+    }
+    Ok(None)
 }

@@ -3,6 +3,7 @@
 use crate::*;
 use gql_cst::{Limits, parse_document, parse_type};
 use gql_source::{FileId, SourceFile, SourceMap, SourceSpan};
+use jb_text::Refused;
 use std::alloc::Global;
 use std::test::Fail;
 
@@ -160,6 +161,20 @@ fn types(rt: HostRuntime) -> Result<(), Fail> {
         let made = TypeRef::convert(rt.alloc(), &parsed.tree, text, FILE)?;
         let ty = made.ok_or("no type")?;
         assert_eq!(rt; print_type(rt.alloc(), &ty)?.as_str(), text);
+    }
+    Ok(())
+}
+
+#[test]
+fn names(rt: HostRuntime) -> Result<(), Fail> {
+    for text in ["a1", "_", "__a"] {
+        assert_eq!(rt; Name::new(rt.alloc(), text)?.as_str(), text);
+    }
+    for text in ["1a", "", "a-b", " a", "é"] {
+        match Name::new(rt.alloc(), text) {
+            Err(Refused::Fault(NameFault::InvalidName)) => {}
+            _ => return Err("a name that is none".into()),
+        }
     }
     Ok(())
 }

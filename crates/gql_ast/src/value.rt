@@ -1,6 +1,7 @@
 //! Values.
 
-ghost use Rattle.std.specs.Prelude.{◌≡◌, IfOk};
+ghost use Rattle.std.specs.Prelude.{◌≡◌, ◌++◌, IfOk, OnOk, Option, List, is_some, option_to_list};
+ghost use Rattle.std.specs.Option.{option_map};
 ghost use Rattle.gql_cst.specs.Forest.{plain, forest};
 ghost use Rattle.gql_ast.specs.Parts as parts;
 ghost use Rattle.gql_ast.specs.Values as spec;
@@ -11,7 +12,7 @@ use crate::node::{is_of, location};
 use crate::token::{nth_name, nth_text, token_text};
 use gql_ast_tree::{Name, Value, ValueKind};
 use gql_cst::{SyntaxKind, Tree};
-use gql_source::FileId;
+use gql_source::{FileId, SourceSpan};
 use jb_text::{Listed, Memory};
 use std::alloc::Global;
 
@@ -112,81 +113,79 @@ fn simple_content(
     Ok(None)
 }
 
-/// The content of a value.
-#[cycle(value)]
+/// The content of a value, with these values and these pairs right below it.
 #[tactic(auto, unfolding(crate::specs::Values::content_step))]
 fn content(
     alloc: Global,
     tree: &Tree,
     text: &str,
     file_id: FileId,
+    inner: (Listed<Value>, Listed<(Name, Value)>),
 ) -> Result<Option<ValueKind>, Memory>
-    ensures { IfOk result (λ made. made ≡ spec.content_of text.now file_id (plain tree.now)) }
+    ensures { IfOk result (λ made. made ≡ spec.content_step text.now file_id (plain tree.now) inner.0 inner.1) }
 {
+    let (items, pairs) = inner;
     if is_of(tree, SyntaxKind::ListValue) {
-        let items = values(alloc, tree.children().as_slice(), text, file_id)?;
         return Ok(Some(ValueKind::List(items)));
     }
     if is_of(tree, SyntaxKind::ObjectValue) {
-        let members = members(alloc, tree.children().as_slice(), text, file_id)?;
-        return Ok(Some(ValueKind::Object(members)));
+        return Ok(Some(ValueKind::Object(pairs)));
     }
     let made = simple_content(alloc, tree, text, file_id)?;
     Ok(made)
 }
 
-/// The content of a value that the first of the trees is which is one.
-#[cycle(value)]
-fn first_content(
+/// Adds the value with this content and from this place at the end of the list, and says whether the tree is one.
+///
+/// It stands apart from [`add_value`], whose frames stand on each other where values are nested: so a level takes
+/// little of the stack.
+#[inline(never)]
+fn add_content(
+    list: &mut Listed<Value>,
     alloc: Global,
-    nodes: &[Tree],
+    tree: &Tree,
     text: &str,
     file_id: FileId,
-) -> Result<Option<ValueKind>, Memory>
-    ensures { IfOk result (λ made. made ≡ parts.head (spec.contents text.now file_id (forest nodes.now))) }
+    location: Option<SourceSpan>,
+    inner: (Listed<Value>, Listed<(Name, Value)>),
+) -> Result<bool, Memory>
+    ensures told { IfOk result (λ added. added ≡ is_some (spec.content_step text.now file_id (plain tree.now) inner.0 inner.1)) }
+    ensures kept { OnOk result (list.new ≡ list.old ++ option_to_list (option_map (λ found. record { kind = found; location = location }) (spec.content_step text.now file_id (plain tree.now) inner.0 inner.1))) }
 {
-    for node in nodes {
-        if let Some(found) = content(alloc, node, text, file_id)? {
-            return Ok(Some(found));
+    match content(alloc, tree, text, file_id, inner)? {
+        Some(kind) => {
+            list.push(Value { kind, location })?;
+            Ok(true)
         }
+        None => Ok(false),
     }
-    Ok(None)
 }
 
-/// The value that a tree stands for.
+/// Adds the value that the tree stands for, if it stands for one, at the end of the list.
 #[cycle(value)]
 #[tactic(auto, unfolding(crate::specs::Values::value_step))]
-fn value(alloc: Global, tree: &Tree, text: &str, file_id: FileId) -> Result<Option<Value>, Memory>
-    ensures { IfOk result (λ made. made ≡ spec.value_of text.now file_id (plain tree.now)) }
-{
-    if !is_of(tree, SyntaxKind::Value) {
-        return Ok(None);
-    }
-    match first_content(alloc, tree.children().as_slice(), text, file_id)? {
-        Some(kind) => Ok(Some(Value {
-            kind,
-            location: location(file_id, tree),
-        })),
-        None => Ok(None),
-    }
-}
-
-/// The value that the first of the trees stands for which stands for one.
-#[cycle(value)]
-fn first_value(
+fn add_value(
+    list: &mut Listed<Value>,
     alloc: Global,
-    nodes: &[Tree],
+    tree: &Tree,
     text: &str,
     file_id: FileId,
-) -> Result<Option<Value>, Memory>
-    ensures { IfOk result (λ made. made ≡ parts.head (spec.values text.now file_id (forest nodes.now))) }
+) -> Result<(), Memory>
+    ensures { OnOk result (list.new ≡ list.old ++ option_to_list (spec.value_of text.now file_id (plain tree.now))) }
 {
-    for node in nodes {
-        if let Some(found) = value(alloc, node, text, file_id)? {
-            return Ok(Some(found));
+    if !is_of(tree, SyntaxKind::Value) {
+        return Ok(());
+    }
+    let parts = tree.children().as_slice();
+    for node in parts {
+        let items = values(alloc, node.children().as_slice(), text, file_id)?;
+        let pairs = members(alloc, node.children().as_slice(), text, file_id)?;
+        let place = location(file_id, tree);
+        if add_content(list, alloc, node, text, file_id, place, (items, pairs))? {
+            return Ok(());
         }
     }
-    Ok(None)
+    Ok(())
 }
 
 /// The values that the trees stand for.
@@ -201,37 +200,52 @@ fn values(
 {
     let mut list = Listed::new(alloc);
     for node in nodes {
-        keep(&mut list, value(alloc, node, text, file_id)?)?;
+        add_value(&mut list, alloc, node, text, file_id)?;
     }
     Ok(list)
 }
 
-/// The pair of an object.
-#[cycle(value)]
+/// The pair of an object, with these values right below it.
 #[tactic(auto, unfolding(crate::specs::Values::member_step))]
 fn member(
     alloc: Global,
     tree: &Tree,
     text: &str,
     file_id: FileId,
+    items: Listed<Value>,
 ) -> Result<Option<(Name, Value)>, Memory>
-    ensures { IfOk result (λ made. made ≡ spec.member_of text.now file_id (plain tree.now)) }
+    ensures { IfOk result (λ made. made ≡ spec.member_step text.now file_id (plain tree.now) items) }
 {
     if !is_of(tree, SyntaxKind::ObjectField) {
         return Ok(None);
     }
-    let nodes = tree.children().as_slice();
-    let Some(value) = first_value(alloc, nodes, text, file_id)? else {
+    let Some(value) = items.into_iter().next() else {
         return Ok(None);
     };
-    let Some(name) = nth_name(alloc, nodes, text, file_id, 0)? else {
+    let Some(name) = nth_name(alloc, tree.children().as_slice(), text, file_id, 0)? else {
         return Ok(None);
     };
     Ok(Some((name, value)))
 }
 
+/// Adds the pair of an object with these values right below it, if the tree is one, at the end of the list.
+#[inline(never)]
+fn keep_member(
+    list: &mut Listed<(Name, Value)>,
+    alloc: Global,
+    tree: &Tree,
+    text: &str,
+    file_id: FileId,
+    items: Listed<Value>,
+) -> Result<(), Memory>
+    ensures { OnOk result (list.new ≡ list.old ++ option_to_list (spec.member_step text.now file_id (plain tree.now) items)) }
+{
+    keep(list, member(alloc, tree, text, file_id, items)?)
+}
+
 /// The pairs of objects that the trees stand for.
 #[cycle(value)]
+#[tactic(auto, unfolding(crate::specs::Values::member_step))]
 fn members(
     alloc: Global,
     nodes: &[Tree],
@@ -242,7 +256,46 @@ fn members(
 {
     let mut list = Listed::new(alloc);
     for node in nodes {
-        keep(&mut list, member(alloc, node, text, file_id)?)?;
+        if is_of(node, SyntaxKind::ObjectField) {
+            let items = values(alloc, node.children().as_slice(), text, file_id)?;
+            keep_member(&mut list, alloc, node, text, file_id, items)?;
+        }
     }
     Ok(list)
+}
+
+/// The content of a value that the first of the trees is which is one.
+fn first_content(
+    alloc: Global,
+    nodes: &[Tree],
+    text: &str,
+    file_id: FileId,
+) -> Result<Option<ValueKind>, Memory>
+    ensures { IfOk result (λ made. made ≡ parts.head (spec.contents text.now file_id (forest nodes.now))) }
+{
+    for node in nodes {
+        let items = values(alloc, node.children().as_slice(), text, file_id)?;
+        let pairs = members(alloc, node.children().as_slice(), text, file_id)?;
+        if let Some(found) = content(alloc, node, text, file_id, (items, pairs))? {
+            return Ok(Some(found));
+        }
+    }
+    Ok(None)
+}
+
+/// The value that a tree stands for.
+#[tactic(auto, unfolding(crate::specs::Values::value_step))]
+fn value(alloc: Global, tree: &Tree, text: &str, file_id: FileId) -> Result<Option<Value>, Memory>
+    ensures { IfOk result (λ made. made ≡ spec.value_of text.now file_id (plain tree.now)) }
+{
+    if !is_of(tree, SyntaxKind::Value) {
+        return Ok(None);
+    }
+    match first_content(alloc, tree.children().as_slice(), text, file_id)? {
+        Some(kind) => Ok(Some(Value {
+            kind,
+            location: location(file_id, tree),
+        })),
+        None => Ok(None),
+    }
 }

@@ -1,4 +1,4 @@
-use Rattle.std.proofs.Common.{◌≡◌, ◌+◌, ◌*◌, ◌++◌, drop}
+use Rattle.std.proofs.Common.{◌≡◌, ◌+◌, ◌*◌, drop}
 use Rattle.gql_cst.specs.Forest.{plain, forest}
 use Rattle.gql_ast.specs.Parts.{size, head}
 use Rattle.gql_ast.specs.Types.{types, forms}
@@ -11,16 +11,10 @@ abbrev pub invariant-first_type-loop-node : goal.invariant-first_type-loop-node
 invariant-first_type-loop-node l = head (types l.text l.file_id (forest (drop l.node-index l.nodes))) ≡ head (types l.text l.file_id (forest l.nodes))
 
 abbrev pub decreases-first_form : goal.decreases-first_form
-decreases-first_form l = 4 * size (forest l.nodes.now)
+decreases-first_form l = 2 * size (forest l.nodes.now)
 
 abbrev pub decreases-first_type : goal.decreases-first_type
-decreases-first_type l = 4 * size (forest l.nodes.now)
-
-abbrev pub decreases-list_type : goal.decreases-list_type
-decreases-list_type l = 4 * size (forest l.nodes.now) + 1
-
-abbrev pub decreases-type_reference : goal.decreases-type_reference
-decreases-type_reference l = 4 * size (plain l.tree.now).children + 2
+decreases-first_type l = 2 * size (forest l.nodes.now)
 
 abbrev pub decreases-form : goal.decreases-form
-decreases-form l = 4 * size (plain l.tree.now).children + 2
+decreases-form l = 2 * size (plain l.tree.now).children + 1
