@@ -1,0 +1,17 @@
+pub mod TokenKinds
+pub mod Blind
+pub mod Gathered
+pub mod Inner
+pub mod Places
+pub mod Named
+pub mod ValueMeaning
+pub mod TypeMeaning
+pub mod DirectiveMeaning
+pub mod SelectionMeaning
+pub mod OperationMeaning
+pub mod FieldMeaning
+pub mod DefinitionMeaning
+pub mod SchemaMeaning
+pub mod ExtensionMeaning
+pub mod DocumentMeaning
+pub mod Whole

@@ -1,0 +1,2 @@
+-- What a text stands for.
+pub mod Meant
