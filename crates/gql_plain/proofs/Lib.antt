@@ -1,0 +1,4 @@
+pub mod Followed
+pub mod Rows
+pub mod Refusals
+pub mod Listing
