@@ -13,6 +13,7 @@ use std::alloc::{AllocError, Global};
 use std::ops::Range;
 
 /// A diagnostic, and the files that it is of.
+#[derive(Drop)]
 pub struct Diagnostic<'s, T> {
     pub sources: &'s SourceMap,
     pub error: &'s T,

@@ -63,6 +63,7 @@ impl DiagnosticList {
         sort_in_order(&mut self.items)
     }
 
+    /// Whether there is no diagnostic.
     #[must_use]
     pub fn is_empty(&self) -> bool
         ensures { IsTrue result ↔ (self.now.items ≡ []) }

@@ -18,6 +18,7 @@ pub struct RequestError {
 }
 
 impl RequestError {
+    /// What is wrong, as a sentence.
     #[must_use]
     pub fn message(&self) -> &str
         ensures { result.now ≡ self.now.message }

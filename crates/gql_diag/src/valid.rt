@@ -28,6 +28,7 @@ impl<T> Valid<T> {
         Valid { value }
     }
 
+    /// What was found valid.
     #[must_use]
     pub fn as_ref(&self) -> &T
         ensures { result.now ≡ self.now }
@@ -35,6 +36,7 @@ impl<T> Valid<T> {
         &self.value
     }
 
+    /// What was found valid, no longer marked as such.
     #[must_use]
     pub fn into_inner(self) -> T
         ensures { result ≡ self }

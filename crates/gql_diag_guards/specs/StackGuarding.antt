@@ -1,10 +1,12 @@
 -- Guards of a stack of names.
 use Rattle.std.specs.Prelude.{◌≡◌, ◌≢◌, Result, IsErrAnd, ℕ, length, Option, Some}
+use Rattle.std.specs.Borrow.{Fml, MutBor, follows_if, name_if_ok}
 use Rattle.jb_text.specs.declared.refused.Refused.{Refused}
 use Rattle.jb_text.specs.declared.refused.Refused.TheVariants as refused_variant
 use Rattle.gql_diag_guards.specs.declared.depth.RecursionLimitError.{RecursionLimitError}
 use Rattle.gql_ast_tree.specs.Names.{Named}
 use Rattle.gql_diag_guards.specs.declared.recursion.RecursionGuard.{RecursionGuard}
+use Rattle.gql_diag_guards.specs.contracts.recursion.RecursionStack.{the_row}
 use Rattle.gql_diag_guards.specs.Stack.{Stack, with_name}
 
 -- the stack that it guards
@@ -23,3 +25,8 @@ pub record IsPushed (before : Stack) (name : Named) (guard : RecursionGuard) : T
 -- the refusal of a step at the limit
 abbrev pub IsLimited : {A : Type 0} → Result A (Refused RecursionLimitError) → Type 0
 IsLimited result = IsErrAnd result (λ cause. cause ≢ refused_variant.Memory)
+
+-- A refused step leaves the stack as it is. Once the guard of a step is gone, the stack is what that guard left.
+abbrev pub LeavesStack : {E : Type 0} → MutBor Stack → Result RecursionGuard E → Fml
+LeavesStack lender step =
+    follows_if the_row the_row lender.ghost_name (name_if_ok (λ guard. guard.stack.ghost_name) step) (λ stack. stack) lender.now

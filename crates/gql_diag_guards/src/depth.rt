@@ -79,12 +79,27 @@ impl DepthCounter {
 
 /// A guard of the levels of a counter. Dropping it undoes the step that gave it, if a step did.
 pub struct DepthGuard<'a> {
-    counter: &'a mut DepthCounter,
+    pub(crate) counter: &'a mut DepthCounter,
     undo: Option<usize>,
 }
 
 impl DepthCounter {
-    ghost use Rattle.gql_diag_guards.specs.DepthGuarding.{counted, undoes};
+    ghost use Rattle.std.specs.Borrow.{sem};
+    ghost use Rattle.gql_diag_guards.specs.DepthGuarding.{counted, undoes, IsStep, LeavesCount};
+
+    /// Opens a level, and gives the guard that undoes that.
+    pub(crate) fn step(&mut self) -> Result<DepthGuard<'_>, RecursionLimitError>
+        ensures* leaves { sem 𝓛 (LeavesCount self.entry result) }
+        ensures same { IfOk result (λ guard. guard.counter.ghost_name ≡ self.entry.ghost_name) }
+        ensures refused { IsErr result ↔ (self.old.limit ≤ self.old.depth) }
+        ensures step { IfOk result (IsStep self.old) }
+    {
+        let depth = self.open_level()?;
+        Ok(DepthGuard {
+            counter: self,
+            undo: Some(depth),
+        })
+    }
 
     /// A guard of the levels that are open. Dropping it changes nothing.
     pub fn guard(&mut self) -> DepthGuard<'_>
@@ -107,11 +122,7 @@ impl<'a> DepthGuard<'a> {
         ensures refused { IsErr result ↔ ((counted self.old).limit ≤ (counted self.old).depth) }
         ensures step { IfOk result (IsStep (counted self.old)) }
     {
-        let depth = self.counter.open_level()?;
-        Ok(DepthGuard {
-            counter: &mut *self.counter,
-            undo: Some(depth),
-        })
+        self.counter.step()
     }
 }
 

@@ -5,6 +5,7 @@
 #![tactic(auto)]
 
 mod depth;
+pub mod laws;
 mod recursion;
 
 pub use depth::{DepthCounter, DepthGuard, RecursionLimitError};

@@ -30,12 +30,13 @@ impl Model for RecursionStack {
 
 /// A guard of the names of a stack. Dropping it undoes the step that gave it, if a step did.
 pub struct RecursionGuard<'a> {
-    stack: &'a mut RecursionStack,
+    pub(crate) stack: &'a mut RecursionStack,
     undo: Option<usize>,
 }
 
 impl RecursionStack {
-    ghost use Rattle.gql_diag_guards.specs.StackGuarding.{stacked, pops, IsLimited};
+    ghost use Rattle.std.specs.Borrow.{sem};
+    ghost use Rattle.gql_diag_guards.specs.StackGuarding.{stacked, pops, IsLimited, IsPushed, LeavesStack};
     ghost use Rattle.gql_diag_guards.specs.Stack.{has_name};
 
     /// No names, and a limit of 32.
@@ -80,6 +81,23 @@ impl RecursionStack {
             stack: self,
             undo: None,
         }
+    }
+
+    /// Enters a name, and gives the guard that undoes that.
+    pub(crate) fn step(
+        &mut self,
+        name: &Name,
+    ) -> Result<RecursionGuard<'_>, Refused<RecursionLimitError>>
+        ensures* leaves { sem 𝓛 (LeavesStack self.entry result) }
+        ensures same { IfOk result (λ guard. guard.stack.ghost_name ≡ self.entry.ghost_name) }
+        ensures refused { IsLimited result ↔ (self.old.limit ≤ length self.old.names) }
+        ensures pushed { IfOk result (IsPushed self.old name.now) }
+    {
+        let count = self.enter(name)?;
+        Ok(RecursionGuard {
+            stack: self,
+            undo: Some(count),
+        })
     }
 
     /// Adds a name at the end, and gives how many there were before.
@@ -132,11 +150,7 @@ impl<'a> RecursionGuard<'a> {
         ensures refused { IsLimited result ↔ ((stacked self.old).limit ≤ length (stacked self.old).names) }
         ensures pushed { IfOk result (IsPushed (stacked self.old) name.now) }
     {
-        let count = self.stack.enter(name)?;
-        Ok(RecursionGuard {
-            stack: &mut *self.stack,
-            undo: Some(count),
-        })
+        self.stack.step(name)
     }
 
     /// Whether the name is in the stack.

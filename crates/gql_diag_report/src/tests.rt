@@ -32,3 +32,20 @@ fn a_report_is_its_lines(rt: HostRuntime) -> Result<(), Fail> {
     assert_eq!(rt; empty.into_string(rt.alloc())?.as_str(), "Error: \n");
     Ok(())
 }
+
+#[test]
+fn a_refused_report_answers_that_from_then_on(rt: HostRuntime) -> Result<(), Fail> {
+    let sources = SourceMap::new(rt.alloc());
+    let mut report = CliReport::builder(rt.alloc(), &sources, None);
+    report.with_message("m")?;
+    let _alloc = report.allocator();
+    report.refuse();
+    assert!(rt; report.with_message("m").is_err());
+    assert!(rt; report.with_help("h").is_err());
+    assert!(rt; report.with_note("n").is_err());
+    assert!(rt; report.with_label_opt(None, "l").is_err());
+    let mut sink = SureSink::new(rt.alloc(), 64)?;
+    assert!(rt; report.write(rt.alloc(), &mut sink).is_err());
+    assert_eq!(rt; sink.written(), b"".as_slice());
+    Ok(())
+}
