@@ -1,5 +1,5 @@
 -- When each refusal of a request comes.
-use Rattle.std.specs.Prelude.{◌≡◌, ℕ, ◌⊎◌, Bool, true, List, [], Option, Some, None, IsSome, codes}
+use Rattle.std.specs.Prelude.{◌≡◌, ℕ, ◌⊎◌, Bool, true, false, List, [], Option, Some, None, IsSome, is_some, codes}
 use Rattle.std.specs.Borrow.{Bor}
 use Rattle.jb_tree.specs.declared.value.Value.{Value}
 use Rattle.jb_text.specs.declared.refused.Refused.{Refused}
@@ -7,6 +7,7 @@ use Rattle.jb_text.specs.declared.refused.Refused.TheVariants as refused
 use Rattle.jb_tree.specs.Value.{object_members}
 use Rattle.jb_read.specs.Spelling.{JsonText}
 use Rattle.jb_read.specs.Faults.{JsonFault}
+use Rattle.gql_engine.specs.Meant.{IsUnmeantSchema, IsUnplain, PlainTexts}
 use Rattle.gql_engine.specs.declared.answering.UnbuiltPart.{UnbuiltPart}
 use Rattle.gql_engine.specs.declared.answering.UnbuiltPart.TheVariants.{Options, Schema, Query}
 use Rattle.gql_engine.specs.declared.answering.VariablesFault.TheVariants.{Read, NotObject}
@@ -29,22 +30,31 @@ abbrev pub HasOptions : Option (Bor (List ℕ)) → List ℕ → Bool → Type 0
 HasOptions operation_name variables introspection =
     IsSome operation_name ⊎ ((introspection ≡ true) ⊎ ((value : Value) × JsonText variables value × (object_members value ≡ Some [] → ⊥)))
 
--- each refusal has its cause: that a text is no plain one is the private reader's word, and want of memory is free
-abbrev pub HasCause : Option (Bor (List ℕ)) → List ℕ → Bool → AnswerError → Type 0
-HasCause operation_name variables introspection (Variables (Read fault)) = JsonFault variables fault
-HasCause operation_name variables introspection (Variables NotObject) = IsNoObject variables
-HasCause operation_name variables introspection (Unbuilt Options) = HasOptions operation_name variables introspection
-HasCause operation_name variables introspection (Unbuilt part) = Unit {0}
-HasCause operation_name variables introspection Memory = Unit {0}
+-- the part of two texts that is named is the first of them that means nothing
+abbrev pub IsUnplainPart : List ℕ → List ℕ → UnbuiltPart → Type 0
+IsUnplainPart schema query Options = ⊥
+IsUnplainPart schema query Schema = IsUnmeantSchema schema
+IsUnplainPart schema query Query = IsUnplain schema query
 
--- the refusal names this part, or is want of memory
-abbrev pub IsOfPart : Refused UnbuiltPart → UnbuiltPart → Type 0
-IsOfPart (refused.Fault named) part = named ≡ part
-IsOfPart refused.Memory part = Unit {0}
+-- the refusal names such a part, or is want of memory
+abbrev pub IsOfTexts : List ℕ → List ℕ → Refused UnbuiltPart → Type 0
+IsOfTexts schema query (refused.Fault part) = IsUnplainPart schema query part
+IsOfTexts schema query refused.Memory = Unit {0}
 
--- the refusal names a text, or is want of memory
-abbrev pub IsOfTexts : Refused UnbuiltPart → Type 0
-IsOfTexts (refused.Fault Options) = ⊥
-IsOfTexts (refused.Fault Schema) = Unit {0}
-IsOfTexts (refused.Fault Query) = Unit {0}
-IsOfTexts refused.Memory = Unit {0}
+-- each refusal has its cause, and want of memory is free
+abbrev pub HasCause : List ℕ → List ℕ → Option (Bor (List ℕ)) → List ℕ → Bool → AnswerError → Type 0
+HasCause schema query operation_name variables introspection (Variables (Read fault)) = JsonFault variables fault
+HasCause schema query operation_name variables introspection (Variables NotObject) = IsNoObject variables
+HasCause schema query operation_name variables introspection (Unbuilt Options) = HasOptions operation_name variables introspection
+HasCause schema query operation_name variables introspection (Unbuilt Schema) = IsUnmeantSchema schema
+HasCause schema query operation_name variables introspection (Unbuilt Query) = IsUnplain schema query
+HasCause schema query operation_name variables introspection Memory = Unit {0}
+
+-- nothing but an answer to two plain texts is asked: no operation name, no variables and no introspection
+pub record AsksPlainly (schema query : List ℕ) (operation_name : Option (Bor (List ℕ))) (variables : List ℕ) (introspection : Bool) : Type 0 where
+  pub texts : PlainTexts schema query
+  pub no_name : is_some operation_name ≡ false
+  pub value : Value
+  pub read : JsonText variables value
+  pub no_variables : object_members value ≡ Some []
+  pub no_introspection : introspection ≡ false

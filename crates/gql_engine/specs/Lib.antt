@@ -4,6 +4,7 @@ pub mod Data
 pub mod DataMeaning
 pub mod DataName
 pub mod Decision
+pub mod Meant
 pub mod Program
 pub mod Reply
 pub mod Request

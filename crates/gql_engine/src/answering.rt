@@ -2,12 +2,15 @@
 
 ghost use Rattle.std.specs.Prelude.{◌≡◌, IfOk, IfErr};
 ghost use Rattle.gql_engine.specs.Answered.{Answered};
-ghost use Rattle.gql_engine.specs.AnswerError.{HasCause, IsOfPart, IsOfTexts, unbuilt_message};
+ghost use Rattle.gql_engine.specs.declared.answering.AnswerError.TheVariants as refusal;
+ghost use Rattle.gql_engine.specs.AnswerError.{AsksPlainly, HasCause, IsOfTexts, unbuilt_message};
 
-use crate::plain;
-use crate::plain::NotPlain;
+use crate::texts;
 use bytes::Bytes;
 use gql_exec::{ObjectValue, execute};
+use gql_meaning::laws::texts_have_one_document;
+use gql_plain::NotPlain;
+use jb_read::laws::each_text_has_one_answer;
 use jb_read::{ReadFault, from_bytes_whole};
 use jb_tree::Refused;
 use std::alloc::{AllocError, Global};
@@ -66,14 +69,16 @@ impl From<AllocError> for AnswerError {
 
 /// Answers a query over a schema, whose root is resolved by `root`: the bytes of the response (GraphQL, section 7).
 ///
-/// `variables` is a JSON text. The paths of errors are those of the response's data, their locations those of the
-/// query's text.
+/// `variables` is a JSON text. Where both texts are plain (see `gql_plain`) and nested at most 500 deep, and nothing
+/// else is asked, the response is given, unless memory fails. The paths of its errors are those of its data, their
+/// locations those of the query's text.
 ///
 /// # Errors
 ///
 /// - [`AnswerError::Variables`] where the variables are no JSON object.
 /// - [`AnswerError::Unbuilt`] where an operation name is given, introspection is asked for or there are variables
-///   ([`UnbuiltPart::Options`]), or where a text is no plain one.
+///   ([`UnbuiltPart::Options`]), else exactly where the schema's text means no plain schema
+///   ([`UnbuiltPart::Schema`]), else exactly where the query's text asks nothing plain of it ([`UnbuiltPart::Query`]).
 /// - [`AnswerError::Memory`] for want of memory, also told by the resolver.
 pub fn answer<O: ObjectValue>(
     alloc: Global,
@@ -84,8 +89,35 @@ pub fn answer<O: ObjectValue>(
     introspection: bool,
     root: &O,
 ) -> Result<Bytes, AnswerError>
-    ensures answered { IfOk result (Answered O.type_of O.resolves root.now) }
-    ensures refused { IfErr result (HasCause operation_name.entry variables.now introspection) }
+    ensures answered { IfOk result (Answered O.type_of O.resolves root.now schema.now query.now) }
+    ensures refused { IfErr result (HasCause schema.now query.now operation_name.entry variables.now introspection) }
+    ensures plain { AsksPlainly schema.now query.now operation_name.entry variables.now introspection
+        → IfErr result (λ error. error ≡ refusal.Memory) }
+{
+    each_text_has_one_answer();
+    answer_or_refuse(
+        alloc,
+        schema,
+        query,
+        operation_name,
+        variables,
+        introspection,
+        root,
+    )
+}
+
+/// The response, or the first cause of a refusal.
+fn answer_or_refuse<O: ObjectValue>(
+    alloc: Global,
+    schema: &str,
+    query: &str,
+    operation_name: Option<&str>,
+    variables: &Bytes,
+    introspection: bool,
+    root: &O,
+) -> Result<Bytes, AnswerError>
+    ensures answered { IfOk result (Answered O.type_of O.resolves root.now schema.now query.now) }
+    ensures refused { IfErr result (HasCause schema.now query.now operation_name.entry variables.now introspection) }
 {
     let is_empty = match from_bytes_whole(alloc, variables) {
         Ok(value) => match value.as_object() {
@@ -120,30 +152,21 @@ pub(crate) fn respond<O: ObjectValue>(
     query: &str,
     root: &O,
 ) -> Result<Bytes, Refused<UnbuiltPart>>
-    ensures answered { IfOk result (Answered O.type_of O.resolves root.now) }
-    ensures texts { IfErr result IsOfTexts }
+    ensures answered { IfOk result (Answered O.type_of O.resolves root.now schema.now query.now) }
+    ensures unbuilt { IfErr result (IsOfTexts schema.now query.now) }
 {
-    let schema = match plain::schema(alloc, schema) {
+    texts_have_one_document();
+    let schema = match texts::schema(alloc, schema) {
         Ok(schema) => schema,
-        Err(refused) => return Err(not_plain(refused, UnbuiltPart::Schema)),
+        Err(Refused::Fault(NotPlain)) => return Err(Refused::Fault(UnbuiltPart::Schema)),
+        Err(Refused::Memory) => return Err(Refused::Memory),
     };
-    let Some(root_type) = schema.get_object(plain::ROOT_TYPE) else {
-        return Err(Refused::Fault(UnbuiltPart::Schema));
-    };
-    let selections = match plain::query(alloc, &schema, root_type, query) {
+    let root_type = schema.get_object(texts::ROOT_TYPE).unwrap();
+    let selections = match texts::query(alloc, &schema, root_type, query) {
         Ok(selections) => selections,
-        Err(refused) => return Err(not_plain(refused, UnbuiltPart::Query)),
+        Err(Refused::Fault(NotPlain)) => return Err(Refused::Fault(UnbuiltPart::Query)),
+        Err(Refused::Memory) => return Err(Refused::Memory),
     };
     let response = execute(alloc, &schema, root_type, &selections, root)?;
     Ok(response.into_bytes(alloc)?)
-}
-
-/// The refusal of a text that is no plain one, as the part of the request that it is.
-fn not_plain(refused: Refused<NotPlain>, part: UnbuiltPart) -> Refused<UnbuiltPart>
-    ensures { IsOfPart result part }
-{
-    match refused {
-        Refused::Fault(NotPlain) => Refused::Fault(part),
-        Refused::Memory => Refused::Memory,
-    }
 }

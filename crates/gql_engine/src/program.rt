@@ -1,5 +1,5 @@
 ghost use Rattle.std.specs.Prelude.{◌≡◌, ◌≢◌, ◌≤◌, ◌⊎◌, ◌↔◌, IsTrue};
-ghost use Rattle.gql_engine.specs.Program.{AsksAnswer, IsLong, usage};
+ghost use Rattle.gql_engine.specs.Program.{AsksAnswer, IsLong, IsPlainInput, usage};
 ghost use Rattle.gql_engine.specs.Reply.{Answers, Refuses};
 ghost use Rattle.jb_io.specs.Sink.{Takes, TakesFront};
 ghost use Rattle.jb_io.specs.Source.{GivesMore};
@@ -8,6 +8,7 @@ ghost use Rattle.jb_serve.specs.Run.{BreaksOff, Serves};
 
 use crate::task::task_asked;
 use jb_io::{Sink, Source, SureSink, SureSource};
+use jb_read::laws::each_text_has_one_answer;
 use jb_serve::serve;
 pub use jb_serve::{ANSWERED, MISUSED, NO_MEMORY, REFUSED, SINK_FAILED, SOURCE_FAILED, TOO_LONG};
 use std::alloc::Global;
@@ -43,7 +44,12 @@ pub fn run<S: Source, K: Sink>(alloc: Global, words: &[String], source: &mut S, 
     ensures sink_failed { result ≡ SINK_FAILED → HasFailed (K.faults sink.old) (K.faults sink.new) }
     ensures broken_off { result ≡ SINK_FAILED → AsksAnswer words.now → BreaksOff Answers Refuses
         (S.left source.old) (S.left source.new) (K.taken sink.old) (K.taken sink.new) }
+
+    // A plain request is answered, unless memory, the source or the sink fails.
+    ensures plain { AsksAnswer words.now → IsPlainInput (S.left source.old)
+        → (result ≡ ANSWERED) ⊎ ((result ≡ NO_MEMORY) ⊎ ((result ≡ SOURCE_FAILED) ⊎ (result ≡ SINK_FAILED))) }
 {
+    each_text_has_one_answer();
     serve(alloc, task_asked(words), USAGE, source, sink)
 }
 
@@ -69,6 +75,10 @@ pub fn run_in_memory(
     ensures long { result ≡ TOO_LONG → IsLong (⟦<SureSource as Source>⟧.left source.old) }
     ensures too_long { AsksAnswer words.now → IsLong (⟦<SureSource as Source>⟧.left source.old)
         → (result ≡ TOO_LONG) ⊎ (result ≡ NO_MEMORY) }
+
+    // A plain request is answered, unless memory fails.
+    ensures plain { AsksAnswer words.now → IsPlainInput (⟦<SureSource as Source>⟧.left source.old)
+        → (result ≡ ANSWERED) ⊎ (result ≡ NO_MEMORY) }
 {
     run(alloc, words, source, sink)
 }

@@ -85,6 +85,26 @@ fn requests_get_their_replies(rt: HostRuntime) -> Result<(), Fail> {
             1,
             r#"{"errors":[{"message":"unbuilt: schema"}]}"#,
         ),
+        (
+            r#"{"schema":"type Query {\n  # a number\n  i: Int,\n  s: String\n}","query":"{\r\n  s, # text\n  i\n}","data":{"i":"x"}}"#,
+            0,
+            r#"{"errors":[{"message":"resolver returned \"x\", expected Int","locations":[{"line":3,"column":3}],"path":["i"]}],"data":{"s":null,"i":null}}"#,
+        ),
+        (
+            r#"{"schema":"type Query { i: Int }","query":"{ i "}"#,
+            1,
+            r#"{"errors":[{"message":"unbuilt: query"}]}"#,
+        ),
+        (
+            r#"{"schema":"\"all\" type Query { i: Int }","query":"{ i }"}"#,
+            1,
+            r#"{"errors":[{"message":"unbuilt: schema"}]}"#,
+        ),
+        (
+            r#"{"schema":"type Query { a: Int b: Int }","query":"{ a b a }"}"#,
+            1,
+            r#"{"errors":[{"message":"unbuilt: query"}]}"#,
+        ),
     ];
     for (request, status, line) in rows {
         let (found_status, found_line) = reply(rt.alloc(), request)?;

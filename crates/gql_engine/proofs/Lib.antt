@@ -1,0 +1,3 @@
+mod Promise
+mod Shallow
+mod Unread
