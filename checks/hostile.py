@@ -2,11 +2,12 @@
 """Gives the programs what nobody should send: cut and changed requests, nesting at and past each limit, and large texts.
 
 Each must end with a status of its own, and with the one wanted where that can be told apart from the program: a request
-that is no JSON text is refused, one that is whole is answered. `checks/hostile.py all` tries every one."""
+that is no JSON text is refused, one that is whole is answered. A program that the gate has built is given room that grows
+with its input alone. `checks/hostile.py all` tries every one, and so does a run over programs that are built."""
 import json
 import sys
 
-from shared.trying import try_cases
+from shared.trying import built, try_cases
 
 ANSWERED, REFUSED, TOO_LONG = 0, 1, 6
 
@@ -18,7 +19,7 @@ REQUESTS = [
 CHANGED = [0, 9, 32, 34, 44, 48, 91, 92, 123, 125, 128, 255]
 LIMIT = 16_777_216
 
-# Programs run slowly under `rt try`, and a run of all takes six minutes: with no word `all`, one of so many is tried.
+# Programs run slowly under `rt try`, and a run of all takes six minutes: without the word `all`, one of so many is tried.
 STEP = 7
 
 
@@ -44,6 +45,12 @@ def large_request(count):
     schema = "type Query {" + " ".join(f"f{number}:Int" for number in range(count)) + "}"
     data = {f"f{number}": number for number in range(count)}
     return json.dumps({"schema": schema, "query": "{" + fields(count) + "}", "data": data}).encode()
+
+
+def nested_sets(depth):
+    """A request whose selection sets nest so deep."""
+    query = "{a" * (depth - 1) + "{x}" + "}" * (depth - 1)
+    return json.dumps({"schema": "type Query{a:Query x:Int}", "query": query, "data": {"a": {"a": None}}}).encode()
 
 
 def padded(length):
@@ -72,7 +79,10 @@ def engine_cases(step):
     yield "nested128", nested_json(128), [REFUSED]
     yield "longest", padded(LIMIT), [ANSWERED]
     yield "too-long", padded(LIMIT + 1), [TOO_LONG]
-    yield "fields", large_request(50_000), [ANSWERED]
+    yield "sets500", nested_sets(500), [ANSWERED]
+    yield "sets501", nested_sets(501), [REFUSED]
+    # `rt try` cuts an output of more than a MiB off.
+    yield "fields", large_request(100_000 if built("gql_program") else 50_000), [ANSWERED]
 
 
 def syntax_cases():
@@ -93,7 +103,7 @@ def syntax_cases():
 
 
 def main():
-    step = 1 if sys.argv[1:] == ["all"] else STEP
+    step = 1 if sys.argv[1:] == ["all"] or built("gql_program") else STEP
     passed = failed = 0
     programs = [("gql_program", "answer", list(engine_cases(step))), ("gql_syntax", "document", list(syntax_cases()))]
     for program, word, cases in programs:

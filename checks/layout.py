@@ -1,6 +1,7 @@
 #!/usr/bin/env python3
 """Checks what the repository promises of its own form: the HANDLES line, files of at most 400 lines, a lib.rt that
-holds documentation, modules and exports alone, and no public function without a clause or a word on why there is none."""
+holds documentation, modules and exports alone, no public item without documentation, and no public function without a
+clause or a word on why there is none."""
 import pathlib
 import re
 import sys
@@ -25,6 +26,7 @@ def faults():
                 yield f"{file.relative_to(ROOT)} has {lines} lines"
             if file.suffix == ".rt":
                 yield from (f"{file.relative_to(ROOT)}: no clause says what `{name}` gives" for name in unsaid(file))
+                yield from (f"{file.relative_to(ROOT)}: no documentation of `{name}`" for name in undocumented(file))
         root = folder / "src" / "lib.rt"
         if root.exists():
             text = root.read_text()
@@ -41,6 +43,18 @@ def unsaid(file):
         documentation, name, head = found.groups()
         if "ensures" not in head and "No clause says" not in documentation:
             yield name
+
+
+def undocumented(file):
+    """The public items of a file that no documentation stands before."""
+    lines = file.read_text().split("\n")
+    for place, line in enumerate(lines):
+        found = re.match(r"\s*pub (?:const |unsafe )*(?:fn|struct|enum|trait|type|const) (\w+)", line)
+        before = place - 1
+        while found and before >= 0 and lines[before].strip().startswith("#["):
+            before -= 1
+        if found and not (before >= 0 and lines[before].strip().startswith("///")):
+            yield found.group(1)
 
 
 def main():

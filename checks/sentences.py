@@ -4,11 +4,11 @@
 The grammar below is written after appendix B.3 of GraphQL October 2021, apart from the one that the parser runs by. The
 recogniser is Earley's: it keeps every way to read what came so far, so the first token that no way takes is the place of
 the fault. A list of tokens is written with spaces between them, and the program must tell the same place.
-`checks/sentences.py all` tries every list."""
+`checks/sentences.py all` tries every list, and so does a run over a program that the gate has built."""
 import itertools
 import sys
 
-from shared.trying import try_cases
+from shared.trying import built, try_cases
 
 # A rule is its ways, divided by `|`. Rules begin with a capital; `name` is any name, other words stand for themselves.
 # `X?` is optional and `X*` any number; `X!` is optional too, but must come where a brace follows.
@@ -184,9 +184,10 @@ def run_cases(word, cases):
 
 def main():
     passed = failed = sentences = 0
+    tries_all = sys.argv[1:] == ["all"] or built("gql_syntax")
     for word in ("type", "selection_set", "document"):
         cases = [case for group in GROUPS if group[0] == word for case in cases_of(group)]
-        if sys.argv[1:] != ["all"]:
+        if not tries_all:
             cases = [case for number, case in enumerate(cases) if case[1] == SENTENCE or number % STEP == 0]
         wrong = list(run_cases(word, cases))
         for text, wanted, status in wrong[:5]:
