@@ -1,7 +1,7 @@
 //! The walks of a map that give pairs. Each is seen as the list of what it has left, and ends for good, from whichever
 //! ends it is taken.
-ghost use Rattle.std.specs.Prelude.{◌≡◌, length, zip};
-ghost use Rattle.std.specs.Iterator.{at_most};
+ghost use Rattle.std.specs.Prelude.{◌≡◌, ◌≤◌, IfSome, length, zip};
+ghost use Rattle.std.specs.Iterator.{UpTo, at_most};
 ghost use Rattle.std.specs.Map.Iter.{TakesFirst, TakesLast, deref_pair};
 
 use super::pairs::Pairs;
@@ -55,7 +55,11 @@ impl<'a, V> Iterator for Iter<'a, V> {
         Some((key, self.values.next().unwrap()))
     }
 
-    fn size_hint(&self) -> (usize, Option<usize>) {
+    fn size_hint(&self) -> (usize, Option<usize>)
+        ensures lower { result.0 ≤ length self.now }
+        ensures upper { IfSome result.1 (UpTo (at_most (length self.now))) }
+        ensures exact { result ≡ (length self.now, Some (length self.now)) }
+    {
         let len = self.len();
         (len, Some(len))
     }
@@ -123,7 +127,9 @@ impl<V: Drop> Iterator for IntoIter<V> {
         Some((key, self.values.next().unwrap()))
     }
 
-    fn size_hint(&self) -> (usize, Option<usize>) {
+    fn size_hint(&self) -> (usize, Option<usize>)
+        ensures { result ≡ (length self.now, Some (length self.now)) }
+    {
         let len = self.len();
         (len, Some(len))
     }

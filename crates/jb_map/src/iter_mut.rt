@@ -1,7 +1,7 @@
 //! The walks of a map whose values may be changed in place. They have no model, so that contracts can follow the loan:
 //! they show what they have left, and end for good, from whichever ends they are taken.
-ghost use Rattle.std.specs.Prelude.{◌≡◌, length, zip};
-ghost use Rattle.std.specs.Iterator.{at_most};
+ghost use Rattle.std.specs.Prelude.{◌≡◌, ◌≤◌, IfSome, length, zip};
+ghost use Rattle.std.specs.Iterator.{UpTo, at_most};
 ghost use Rattle.std.specs.Map.Iter.{LendsFirst, LendsLast};
 ghost use Rattle.jb_map.specs.WalkMut.{pairs_left, pairs_name, CanStep, values_step, values_step_back, values_left};
 
@@ -44,7 +44,11 @@ impl<'a, V> Iterator for IterMut<'a, V> {
         Some((key, self.values.next().unwrap()))
     }
 
-    fn size_hint(&self) -> (usize, Option<usize>) {
+    fn size_hint(&self) -> (usize, Option<usize>)
+        ensures lower { result.0 ≤ length (pairs_left self.now) }
+        ensures upper { IfSome result.1 (UpTo (at_most (length (pairs_left self.now)))) }
+        ensures exact { result ≡ (length (pairs_left self.now), Some (length (pairs_left self.now))) }
+    {
         let len = self.len();
         (len, Some(len))
     }
@@ -99,7 +103,11 @@ impl<'a, V> Iterator for ValuesMut<'a, V> {
         self.left.next()
     }
 
-    fn size_hint(&self) -> (usize, Option<usize>) {
+    fn size_hint(&self) -> (usize, Option<usize>)
+        ensures lower { result.0 ≤ length (values_left self.now) }
+        ensures upper { IfSome result.1 (UpTo (at_most (length (values_left self.now)))) }
+        ensures exact { result ≡ (length (values_left self.now), Some (length (values_left self.now))) }
+    {
         let len = self.len();
         (len, Some(len))
     }

@@ -24,6 +24,3 @@ pub use iter::{IntoIter, Iter};
 pub use iter_mut::{IterMut, ValuesMut};
 pub use pairs::Pairs;
 pub use parts::{Keys, Values};
-
-#[cfg(test)]
-mod tests;

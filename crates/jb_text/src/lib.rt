@@ -15,6 +15,3 @@ pub use listed::{Listed, ListedIter};
 pub use number::Number;
 pub use refused::{Memory, Refused};
 pub use text::Text;
-
-#[cfg(test)]
-mod tests;
