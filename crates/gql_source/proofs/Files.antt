@@ -1,8 +1,8 @@
 -- Looking a file up by the place of its number, and putting one there.
-use Rattle.std.proofs.Common.{◌≡◌, ℕ, suc, ◌+◌, ◌<◌, ◌≤◌, ◌⊎◌, inl, inr, Bool, true, false, not, ◌&&◌, ◌||◌, cond, ltb, [], ◌∷◌, ◌++◌, length, get_or, set, Option, Some, None, position, refl, sym, ◌∙◌, ap, arith}
+use Rattle.std.proofs.Common.{◌≡◌, ℕ, suc, ◌+◌, ◌<◌, ◌≤◌, inl, inr, true, false, not, ◌||◌, cond, ltb, [], ◌∷◌, ◌++◌, length, get_or, set, Option, Some, None, position, refl, sym, ◌∙◌, ap, arith}
 use Rattle.std.specs.List.{position_or_len}
 use Rattle.std.specs.Map.{lookup}
-use Rattle.std.proofs.lemmas.Bool.{eqb-true}
+use Rattle.std.proofs.lemmas.Bool.{eqb-true, cases_Bool, and_parts}
 use Rattle.std.proofs.lemmas.Bool.Decides.{leb_tells, nat_tests}
 use Rattle.gql_source.specs.declared.file_id.FileId.{FileId}
 use Rattle.gql_source.specs.File.{File, Files, is_file, put, has_file, are_distinct}
@@ -79,18 +79,10 @@ same_file id other h = ap (λ n. let made : FileId = record { number = n } in ma
 other_file : (id other : FileId) → is_file id other ≡ false → is_file other id ≡ false
 other_file id other h = grind (arith, nat_tests)
 
-bool_cases : (b : Bool) → (b ≡ true) ⊎ (b ≡ false)
-bool_cases true = inl refl
-bool_cases false = inr refl
-
-both : (a b : Bool) → (a && b) ≡ true → (a ≡ true) × (b ≡ true)
-both true b h = (refl, h)
-both false b h = absurd (let f : false ≡ true = h in cc)
-
 has_file-put : (other id : FileId) (file : File) (entries : Files) → is_file other id ≡ false → has_file other (put id file entries) ≡ has_file other entries
 has_file-put other id file [] h = rw h refl
 has_file-put other id file (entry ∷ entries) h =
-    elim (bool_cases (is_file id entry.0)) [
+    elim (cases_Bool (is_file id entry.0)) [
       | inl same ↦ rw (same, h) (let f : is_file other entry.0 ≡ false = ap (is_file other) (sym (same_file id entry.0 same)) ∙ h in rw f refl)
       | inr differs ↦ rw differs (ap (λ b. is_file other entry.0 || b) (has_file-put other id file entries h))
     ]
@@ -98,8 +90,8 @@ has_file-put other id file (entry ∷ entries) h =
 pub are_distinct-put : (id : FileId) (file : File) (entries : Files) → are_distinct entries ≡ true → are_distinct (put id file entries) ≡ true
 are_distinct-put id file [] h = refl
 are_distinct-put id file (entry ∷ entries) h =
-    let p = both (not (has_file entry.0 entries)) (are_distinct entries) h in
-    elim (bool_cases (is_file id entry.0)) [
+    let p = and_parts (not (has_file entry.0 entries)) (are_distinct entries) h in
+    elim (cases_Bool (is_file id entry.0)) [
       | inl same ↦ rw same (let e = same_file id entry.0 same in rw e h)
       | inr differs ↦ rw differs (let e = has_file-put entry.0 id file entries (other_file id entry.0 differs) in rw (e, p.0) (are_distinct-put id file entries p.1))
     ]

@@ -1,34 +1,23 @@
 -- The first files of a list, and files put behind others.
-use Rattle.std.proofs.Common.{◌≡◌, ℕ, zero, suc, Bool, true, false, not, ◌&&◌, ◌||◌, [], ◌∷◌, ◌++◌, length, take, Some, None, is_some, cond, refl, ◌∙◌, ap, arith}
+use Rattle.std.proofs.Common.{◌≡◌, ℕ, zero, suc, true, false, not, [], ◌∷◌, ◌++◌, length, take, Some, None, is_some, cond, refl, ◌∙◌, ap, arith}
 use Rattle.std.specs.Map.{lookup}
 use Rattle.gql_source.specs.declared.file_id.FileId.{FileId}
 use Rattle.gql_source.specs.File.{File, Files, is_file, put, put_absent, joined, has_file, are_distinct}
+use Rattle.std.proofs.lemmas.Bool.{and_parts, or_parts, not-true}
 use Rattle.std.proofs.lemmas.List.{take-append-le, length-take}
-
-neither : (a b : Bool) → (a || b) ≡ false → (a ≡ false) × (b ≡ false)
-neither true b h = absurd (let f : true ≡ false = h in cc)
-neither false b h = (refl, h)
 
 has_file-take : (id : FileId) (n : ℕ) (files : Files) → has_file id files ≡ false → has_file id (take n files) ≡ false
 has_file-take id zero files h = refl
 has_file-take id (suc n) [] h = refl
 has_file-take id (suc n) (entry ∷ files) h =
-    let p = neither (is_file id entry.0) (has_file id files) h in rw p.0 (has_file-take id n files p.1)
-
-negated : (b : Bool) → not b ≡ true → b ≡ false
-negated true h = absurd (let f : false ≡ true = h in cc)
-negated false h = refl
-
-both : (a b : Bool) → (a && b) ≡ true → (a ≡ true) × (b ≡ true)
-both true b h = (refl, h)
-both false b h = absurd (let f : false ≡ true = h in cc)
+    let p = or_parts (is_file id entry.0) (has_file id files) h in rw p.0 (has_file-take id n files p.1)
 
 pub are_distinct-take : (n : ℕ) (files : Files) → are_distinct files ≡ true → are_distinct (take n files) ≡ true
 are_distinct-take zero files h = refl
 are_distinct-take (suc n) [] h = refl
 are_distinct-take (suc n) (entry ∷ files) h =
-    let p = both (not (has_file entry.0 files)) (are_distinct files) h in
-    let q = has_file-take entry.0 n files (negated (has_file entry.0 files) p.0) in rw q (are_distinct-take n files p.1)
+    let p = and_parts (not (has_file entry.0 files)) (are_distinct files) h in
+    let q = has_file-take entry.0 n files (not-true (has_file entry.0 files) p.0) in rw q (are_distinct-take n files p.1)
 
 pub joined-append : (files others : Files) (other : FileId × File) → joined files (others ++ other ∷ []) ≡ put_absent other.0 other.1 (joined files others)
 joined-append files [] other = refl

@@ -2,3 +2,4 @@ pub mod Files
 pub mod LineStarts
 mod Joined
 pub mod LineSteps
+pub mod CharacterCounts

@@ -4,7 +4,8 @@ ghost use Rattle.std.specs.Prelude.{◌≡◌, ◌+◌, ◌<◌, ◌≤◌, leng
 ghost use Rattle.gql_source.specs.Lines as lines;
 
 use crate::LineColumn;
-use crate::source_file::{begins_character, ends_line};
+use crate::characters::begins_character;
+use crate::source_file::ends_line;
 use std::marker::Model;
 
 /// Finds the lines and columns of offsets in a text, going on from the last one.

@@ -1,9 +1,10 @@
 //! A source file, and the lines of its text.
 
-ghost use Rattle.std.specs.Prelude.{◌≡◌, ◌+◌, ◌-◌, ◌<◌, ◌≤◌, IfOk, IfSome, length, slice_index, slice_range, option_map, Some, None, Option};
-ghost use Rattle.std.specs.List.{count_by};
+ghost use Rattle.std.specs.Prelude.{◌≡◌, ◌+◌, ◌-◌, ◌/◌, ◌<◌, ◌≤◌, IfOk, IfSome, length, slice_index, slice_range, option_map, Some, None, Option};
+ghost use Rattle.gql_source.specs.Characters.{counts_at_marks as counts_at_marks_of, step};
 ghost use Rattle.gql_source.specs.Lines as lines;
 
+use crate::characters::{characters_before, counts_at_marks};
 use crate::{LineColumn, Memory};
 use std::alloc::Global;
 use std::marker::Model;
@@ -11,17 +12,20 @@ use std::ops::Range;
 
 /// A source file: a path and a text.
 ///
-/// A contract sees a record of their bytes, `path` and `source_text`. The starts of the lines are kept, so
-/// looking up a place takes time in the logarithm of the number of lines, and in the length of one line.
+/// A contract sees a record of their bytes, `path` and `source_text`. The starts of the lines are kept, and how many
+/// characters come before each of a row of marks, so looking up a place takes time in the logarithm of the number of
+/// lines alone, however long they are.
 #[derive(Debug, Drop)]
 pub struct SourceFile {
     path: String,
     source_text: String,
     line_starts: Vec<usize>,
+    counts: Vec<usize>,
 }
 
 impl Model for SourceFile {
-    ghost use Rattle.std.specs.Prelude.{◌≡◌, length, string_bytes};
+    ghost use Rattle.std.specs.Prelude.{◌≡◌, ◌/◌, length, string_bytes};
+    ghost use Rattle.gql_source.specs.Characters.{counts_at_marks, step};
     ghost use Rattle.gql_source.specs.File.{File};
     ghost use Rattle.gql_source.specs.Lines as lines;
 
@@ -29,7 +33,8 @@ impl Model for SourceFile {
 
     ghost view = { λ file. record { path = string_bytes file.path; source_text = string_bytes file.source_text } };
 
-    ghost invariant = { λ file. file.line_starts.items ≡ lines.line_starts (string_bytes file.source_text) (length (string_bytes file.source_text)) };
+    ghost invariant = { λ file. (file.line_starts.items ≡ lines.line_starts (string_bytes file.source_text) (length (string_bytes file.source_text)))
+        × (file.counts.items ≡ counts_at_marks (string_bytes file.source_text) (length (string_bytes file.source_text) / step)) };
 }
 
 impl SourceFile {
@@ -41,6 +46,7 @@ impl SourceFile {
             path: String::from_str(alloc, path)?,
             source_text: String::from_str(alloc, source_text)?,
             line_starts: line_starts(alloc, source_text.as_bytes())?,
+            counts: counts_at_marks(alloc, source_text.as_bytes())?,
         })
     }
 
@@ -72,6 +78,7 @@ impl SourceFile {
         Some(line_column(
             self.source_text.as_bytes(),
             self.line_starts.as_slice(),
+            self.counts.as_slice(),
             offset,
         ))
     }
@@ -132,29 +139,17 @@ fn line_of(text: &[u8], starts: &[usize], offset: usize) -> usize
     starts.partition_point(|start| *start <= offset)
 }
 
-/// The line and the column of a place in a text, from the starts of the text's lines.
+/// The line and the column of a place in a text, from the starts of the text's lines and the counts at its marks.
 #[tactic(auto, unfolding(crate::specs::Lines::line_column))]
-fn line_column(text: &[u8], starts: &[usize], offset: usize) -> LineColumn
+fn line_column(text: &[u8], starts: &[usize], counts: &[usize], offset: usize) -> LineColumn
     requires starts { starts.now ≡ lines.line_starts text.now (length text.now) }
+    requires counts { counts.now ≡ counts_at_marks_of text.now (length text.now / step) }
     requires within { offset ≤ length text.now }
     ensures { result ≡ lines.line_column text.now offset }
 {
     let line = line_of(text, starts, offset);
     let start = starts[line - 1];
-    let column = count_characters(&text[start..offset]) + 1;
+    let before = characters_before(text, counts, start);
+    let column = characters_before(text, counts, offset) - before + 1;
     LineColumn { line, column }
-}
-
-/// How many characters begin in these bytes.
-fn count_characters(bytes: &[u8]) -> usize
-    ensures { result ≡ count_by lines.begins_character bytes.now }
-{
-    bytes.iter().filter(|byte| begins_character(**byte)).count()
-}
-
-/// Whether the byte begins a character.
-pub(crate) fn begins_character(byte: u8) -> bool
-    ensures { result ≡ lines.begins_character byte }
-{
-    byte < 0x80 || 0xC0 <= byte
 }
