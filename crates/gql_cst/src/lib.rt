@@ -19,14 +19,10 @@
 #![tactic(auto)]
 
 mod count;
-#[cfg(test)]
-mod grammar_tests;
 mod limits;
 mod machine;
 mod parse;
 mod parser;
-#[cfg(test)]
-mod tests;
 mod tree;
 mod turn;
 mod word;

@@ -21,8 +21,6 @@ mod spelling;
 mod starts;
 mod symbol;
 mod syntax_kind;
-#[cfg(test)]
-mod tests;
 mod value;
 mod way;
 mod word;

@@ -2,8 +2,7 @@
 use Rattle.std.proofs.Common.{◌≡◌, ℕ, suc, ◌+◌, Bool, true, false, cond, [], ◌∷◌, take, drop, refl, arith}
 use Rattle.std.specs.Prelude.{if◌then◌else◌, ◌==◌, slice_index}
 use Rattle.std.specs.List.{prefix_len}
-use Rattle.std.proofs.lemmas.Bool.{eqb-true}
-use Rattle.std.proofs.lemmas.Bool.Decides.{nat_tests}
+use Rattle.std.proofs.lemmas.Bool.{eqb-true, ne_eqb}
 use Rattle.gql_cst_lexer.specs.Class.{Text, is_within_line}
 use Rattle.gql_cst_lexer.specs.BlockString.{is_cr_lf, lines, before_first}
 use Rattle.gql_cst_lexer.specs.BlockWriting.{end_len, following}
@@ -49,9 +48,6 @@ pub following-none : (behind : Text) → end_len behind ≡ 0 → following behi
 unfolding following
 following-none behind h = rw h refl
 
-not_zero : (n : ℕ) → (n ≡ 0 → ⊥) → (n == 0) ≡ false
-not_zero n h = grind (arith, nat_tests)
-
 pub following-some : (behind : Text) → (end_len behind ≡ 0 → ⊥) → following behind ≡ lines (drop (end_len behind) behind)
 unfolding following
-following-some behind h = rw (not_zero (end_len behind) h) refl
+following-some behind h = rw (ne_eqb (end_len behind) 0 h) refl

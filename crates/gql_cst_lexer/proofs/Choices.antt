@@ -1,6 +1,7 @@
 -- What tests on bytes and choices between numbers tell.
 use Rattle.std.proofs.Common.{◌≡◌, ℕ, zero, suc, ◌<◌, ◌≤◌, ◌⊎◌, inl, inr, Bool, true, false, not, ◌&&◌, ◌||◌, List, [], ◌∷◌, length, get_or, refl, arith}
-use Rattle.std.specs.Prelude.{if◌then◌else◌}
+use Rattle.std.specs.Prelude.{if◌then◌else◌, ◌==◌}
+use Rattle.std.proofs.lemmas.Bool.{ne_eqb}
 
 pub both : (a b : Bool) → (a && b) ≡ true → (a ≡ true) × (b ≡ true)
 both true b h = (refl, h)
@@ -43,8 +44,5 @@ pub bool_cases : (b : Bool) → (b ≡ true) ⊎ (b ≡ false)
 bool_cases true = inl refl
 bool_cases false = inr refl
 
--- past its end a text reads as 0
-pub past_end : (at : List ℕ) (i : ℕ) → length at ≤ i → get_or at i 0 ≡ 0
-past_end [] i h = refl
-past_end (b ∷ at) zero h = absurd (omega arith)
-past_end (b ∷ at) (suc i) h = past_end at i (omega arith)
+pub not_zero : (n : ℕ) → (suc n == 0) ≡ false
+not_zero n = ne_eqb (suc n) 0 (λ e. omega (arith, e))

@@ -1,17 +1,17 @@
 -- Where a run of bytes ends, and where a text may be cut.
-use Rattle.std.proofs.Common.{◌≡◌, ℕ, zero, suc, ◌+◌, ◌<◌, ◌≤◌, ◌⊎◌, inl, inr, min, Bool, true, false, not, length, drop, get_or, ◌∙◌, ap, arith, length-drop}
+use Rattle.std.proofs.Common.{◌≡◌, ℕ, zero, suc, ◌+◌, ◌<◌, ◌≤◌, inl, inr, min, Bool, true, false, not, length, drop, get_or, ◌∙◌, ap, arith, length-drop}
 use Rattle.std.specs.Prelude.{◌==◌, slice_index}
 use Rattle.std.specs.List.{prefix_len}
 use Rattle.std.specs.Str.{IsCharBoundary, IsUtf8}
-use Rattle.std.proofs.lemmas.List.{get_or-drop}
+use Rattle.std.proofs.lemmas.List.{get_or-drop, get_or_past}
 use Rattle.std.proofs.lemmas.List.Sums.{prefix_len-le-length, prefix_len_stops, prefix_len_passes}
-use Rattle.std.proofs.lemmas.Bool.{eqb-true}
+use Rattle.std.proofs.lemmas.Bool.{eqb-true, cases_lt}
 use Rattle.std.proofs.lemmas.Bool.Decides.{nat_tests}
 use Rattle.std.proofs.lemmas.Str.{IsCharBoundary-start, IsCharBoundary-after_ascii}
 use Rattle.std.proofs.Math.Nat.{min-le_right}
 use Rattle.gql_cst_lexer.specs.Class.{Text, is_space, is_within_line}
 use Rattle.gql_cst_lexer.specs.BlockString.{white_len}
-use Rattle.gql_cst_lexer.proofs.Choices.{not_false, past_end}
+use Rattle.gql_cst_lexer.proofs.Choices.{not_false}
 
 -- each byte that ends the run is ASCII
 abbrev pub EndsAscii : (ℕ → Bool) → Type 0
@@ -30,16 +30,13 @@ pub run-bound : (p : ℕ → Bool) (s : Text) → EndsAscii p → IsCharBoundary
 run-bound p s ascii =
     (prefix_len-le-length p s, λ l big. absurd (omega (arith, ascii (get_or s (prefix_len p s) 0) (prefix_len_stops p s 0 l))))
 
-inside : (n m : ℕ) → (n < m) ⊎ (m ≤ n)
-inside n m = grind arith
-
 pub run-ascii : (p : ℕ → Bool) (s : Text) → EndsAscii p → slice_index (drop (prefix_len p s) s) 0 < 128
 run-ascii p s ascii =
     let n = prefix_len p s in
     let e : get_or (drop n s) 0 0 ≡ get_or s n 0 = get_or-drop n s 0 0 ∙ ap (λ i. get_or s i 0) (let f : n + 0 ≡ n = omega arith in f) in
-    rw e (elim (inside n (length s)) [
+    rw e (elim (cases_lt n (length s)) [
       | inl h ↦ ascii (get_or s n 0) (prefix_len_stops p s 0 h)
-      | inr h ↦ rw (past_end s n h) (omega arith)
+      | inr h ↦ rw (get_or_past s n 0 h) (omega arith)
     ])
 
 backslash-stops : (s : Text) → 0 < length (drop (prefix_len (λ b. not (b == 0x5C)) s) s) → slice_index (drop (prefix_len (λ b. not (b == 0x5C)) s) s) 0 ≡ 0x5C

@@ -2,12 +2,12 @@
 use Rattle.std.proofs.Common.{◌≡◌, ℕ, suc, ◌+◌, ◌<◌, ◌≤◌, ◌⊎◌, inl, inr, Bool, true, false, length, Ok, Err, refl, sym, ◌∙◌, ap, arith, zero-add}
 use Rattle.std.specs.Prelude.{if◌then◌else◌, ◌==◌, slice_index, nat_lt}
 use Rattle.std.specs.List.{prefix_len}
+use Rattle.std.proofs.lemmas.List.{get_or_past}
 use Rattle.std.proofs.lemmas.Bool.{eq-eqb, lt-ltb}
 use Rattle.std.proofs.lemmas.Bool.Decides.{nat_tests, leb_tells}
 use Rattle.gql_cst_lexer.specs.Class.{Text, is_name_continue, is_source}
 use Rattle.gql_cst_lexer.specs.Lex.{Lexed, token, fault, lex, lex_as, number, comment, dots, mark, block_string, string, quoted, unexpected, run_len, blank_len, is_block_quote, is_mark, is_control_at, goes_on, whole_end}
 use Rattle.gql_cst_lexer.specs.Lexical.{Begins, BeginsNone, BeginsBlank, OpensString, OpensBlock, Reaches, BreaksAt, IsToken, IsFault, Stands, IsNumber, IsControl, EndsLine, StandsOne, is_spread, number_end, comment_end, string_end, block_end}
-use Rattle.gql_cst_lexer.proofs.Choices.{past_end}
 use Rattle.gql_cst_lexer.proofs.Fronts.{lex-stands}
 use Rattle.gql_cst_lexer.specs.declared.class.ByteClass.{ByteClass}
 use Rattle.gql_cst_lexer.specs.declared.class.ByteClass.TheVariants as class
@@ -163,7 +163,7 @@ control-read at place (inr (inr r)) c =
 ends-tests : (at : Text) (place : ℕ) → EndsLine at place
     → ((slice_index at place == 0x22) ≡ false) × ((slice_index at place == 0x5C) ≡ false) × (is_control_at at place ≡ false)
 ends-tests at place (inl h) =
-    let z : slice_index at place ≡ 0 = past_end at place h in
+    let z : slice_index at place ≡ 0 = get_or_past at place 0 h in
     (rw z refl, rw z refl, no_control_at at place (λ c. omega (arith, c.0)))
 ends-tests at place (inr (inl h)) = (rw h refl, rw h refl, no_control_at at place (λ c. let f : true ≡ false = rw h at c.1 in cc))
 ends-tests at place (inr (inr h)) = (rw h refl, rw h refl, no_control_at at place (λ c. let f : true ≡ false = rw h at c.1 in cc))

@@ -1,17 +1,14 @@
 -- The longest row of items: one item and the rest, or none.
-use Rattle.std.proofs.Common.{◌≡◌, ℕ, zero, suc, ◌+◌, ◌-◌, ◌<◌, ◌≤◌, false, [], ◌∷◌, length, drop, refl, sym, arith}
+use Rattle.std.proofs.Common.{◌≡◌, ℕ, zero, suc, ◌+◌, ◌-◌, ◌<◌, ◌≤◌, [], ◌∷◌, length, drop, refl, sym, arith}
 use Rattle.std.specs.Prelude.{◌==◌, if◌then◌else◌}
-use Rattle.std.proofs.lemmas.Bool.Decides.{nat_tests}
 use Rattle.gql_cst_lexer.specs.Class.{Text}
 use Rattle.gql_cst_lexer.specs.Lex.{run_from, run_len}
+use Rattle.gql_cst_lexer.proofs.Choices.{not_zero}
 
 run_from-drop : (item : Text → ℕ) (n : ℕ) (at : Text) → n ≤ length at → run_from item n at ≡ n + run_from item 0 (drop n at)
 run_from-drop item zero at h = sym (omega arith)
 run_from-drop item (suc n) [] h = absurd (omega arith)
 run_from-drop item (suc n) (b ∷ at) h = omega (arith, run_from-drop item n at (omega arith))
-
-not_zero : (n : ℕ) → (suc n == 0) ≡ false
-not_zero n = grind (arith, nat_tests)
 
 item_then-rest : (item : Text → ℕ) (b : ℕ) (at : Text) (n : ℕ) → 0 < n → n ≤ suc (length at)
     → (if n == 0 then 0 else 1 + run_from item (n - 1) at) ≡ n + run_from item 0 (drop n (b ∷ at))

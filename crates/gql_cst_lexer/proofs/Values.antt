@@ -3,18 +3,15 @@ use Rattle.std.proofs.Common.{◌≡◌, ℕ, zero, suc, ◌+◌, ◌-◌, ◌*�
 use Rattle.std.specs.Prelude.{if◌then◌else◌, ◌==◌, slice_index, nat_lt, nat_le, encode_utf8}
 use Rattle.std.specs.List.{prefix_len}
 use Rattle.std.specs.Char.{InScalarRange}
-use Rattle.std.proofs.lemmas.List.{get_or-drop, append-nil}
+use Rattle.std.proofs.lemmas.List.{get_or-drop, get_or_past, append-nil}
 use Rattle.std.proofs.lemmas.List.Sums.{prefix_len_stops}
-use Rattle.std.proofs.lemmas.Bool.{eqb-true, ltb-true, leb-true}
+use Rattle.std.proofs.lemmas.Bool.{eqb-true, ltb-true, leb-true, cases_lt}
 use Rattle.std.proofs.lemmas.Bool.Decides.{nat_tests}
 use Rattle.gql_cst_lexer.specs.Class.{Text, is_line, is_plain}
 use Rattle.gql_cst_lexer.specs.Lex.{string_len, unicode_escape_len, is_unit, unit, is_unit_escape, is_escaped, is_low_surrogate, is_high_surrogate, hex_value}
 use Rattle.gql_cst_lexer.specs.Value.{IsEscape, item_value, escape_value, escaped_character, values_from, values}
-use Rattle.gql_cst_lexer.proofs.Choices.{both, bool_cases, not_true, and_true}
+use Rattle.gql_cst_lexer.proofs.Choices.{both, bool_cases, not_true, and_true, not_zero}
 use Rattle.gql_cst_lexer.proofs.Lengths.{string_len-le}
-
-not_zero : (n : ℕ) → (suc n == 0) ≡ false
-not_zero n = grind (arith, nat_tests)
 
 values_from-drop : (n : ℕ) (at : Text) → n ≤ length at → values_from n at ≡ values_from 0 (drop n at)
 values_from-drop zero at h = refl
@@ -65,21 +62,13 @@ values-plain (b ∷ at) = plain_by b at (is_plain b) refl (values-plain at)
 
 -- ---- where plain bytes end
 
-past_end : (at : Text) (i : ℕ) → length at ≤ i → get_or at i 0 ≡ 0
-past_end [] i h = refl
-past_end (b ∷ at) zero h = absurd (omega arith)
-past_end (b ∷ at) (suc i) h = past_end at i (omega arith)
-
-inside : (n m : ℕ) → (n < m) ⊎ (m ≤ n)
-inside n m = grind arith
-
 pub plain-stops : (s : Text) → is_plain (slice_index (drop (prefix_len is_plain s) s) 0) ≡ false
 plain-stops s =
     let n = prefix_len is_plain s in
     let e : get_or (drop n s) 0 0 ≡ get_or s n 0 = get_or-drop n s 0 0 ∙ ap (λ i. get_or s i 0) (let f : n + 0 ≡ n = omega arith in f) in
-    rw e (elim (inside n (length s)) [
+    rw e (elim (cases_lt n (length s)) [
       | inl h ↦ prefix_len_stops is_plain s 0 h
-      | inr h ↦ rw (past_end s n h) refl
+      | inr h ↦ rw (get_or_past s n 0 h) refl
     ])
 
 no_plain : (at : Text) → is_plain (slice_index at 0) ≡ false → (slice_index at 0 == 0x5C) ≡ false → string_len at ≡ 0

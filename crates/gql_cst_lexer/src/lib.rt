@@ -27,8 +27,6 @@ mod number;
 mod run;
 mod scan;
 mod string;
-#[cfg(test)]
-mod tests;
 mod token;
 mod value;
 
