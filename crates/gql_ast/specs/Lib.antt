@@ -1,13 +1,1 @@
-pub mod Kinds
-pub mod Parts
-pub mod Literals
-pub mod Values
-pub mod Types
-pub mod Directives
-pub mod Selections
-pub mod Operations
-pub mod Fields
-pub mod Definitions
-pub mod Schemas
-pub mod Extensions
 pub mod Documents

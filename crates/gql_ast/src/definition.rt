@@ -1,23 +1,96 @@
-//! Documents.
+//! Definitions and extensions.
 
 ghost use Rattle.std.specs.Prelude.{◌≡◌, IfOk};
 ghost use Rattle.gql_cst.specs.Forest.{plain, forest};
+ghost use Rattle.gql_ast_convert.specs.Parts as parts;
 ghost use Rattle.gql_ast.specs.Documents as spec;
-ghost use Rattle.gql_ast.specs.Parts as parts;
 
-use crate::convert::Convert;
-use crate::node::is_of;
-use gql_ast_tree::{
-    Definition, DirectiveDefinition, EnumTypeDefinition, EnumTypeExtension, FragmentDefinition,
-    InputObjectTypeDefinition, InputObjectTypeExtension, InterfaceTypeDefinition,
-    InterfaceTypeExtension, ObjectTypeDefinition, ObjectTypeExtension, OperationDefinition,
-    ScalarTypeDefinition, ScalarTypeExtension, SchemaDefinition, SchemaExtension,
-    UnionTypeDefinition, UnionTypeExtension,
+use gql_ast_convert::{Convert, Copying, is_of};
+use gql_ast_operation::{FragmentDefinition, OperationDefinition};
+use gql_ast_system::{
+    DirectiveDefinition, EnumTypeDefinition, EnumTypeExtension, InputObjectTypeDefinition,
+    InputObjectTypeExtension, InterfaceTypeDefinition, InterfaceTypeExtension,
+    ObjectTypeDefinition, ObjectTypeExtension, ScalarTypeDefinition, ScalarTypeExtension,
+    SchemaDefinition, SchemaExtension, UnionTypeDefinition, UnionTypeExtension,
 };
 use gql_cst::{SyntaxKind, Tree};
 use gql_source::FileId;
 use jb_text::Memory;
 use std::alloc::Global;
+
+/// One definition or extension of a document (GraphQL October 2021, section 2.2).
+#[derive(Drop)]
+pub enum Definition {
+    OperationDefinition(OperationDefinition),
+    FragmentDefinition(FragmentDefinition),
+    DirectiveDefinition(DirectiveDefinition),
+    SchemaDefinition(SchemaDefinition),
+    ScalarTypeDefinition(ScalarTypeDefinition),
+    ObjectTypeDefinition(ObjectTypeDefinition),
+    InterfaceTypeDefinition(InterfaceTypeDefinition),
+    UnionTypeDefinition(UnionTypeDefinition),
+    EnumTypeDefinition(EnumTypeDefinition),
+    InputObjectTypeDefinition(InputObjectTypeDefinition),
+    SchemaExtension(SchemaExtension),
+    ScalarTypeExtension(ScalarTypeExtension),
+    ObjectTypeExtension(ObjectTypeExtension),
+    InterfaceTypeExtension(InterfaceTypeExtension),
+    UnionTypeExtension(UnionTypeExtension),
+    EnumTypeExtension(EnumTypeExtension),
+    InputObjectTypeExtension(InputObjectTypeExtension),
+}
+
+impl Copying for Definition {
+    fn copy(&self, alloc: Global) -> Result<Definition, Memory> {
+        match self {
+            Definition::OperationDefinition(it) => Ok(Definition::OperationDefinition(it.copy(
+                alloc,
+            )?)),
+            Definition::FragmentDefinition(it) => Ok(Definition::FragmentDefinition(it.copy(
+                alloc,
+            )?)),
+            Definition::DirectiveDefinition(it) => Ok(Definition::DirectiveDefinition(it.copy(
+                alloc,
+            )?)),
+            Definition::SchemaDefinition(it) => Ok(Definition::SchemaDefinition(it.copy(alloc)?)),
+            Definition::ScalarTypeDefinition(it) => Ok(Definition::ScalarTypeDefinition(it.copy(
+                alloc,
+            )?)),
+            Definition::ObjectTypeDefinition(it) => Ok(Definition::ObjectTypeDefinition(it.copy(
+                alloc,
+            )?)),
+            Definition::InterfaceTypeDefinition(it) => Ok(Definition::InterfaceTypeDefinition(
+                it.copy(alloc)?,
+            )),
+            Definition::UnionTypeDefinition(it) => Ok(Definition::UnionTypeDefinition(it.copy(
+                alloc,
+            )?)),
+            Definition::EnumTypeDefinition(it) => Ok(Definition::EnumTypeDefinition(it.copy(
+                alloc,
+            )?)),
+            Definition::InputObjectTypeDefinition(it) => Ok(Definition::InputObjectTypeDefinition(
+                it.copy(alloc)?,
+            )),
+            Definition::SchemaExtension(it) => Ok(Definition::SchemaExtension(it.copy(alloc)?)),
+            Definition::ScalarTypeExtension(it) => Ok(Definition::ScalarTypeExtension(it.copy(
+                alloc,
+            )?)),
+            Definition::ObjectTypeExtension(it) => Ok(Definition::ObjectTypeExtension(it.copy(
+                alloc,
+            )?)),
+            Definition::InterfaceTypeExtension(it) => Ok(Definition::InterfaceTypeExtension(it.copy(
+                alloc,
+            )?)),
+            Definition::UnionTypeExtension(it) => Ok(Definition::UnionTypeExtension(it.copy(
+                alloc,
+            )?)),
+            Definition::EnumTypeExtension(it) => Ok(Definition::EnumTypeExtension(it.copy(alloc)?)),
+            Definition::InputObjectTypeExtension(it) => Ok(Definition::InputObjectTypeExtension(
+                it.copy(alloc)?,
+            )),
+        }
+    }
+}
 
 /// The definition of an operation or a fragment.
 #[tactic(auto, unfolding(crate::specs::Documents::executable_definition_of))]

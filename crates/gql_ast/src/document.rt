@@ -6,8 +6,8 @@ ghost use Rattle.gql_source.specs.File.{is_file};
 ghost use Rattle.gql_cst.specs.Forest.{plain};
 ghost use Rattle.gql_ast.specs.Documents as spec;
 
-use crate::convert::gather;
-use gql_ast_tree::Definition;
+use crate::definition::Definition;
+use gql_ast_convert::gather;
 use gql_cst::Tree;
 use gql_source::{FileId, SourceMap};
 use jb_text::{Listed, Memory};

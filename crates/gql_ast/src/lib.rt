@@ -11,34 +11,22 @@
 //! types as GraphQL texts.
 #![tactic(auto)]
 
-mod convert;
 mod definition;
-mod directive;
 mod document;
-mod extension;
-mod field;
-mod literal;
-mod node;
-mod operation;
-mod schema_definition;
-mod selection;
-#[cfg(test)]
-mod tests;
-mod token;
-mod type_definition;
-mod type_ref;
-mod value;
 
-pub use convert::Convert;
+pub use definition::Definition;
 pub use document::Document;
-pub use gql_ast_print::{print_type, print_value};
-pub use gql_ast_tree::{
-    Argument, Boxed, Copying, Definition, Directive, DirectiveDefinition, DirectiveLocation,
-    EnumTypeDefinition, EnumTypeExtension, EnumValueDefinition, Field, FieldDefinition,
-    FragmentDefinition, FragmentSpread, InlineFragment, InputObjectTypeDefinition,
-    InputObjectTypeExtension, InputValueDefinition, InterfaceTypeDefinition,
-    InterfaceTypeExtension, Name, NameFault, ObjectTypeDefinition, ObjectTypeExtension,
-    OperationDefinition, OperationType, ScalarTypeDefinition, ScalarTypeExtension,
-    SchemaDefinition, SchemaExtension, Selection, TypeRef, UnionTypeDefinition, UnionTypeExtension,
-    Value, ValueKind, VariableDefinition,
+pub use gql_ast_convert::{Convert, Copying, Name, NameFault, OperationType};
+pub use gql_ast_operation::{
+    Field, FragmentDefinition, FragmentSpread, InlineFragment, OperationDefinition, Selection,
+    VariableDefinition,
 };
+pub use gql_ast_print::{print_type, print_value};
+pub use gql_ast_system::{
+    DirectiveDefinition, DirectiveLocation, EnumTypeDefinition, EnumTypeExtension,
+    EnumValueDefinition, FieldDefinition, InputObjectTypeDefinition, InputObjectTypeExtension,
+    InputValueDefinition, InterfaceTypeDefinition, InterfaceTypeExtension, ObjectTypeDefinition,
+    ObjectTypeExtension, ScalarTypeDefinition, ScalarTypeExtension, SchemaDefinition,
+    SchemaExtension, UnionTypeDefinition, UnionTypeExtension,
+};
+pub use gql_ast_value::{Argument, Boxed, Directive, TypeRef, Value, ValueKind};

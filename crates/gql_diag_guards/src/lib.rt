@@ -10,6 +10,3 @@ mod recursion;
 
 pub use depth::{DepthCounter, DepthGuard, RecursionLimitError};
 pub use recursion::{RecursionGuard, RecursionStack};
-
-#[cfg(test)]
-mod tests;

@@ -7,8 +7,8 @@ use Rattle.gql_cst_grammar.specs.declared.syntax_kind.SyntaxKind.TheVariants.{To
 use Rattle.gql_cst.specs.Forest.{Forest, Plain, nothing}
 use Rattle.gql_cst.specs.Leaves.{Part, word, ignored, node, part_of}
 use Rattle.gql_cst_bare.specs.Bare.{bare, Ends, TokensEnd}
-use Rattle.gql_ast.specs.Kinds.{is_kind}
-use Rattle.gql_ast.specs.Parts.{or_else}
+use Rattle.gql_ast_convert.specs.Kinds.{is_kind}
+use Rattle.gql_ast_convert.specs.Parts.{or_else}
 use Rattle.gql_meaning.proofs.TokenKinds.{kind_is}
 
 abbrev pub tree : SyntaxKind → ℕ → ℕ → Forest → Plain

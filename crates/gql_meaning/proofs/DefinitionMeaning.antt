@@ -4,8 +4,8 @@ use Rattle.gql_source.specs.declared.file_id.FileId.{FileId}
 use Rattle.gql_cst_grammar.specs.declared.syntax_kind.SyntaxKind.TheVariants as kind
 use Rattle.gql_cst.specs.Forest.{Forest}
 use Rattle.gql_cst_bare.specs.Bare.{bare, TokensEnd}
-use Rattle.gql_ast.specs.Definitions.{interfaces, members, scalar_of, object_of, interface_of, union_of, enum_of, input_object_of}
-use Rattle.gql_ast.specs.Parts.{Text}
+use Rattle.gql_ast_system.specs.Definitions.{interfaces, members, scalar_of, object_of, interface_of, union_of, enum_of, input_object_of}
+use Rattle.gql_ast_convert.specs.Parts.{Text}
 use Rattle.gql_meaning.proofs.Blind.{Blind, none_at, choice_at}
 use Rattle.gql_meaning.proofs.Inner.{gather_inside}
 use Rattle.gql_meaning.proofs.Named.{nth_name-bare}

@@ -4,9 +4,9 @@ use Rattle.gql_source.specs.declared.file_id.FileId.{FileId}
 use Rattle.gql_cst_grammar.specs.declared.syntax_kind.SyntaxKind.TheVariants as kind
 use Rattle.gql_cst.specs.Forest.{Forest}
 use Rattle.gql_cst_bare.specs.Bare.{bare, TokensEnd}
-use Rattle.gql_ast.specs.Directives.{argument_of, arguments, directive_of, directives}
-use Rattle.gql_ast.specs.Literals.{string_of, description}
-use Rattle.gql_ast.specs.Parts.{Text, first}
+use Rattle.gql_ast_value.specs.Directives.{argument_of, arguments, directive_of, directives}
+use Rattle.gql_ast_convert.specs.Literals.{string_of, description}
+use Rattle.gql_ast_convert.specs.Parts.{Text, first}
 use Rattle.gql_meaning.proofs.Blind.{Blind, none_at, choice_at, then_at}
 use Rattle.gql_meaning.proofs.Gathered.{first_blind}
 use Rattle.gql_meaning.proofs.Inner.{inside_same, gather_inside}

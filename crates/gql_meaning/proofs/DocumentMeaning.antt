@@ -4,9 +4,9 @@ use Rattle.gql_source.specs.declared.file_id.FileId.{FileId}
 use Rattle.gql_cst_grammar.specs.declared.syntax_kind.SyntaxKind.{SyntaxKind}
 use Rattle.gql_cst_grammar.specs.declared.syntax_kind.SyntaxKind.TheVariants as kind
 use Rattle.gql_cst.specs.Forest.{Forest}
-use Rattle.gql_ast_tree.specs.declared.definition.Definition.TheVariants as definition
+use Rattle.gql_ast.specs.declared.definition.Definition.TheVariants as definition
 use Rattle.gql_ast.specs.Documents.{executable_definition_of, schema_definition_of, type_definition_of, extension_of, choice_of, definition_of}
-use Rattle.gql_ast.specs.Parts.{Text}
+use Rattle.gql_ast_convert.specs.Parts.{Text}
 use Rattle.gql_meaning.proofs.Blind.{EndsAt, BlindAt, Blind, none_at, choice_at, or_at, map_at}
 use Rattle.gql_meaning.proofs.Gathered.{first_blind}
 use Rattle.gql_meaning.proofs.OperationMeaning.{operation-blind, fragment-blind}

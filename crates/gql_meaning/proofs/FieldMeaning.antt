@@ -4,8 +4,8 @@ use Rattle.gql_source.specs.declared.file_id.FileId.{FileId}
 use Rattle.gql_cst_grammar.specs.declared.syntax_kind.SyntaxKind.TheVariants as kind
 use Rattle.gql_cst.specs.Forest.{Forest}
 use Rattle.gql_cst_bare.specs.Bare.{bare, TokensEnd}
-use Rattle.gql_ast.specs.Fields.{input_value_of, argument_definitions, input_fields, field_of, fields, enum_value_of, enum_values}
-use Rattle.gql_ast.specs.Parts.{Text}
+use Rattle.gql_ast_system.specs.Fields.{input_value_of, argument_definitions, input_fields, field_of, fields, enum_value_of, enum_values}
+use Rattle.gql_ast_convert.specs.Parts.{Text}
 use Rattle.gql_meaning.proofs.Blind.{Blind, none_at, choice_at}
 use Rattle.gql_meaning.proofs.Gathered.{first_blind}
 use Rattle.gql_meaning.proofs.Inner.{gather_inside}

@@ -4,7 +4,7 @@ use Rattle.gql_cst_grammar.specs.declared.syntax_kind.SyntaxKind.{SyntaxKind}
 use Rattle.gql_cst.specs.Forest.{Forest, Plain, nothing, tree_then}
 use Rattle.gql_cst.specs.Leaves.{Part, word, ignored, node, part_of}
 use Rattle.gql_cst_bare.specs.Bare.{bare_then, bare, TokensEnd}
-use Rattle.gql_ast.specs.Parts.{head, gather, first}
+use Rattle.gql_ast_convert.specs.Parts.{head, gather, first}
 use Rattle.gql_meaning.proofs.Blind.{tree, BlindAt, Blind}
 
 then_step : {T : Type 0} (f : Plain → Option T) (part : Part) (kind : SyntaxKind) (start end : ℕ) (children rest : Forest)

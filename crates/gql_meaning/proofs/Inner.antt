@@ -6,8 +6,8 @@ use Rattle.gql_cst_grammar.specs.declared.syntax_kind.SyntaxKind.{SyntaxKind}
 use Rattle.gql_cst.specs.Forest.{Forest, Plain, nothing, tree_then}
 use Rattle.gql_cst.specs.Leaves.{Part, word, ignored, node, part_of}
 use Rattle.gql_cst_bare.specs.Bare.{bare_then, bare, TokensEnd}
-use Rattle.gql_ast.specs.Kinds.{is_kind}
-use Rattle.gql_ast.specs.Parts.{gather, child, children_of, inside}
+use Rattle.gql_ast_convert.specs.Kinds.{is_kind}
+use Rattle.gql_ast_convert.specs.Parts.{gather, child, children_of, inside}
 use Rattle.gql_meaning.proofs.TokenKinds.{kind_is}
 use Rattle.gql_meaning.proofs.Blind.{tree, Blind, of_node}
 use Rattle.gql_meaning.proofs.Gathered.{gather_blind}

@@ -7,9 +7,9 @@ use Rattle.gql_cst_grammar.specs.declared.syntax_kind.SyntaxKind.{SyntaxKind}
 use Rattle.gql_cst_grammar.specs.declared.syntax_kind.SyntaxKind.TheVariants.{Token}
 use Rattle.gql_cst.specs.Forest.{Forest, Plain, nothing, tree_then}
 use Rattle.gql_cst_bare.specs.Bare.{bare, TokensEnd}
-use Rattle.gql_ast_tree.specs.Names.{Named}
-use Rattle.gql_ast.specs.Kinds.{is_kind}
-use Rattle.gql_ast.specs.Parts.{Text, gather, location, token_text, word as name_text, name_of, word_leaf, nth_text, nth_name, nth_word}
+use Rattle.gql_ast_convert.specs.Names.{Named}
+use Rattle.gql_ast_convert.specs.Kinds.{is_kind}
+use Rattle.gql_ast_convert.specs.Parts.{Text, gather, location, token_text, word as name_text, name_of, word_leaf, nth_text, nth_name, nth_word}
 use Rattle.gql_meaning.proofs.TokenKinds.{is_word_part, token_kind, word_is_token}
 use Rattle.gql_meaning.proofs.Blind.{tree, BlindAt, Blind, none_at, token_at, then_at}
 use Rattle.gql_meaning.proofs.Gathered.{gather_blind}

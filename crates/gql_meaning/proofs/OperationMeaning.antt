@@ -5,9 +5,10 @@ use Rattle.gql_source.specs.declared.file_id.FileId.{FileId}
 use Rattle.gql_cst_grammar.specs.declared.syntax_kind.SyntaxKind.TheVariants as kind
 use Rattle.gql_cst.specs.Forest.{Forest}
 use Rattle.gql_cst_bare.specs.Bare.{bare, TokensEnd}
-use Rattle.gql_ast.specs.Operations.{operation_word, operation_type_of, operation_type_in, default_value, variable_of, variables, operation_of, fragment_of}
-use Rattle.gql_ast.specs.Parts.{Text, first}
-use Rattle.gql_ast.specs.Values.{value_of}
+use Rattle.gql_ast_convert.specs.OperationTypes.{operation_word, operation_type_of, operation_type_in}
+use Rattle.gql_ast_value.specs.Values.{default_value, value_of}
+use Rattle.gql_ast_operation.specs.Operations.{variable_of, variables, operation_of, fragment_of}
+use Rattle.gql_ast_convert.specs.Parts.{Text, first}
 use Rattle.gql_meaning.proofs.Blind.{Blind, none_at, choice_at}
 use Rattle.gql_meaning.proofs.Gathered.{gather_blind, first_blind}
 use Rattle.gql_meaning.proofs.Inner.{inside_same, gather_inside, child_map, child_then}

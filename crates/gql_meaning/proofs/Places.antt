@@ -6,8 +6,8 @@ use Rattle.gql_cst_grammar.specs.declared.syntax_kind.SyntaxKind.TheVariants.{To
 use Rattle.gql_cst.specs.Forest.{Forest, nothing, tree_then}
 use Rattle.gql_cst.specs.Leaves.{Part, word, ignored, node, part_of, Leaf, own_leaf, leaves}
 use Rattle.gql_cst_bare.specs.Bare.{bare_then, bare, own_spoken, spoken, Ends, TokensEnd}
-use Rattle.gql_ast.specs.Kinds.{is_kind}
-use Rattle.gql_ast.specs.Parts.{or_else, start_of, end_of, location}
+use Rattle.gql_ast_convert.specs.Kinds.{is_kind}
+use Rattle.gql_ast_convert.specs.Parts.{or_else, start_of, end_of, location}
 use Rattle.gql_meaning.proofs.TokenKinds.{is_word_part, token_kind, no_token, same_kind}
 use Rattle.gql_meaning.proofs.Blind.{tree}
 

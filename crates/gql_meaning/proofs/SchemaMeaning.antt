@@ -7,9 +7,10 @@ use Rattle.gql_cst_grammar.specs.declared.syntax_kind.SyntaxKind.TheVariants as 
 use Rattle.gql_cst.specs.Forest.{Forest, nothing, tree_then}
 use Rattle.gql_cst.specs.Leaves.{Part, word, ignored, node, part_of}
 use Rattle.gql_cst_bare.specs.Bare.{bare_then, bare, TokensEnd}
-use Rattle.gql_ast.specs.Kinds.{is_kind}
-use Rattle.gql_ast.specs.Parts.{Text, gather, word as name_text, behind}
-use Rattle.gql_ast.specs.Schemas.{location_word, directive_location_of, directive_locations, root_operation_of, root_operations, schema_of, directive_definition_of}
+use Rattle.gql_ast_convert.specs.Kinds.{is_kind}
+use Rattle.gql_ast_convert.specs.Parts.{Text, gather, word as name_text, behind}
+use Rattle.gql_ast_system.specs.Schemas.{location_word, directive_location_of, directive_locations, root_operations, schema_of, directive_definition_of}
+use Rattle.gql_ast_convert.specs.OperationTypes.{root_operation_of}
 use Rattle.gql_meaning.proofs.TokenKinds.{is_word_part, token_kind}
 use Rattle.gql_meaning.proofs.Blind.{tree, Blind, none_at, choice_at, then_at}
 use Rattle.gql_meaning.proofs.Gathered.{gather_blind}

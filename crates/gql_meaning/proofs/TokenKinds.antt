@@ -5,7 +5,7 @@ use Rattle.gql_cst_grammar.specs.declared.syntax_kind.SyntaxKind.{SyntaxKind}
 use Rattle.gql_cst_grammar.specs.declared.syntax_kind.SyntaxKind.TheVariants.{Token}
 use Rattle.gql_cst_grammar.specs.contracts.syntax_kind.SyntaxKind.{the_type}
 use Rattle.gql_cst.specs.Leaves.{Part, word, ignored, node, part_of}
-use Rattle.gql_ast.specs.Kinds.{is_kind}
+use Rattle.gql_ast_convert.specs.Kinds.{is_kind}
 
 abbrev pub is_word_part : Part → Bool
 is_word_part word = true

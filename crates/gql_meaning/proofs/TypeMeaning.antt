@@ -6,10 +6,11 @@ use Rattle.gql_cst_grammar.specs.declared.syntax_kind.SyntaxKind.{SyntaxKind}
 use Rattle.gql_cst_grammar.specs.declared.syntax_kind.SyntaxKind.TheVariants as kind
 use Rattle.gql_cst.specs.Forest.{Forest, nothing, tree_then}
 use Rattle.gql_cst_bare.specs.Bare.{bare, TokensEnd}
-use Rattle.gql_ast_tree.specs.declared.type_ref.TypeRef.{List as ListOf}
-use Rattle.gql_ast_tree.specs.declared.type_ref.TypeRef.TheVariants.{Named as NamedType}
-use Rattle.gql_ast.specs.Parts.{Text, head, gather, nth_name}
-use Rattle.gql_ast.specs.Types.{non_null, named_type_in, named_type_of, form_step, type_step, types, forms, type_of, form_of}
+use Rattle.gql_ast_value.specs.declared.type_ref.TypeRef.{List as ListOf}
+use Rattle.gql_ast_value.specs.declared.type_ref.TypeRef.TheVariants.{Named as NamedType}
+use Rattle.gql_ast_convert.specs.Parts.{Text, head, gather, nth_name}
+use Rattle.gql_ast_value.specs.Types.{non_null, form_step, type_step, types, forms, type_of, form_of}
+use Rattle.gql_ast_convert.specs.NamedTypes.{named_type_in, named_type_of}
 use Rattle.gql_meaning.proofs.Blind.{EndsAt, BlindAt, Blind, none_at, choice_at}
 use Rattle.gql_meaning.proofs.Gathered.{gather_then}
 use Rattle.gql_meaning.proofs.Inner.{inside_same}

@@ -7,11 +7,10 @@ use Rattle.gql_cst_grammar.specs.declared.syntax_kind.SyntaxKind.{SyntaxKind}
 use Rattle.gql_cst_grammar.specs.declared.syntax_kind.SyntaxKind.TheVariants as kind
 use Rattle.gql_cst.specs.Forest.{Forest, nothing, tree_then}
 use Rattle.gql_cst_bare.specs.Bare.{bare, TokensEnd}
-use Rattle.gql_ast_tree.specs.declared.value.ValueKind.{List as ListKind, Object as ObjectKind}
-use Rattle.gql_ast_tree.specs.declared.value.ValueKind.TheVariants.{Variable, Boolean, Enum}
-use Rattle.gql_ast.specs.Literals.{literal}
-use Rattle.gql_ast.specs.Parts.{Text, gather}
-use Rattle.gql_ast.specs.Values.{truth, simple_content, content_step, member_step, value_step, values, contents, members, content_of, member_of, value_of}
+use Rattle.gql_ast_value.specs.declared.value.ValueKind.{List as ListKind, Object as ObjectKind}
+use Rattle.gql_ast_value.specs.declared.value.ValueKind.TheVariants.{Variable, Boolean, Enum}
+use Rattle.gql_ast_value.specs.Values.{literal, truth, simple_content, content_step, member_step, value_step, values, contents, members, content_of, member_of, value_of}
+use Rattle.gql_ast_convert.specs.Parts.{Text, gather}
 use Rattle.gql_meaning.proofs.Blind.{EndsAt, BlindAt, Blind, none_at, token_at, choice_at}
 use Rattle.gql_meaning.proofs.Gathered.{gather_then}
 use Rattle.gql_meaning.proofs.Named.{token_text-at, nth_text-bare, nth_name-bare}

@@ -4,7 +4,7 @@ use Rattle.gql_cst_grammar.specs.declared.syntax_kind.SyntaxKind.{SyntaxKind}
 use Rattle.gql_cst.specs.Forest.{Forest, Plain}
 use Rattle.gql_cst.specs.Leaves.{node, part_of}
 use Rattle.gql_cst_bare.specs.Bare.{bare, Ends, TokensEnd}
-use Rattle.gql_ast.specs.Parts.{gather}
+use Rattle.gql_ast_convert.specs.Parts.{gather}
 use Rattle.gql_meaning.proofs.Blind.{tree, EndsAt, Blind}
 use Rattle.gql_meaning.proofs.Gathered.{gather_blind}
 

@@ -5,12 +5,12 @@ use Rattle.gql_cst_grammar.specs.declared.rule.Rule.TheVariants.{Document, Field
 use Rattle.gql_cst_grammar.specs.declared.syntax_kind.SyntaxKind.TheVariants as kind
 use Rattle.gql_cst.specs.Forest.{Forest}
 use Rattle.gql_cst_bare.specs.TreeOf.{IsTreeOf}
-use Rattle.gql_ast_tree.specs.declared.definition.Definition.{Definition}
-use Rattle.gql_ast_tree.specs.declared.selection.Selection.{Selection}
-use Rattle.gql_ast_tree.specs.declared.type_ref.TypeRef.{TypeRef}
+use Rattle.gql_ast.specs.declared.definition.Definition.{Definition}
+use Rattle.gql_ast_operation.specs.declared.selection.Selection.{Selection}
+use Rattle.gql_ast_value.specs.declared.type_ref.TypeRef.{TypeRef}
 use Rattle.gql_ast.specs.Documents.{definitions}
-use Rattle.gql_ast.specs.Selections.{selections, selected}
-use Rattle.gql_ast.specs.Types.{type_of}
+use Rattle.gql_ast_operation.specs.Selections.{selections, selected}
+use Rattle.gql_ast_value.specs.Types.{type_of}
 
 -- the text is a document with these definitions
 pub record IsDocumentOf (text : List ℕ) (file : FileId) (meant : List Definition) : Type 0 where

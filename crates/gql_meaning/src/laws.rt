@@ -9,12 +9,12 @@ ghost use Rattle.gql_cst.specs.declared.limits.Parsed.{Parsed};
 ghost use Rattle.gql_cst.specs.Forest.{Forest, Plain, plain};
 ghost use Rattle.gql_cst.specs.Parses.{IsParse};
 ghost use Rattle.gql_cst_bare.specs.TreeOf.{IsTreeOf};
-ghost use Rattle.gql_ast_tree.specs.declared.definition.Definition.{Definition};
-ghost use Rattle.gql_ast_tree.specs.declared.selection.Selection.{Selection};
-ghost use Rattle.gql_ast_tree.specs.declared.type_ref.TypeRef.{TypeRef};
+ghost use Rattle.gql_ast.specs.declared.definition.Definition.{Definition};
+ghost use Rattle.gql_ast_operation.specs.declared.selection.Selection.{Selection};
+ghost use Rattle.gql_ast_value.specs.declared.type_ref.TypeRef.{TypeRef};
 ghost use Rattle.gql_ast.specs.Documents.{definitions};
-ghost use Rattle.gql_ast.specs.Selections.{selections, selected};
-ghost use Rattle.gql_ast.specs.Types.{type_of};
+ghost use Rattle.gql_ast_operation.specs.Selections.{selections, selected};
+ghost use Rattle.gql_ast_value.specs.Types.{type_of};
 ghost use Rattle.gql_meaning.specs.Meant.{IsDocumentOf, AreSelectionsOf, IsTypeOf};
 
 use gql_cst_bare::laws::{parses_are_trees, texts_have_one_tree};

@@ -1,11 +1,11 @@
 -- The selections that the definitions of a document ask, where they are a plain query.
 use Rattle.std.specs.Prelude.{ℕ, Bool, true, false, ◌&&◌, not, List, [], ◌∷◌, Option, Some, None, is_none, if◌then◌else◌}
 use Rattle.std.specs.Option.{option_and_then}
-use Rattle.gql_ast_tree.specs.declared.definition.Definition.{Definition}
-use Rattle.gql_ast_tree.specs.declared.definition.Definition.TheVariants as definition
-use Rattle.gql_ast_tree.specs.declared.operation.OperationDefinition.{OperationDefinition}
-use Rattle.gql_ast_tree.specs.declared.operation.OperationType.{OperationType}
-use Rattle.gql_ast_tree.specs.declared.operation.OperationType.TheVariants.{Query, Mutation, Subscription}
+use Rattle.gql_ast.specs.declared.definition.Definition.{Definition}
+use Rattle.gql_ast.specs.declared.definition.Definition.TheVariants as definition
+use Rattle.gql_ast_operation.specs.declared.operation.OperationDefinition.{OperationDefinition}
+use Rattle.gql_ast_convert.specs.declared.operation_type.OperationType.{OperationType}
+use Rattle.gql_ast_convert.specs.declared.operation_type.OperationType.TheVariants.{Query, Mutation, Subscription}
 use Rattle.gql_exec.specs.declared.schema.ObjectType.{ObjectType}
 use Rattle.gql_exec.specs.declared.schema.Schema.{Schema}
 use Rattle.gql_exec.specs.Selections.{Selections}

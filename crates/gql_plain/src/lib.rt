@@ -12,8 +12,6 @@ mod name;
 mod not_plain;
 mod query;
 mod schema;
-#[cfg(test)]
-mod tests;
 
 pub use not_plain::NotPlain;
 pub use query::plain_query;

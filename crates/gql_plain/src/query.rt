@@ -9,7 +9,7 @@ ghost use Rattle.gql_plain.specs.Selected.{chosen, is_bare as is_bare_field, sel
 
 use crate::NotPlain;
 use crate::distinct::add;
-use gql_ast_tree::{
+use gql_ast::{
     Definition, Field as FieldSelection, Name, OperationDefinition, OperationType, Selection,
 };
 use gql_exec::{Field, ObjectType, Schema, SelectionSet, TypeRef};

@@ -10,7 +10,7 @@ ghost use Rattle.gql_plain.specs.PlainSchema as spec;
 use crate::NotPlain;
 use crate::distinct::add;
 use crate::name::{is_built_in, is_reserved};
-use gql_ast_tree::{Definition, FieldDefinition, ObjectTypeDefinition, TypeRef as TypeReference};
+use gql_ast::{Definition, FieldDefinition, ObjectTypeDefinition, TypeRef as TypeReference};
 use gql_exec::{ObjectType, Schema, TypeRef};
 use jb_map::Pairs;
 use jb_text::{ByteString, Listed, Memory, Refused, Text};

@@ -3,8 +3,8 @@ use Rattle.gql_source.specs.declared.file_id.FileId.{FileId}
 use Rattle.gql_cst_grammar.specs.declared.rule.Rule.TheVariants.{Document, FieldSet, TypeReference}
 use Rattle.gql_cst_grammar.specs.declared.syntax_kind.SyntaxKind.TheVariants as kind
 use Rattle.gql_cst.specs.Forest.{Plain, plain}
-use Rattle.gql_ast.specs.Parts.{Text}
-use Rattle.gql_ast.specs.Types.{type_step, type_of}
+use Rattle.gql_ast_convert.specs.Parts.{Text}
+use Rattle.gql_ast_value.specs.Types.{type_step, type_of}
 use Rattle.gql_meaning.proofs.Blind.{tree}
 use Rattle.gql_meaning.proofs.laws.parses_mean_their_text.Goals as goal
 

@@ -1,0 +1,25 @@
+//! The trait [`Convert`], and what the syntax trees of GraphQL documents begin with: names, texts and operation types.
+//!
+//! What a concrete tree stands for is a definition, kind by kind of its nodes, and a conversion gives exactly that.
+//! [`gather`] and [`first`] convert the trees of a row, [`child`] and [`inside`] find one by its kind, [`nth_name`] and its
+//! like find one by its place among the names. [`location`] runs from the first to the last token that is not ignored.
+//! [`Copying`] gives an equal tree, locations included.
+#![tactic(auto)]
+
+mod convert;
+mod copying;
+mod literal;
+mod name;
+mod named_type;
+mod node;
+mod operation_type;
+mod token;
+
+pub use convert::{Convert, first, gather, keep};
+pub use copying::Copying;
+pub use literal::{description, has_part, opens_number, opens_string, string_text};
+pub use name::{Name, NameFault};
+pub use named_type::{named_type_in, named_types};
+pub use node::{child, inside, is_of, location};
+pub use operation_type::{OperationType, operation_type_in};
+pub use token::{behind, is_word, nth_name, nth_text, token_text, word};

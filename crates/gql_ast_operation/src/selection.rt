@@ -1,0 +1,133 @@
+//! Selections.
+
+ghost use Rattle.std.specs.Prelude.{◌≡◌, IfOk};
+
+use gql_ast_convert::{Copying, Name};
+use gql_ast_value::{Argument, Directive};
+use gql_source::SourceSpan;
+use jb_text::{Listed, Memory};
+use std::alloc::Global;
+
+mod conversion;
+
+pub(crate) use conversion::type_condition;
+
+/// One selection of a selection set (GraphQL October 2021, section 2.4).
+#[derive(Drop)]
+#[cycle(selection)]
+pub enum Selection {
+    Field(Field),
+    FragmentSpread(FragmentSpread),
+    InlineFragment(InlineFragment),
+}
+
+/// A field that is asked for (section 2.5), under its alias if it has one (section 2.7).
+#[derive(Drop)]
+#[cycle(selection)]
+pub struct Field {
+    pub alias: Option<Name>,
+    pub name: Name,
+    pub arguments: Listed<Argument>,
+    pub directives: Listed<Directive>,
+    pub selection_set: Listed<Selection>,
+    pub location: Option<SourceSpan>,
+}
+
+/// A fragment that is named in a selection set (section 2.8).
+#[derive(Drop)]
+pub struct FragmentSpread {
+    pub fragment_name: Name,
+    pub directives: Listed<Directive>,
+    pub location: Option<SourceSpan>,
+}
+
+/// A fragment that stands in a selection set (section 2.8.2).
+#[derive(Drop)]
+#[cycle(selection)]
+pub struct InlineFragment {
+    pub type_condition: Option<Name>,
+    pub directives: Listed<Directive>,
+    pub selection_set: Listed<Selection>,
+    pub location: Option<SourceSpan>,
+}
+
+impl Copying for Selection {
+    fn copy(&self, alloc: Global) -> Result<Selection, Memory> {
+        copy_selection(self, alloc)
+    }
+}
+
+impl Copying for Field {
+    fn copy(&self, alloc: Global) -> Result<Field, Memory> {
+        copy_field(self, alloc)
+    }
+}
+
+impl Copying for FragmentSpread {
+    fn copy(&self, alloc: Global) -> Result<FragmentSpread, Memory> {
+        Ok(FragmentSpread {
+            fragment_name: self.fragment_name.copy(alloc)?,
+            directives: self.directives.copy(alloc)?,
+            location: self.location,
+        })
+    }
+}
+
+impl Copying for InlineFragment {
+    fn copy(&self, alloc: Global) -> Result<InlineFragment, Memory> {
+        copy_inline_fragment(self, alloc)
+    }
+}
+
+#[cycle(copy_selection)]
+fn copy_selection(selection: &Selection, alloc: Global) -> Result<Selection, Memory>
+    ensures { IfOk result (λ copy. copy ≡ selection.now) }
+{
+    match selection {
+        Selection::Field(field) => Ok(Selection::Field(copy_field(field, alloc)?)),
+        Selection::FragmentSpread(spread) => Ok(Selection::FragmentSpread(spread.copy(alloc)?)),
+        Selection::InlineFragment(fragment) => {
+            Ok(Selection::InlineFragment(copy_inline_fragment(fragment, alloc)?))
+        }
+    }
+}
+
+#[cycle(copy_selection)]
+fn copy_field(field: &Field, alloc: Global) -> Result<Field, Memory>
+    ensures { IfOk result (λ copy. copy ≡ field.now) }
+{
+    Ok(Field {
+        alias: field.alias.copy(alloc)?,
+        name: field.name.copy(alloc)?,
+        arguments: field.arguments.copy(alloc)?,
+        directives: field.directives.copy(alloc)?,
+        selection_set: copy_selections(&field.selection_set, alloc)?,
+        location: field.location,
+    })
+}
+
+#[cycle(copy_selection)]
+fn copy_inline_fragment(fragment: &InlineFragment, alloc: Global) -> Result<InlineFragment, Memory>
+    ensures { IfOk result (λ copy. copy ≡ fragment.now) }
+{
+    Ok(InlineFragment {
+        type_condition: fragment.type_condition.copy(alloc)?,
+        directives: fragment.directives.copy(alloc)?,
+        selection_set: copy_selections(&fragment.selection_set, alloc)?,
+        location: fragment.location,
+    })
+}
+
+#[cycle(copy_selection)]
+fn copy_selections(
+    selections: &Listed<Selection>,
+    alloc: Global,
+) -> Result<Listed<Selection>, Memory>
+    ensures { IfOk result (λ copy. copy ≡ selections.now) }
+{
+    let mut copies = Listed::new(alloc);
+    for selection in selections.as_slice() {
+        copies.push(copy_selection(selection, alloc)?)?;
+    }
+    Ok(copies)
+}

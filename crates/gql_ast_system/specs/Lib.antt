@@ -1,0 +1,4 @@
+pub mod Fields
+pub mod Definitions
+pub mod Schemas
+pub mod Extensions
