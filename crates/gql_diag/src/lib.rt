@@ -29,6 +29,3 @@ pub use gql_response::{
 pub use request_error::RequestError;
 pub use to_cli_report::ToCliReport;
 pub use valid::{Valid, WithErrors};
-
-#[cfg(test)]
-mod tests;

@@ -5,6 +5,3 @@ mod report;
 mod text;
 
 pub use report::CliReport;
-
-#[cfg(test)]
-mod tests;

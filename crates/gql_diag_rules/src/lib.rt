@@ -17,6 +17,3 @@ mod rule;
 pub use details::{Details, RuleFault};
 pub use diagnostic_data::DiagnosticData;
 pub use rule::Rule;
-
-#[cfg(test)]
-mod tests;

@@ -1,3 +1,4 @@
 mod InTurn
 mod Texts
 mod ReadsBack
+mod Equality

@@ -3,3 +3,4 @@ pub mod ErrorAt
 pub mod Puts
 pub mod Reading
 pub mod Held
+pub mod Same

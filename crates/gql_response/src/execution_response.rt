@@ -24,8 +24,9 @@ use std::alloc::{AllocError, Global};
 const FIRST_ROOM: usize = 256;
 
 /// What an execution gives (GraphQL October 2021, section 7.1): the errors in the order in which they came, and the
-/// data. `root` is `None` where the data are null.
-#[derive(Drop)]
+/// data. `root` is `None` where the data are null. Responses are compared part by part; the order of the pairs of maps
+/// does not count.
+#[derive(PartialEq, Eq, Drop)]
 pub struct ExecutionResponse {
     pub errors: Listed<GraphQLError>,
     pub root: Option<Map>,

@@ -13,8 +13,9 @@ use jb_tree::Map;
 use std::alloc::{AllocError, Global};
 
 /// An error of a response (GraphQL October 2021, section 7.1.2): what went wrong, where in the documents, at which
-/// place of the data, and what else is said of it.
-#[derive(Drop)]
+/// place of the data, and what else is said of it. Errors are compared part by part; the order of the pairs of
+/// `extensions` does not count.
+#[derive(PartialEq, Eq, Drop)]
 pub struct GraphQLError {
     pub message: Text,
     pub locations: Listed<LineColumn>,

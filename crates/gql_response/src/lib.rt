@@ -24,6 +24,3 @@ pub type JsonMap = jb_tree::Map;
 
 /// A JSON value.
 pub type JsonValue = jb_tree::Value;
-
-#[cfg(test)]
-mod tests;

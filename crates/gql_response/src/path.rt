@@ -7,15 +7,16 @@ ghost use Rattle.gql_response.specs.Response.{segment_value};
 ghost use Rattle.gql_response.specs.Reading.{named, read_segment};
 
 use crate::printed::{Printed, append_whole};
-use gql_ast_tree::Name;
+use gql_ast_convert::Name;
 use jb_print::append_string;
 use jb_shape::{FromValue, ShapeError};
 use jb_text::Refused;
 use jb_tree::Value;
 use std::alloc::{AllocError, Global};
 
-/// A step from the response's data to a place in it (GraphQL October 2021, section 7.1.2).
-#[derive(Drop)]
+/// A step from the response's data to a place in it (GraphQL October 2021, section 7.1.2). Steps are compared by the
+/// text of the name or by the place; where a name was read is left aside.
+#[derive(PartialEq, Eq, Drop)]
 pub enum ResponseDataPathSegment {
     /// The response key of a field.
     Field(Name),

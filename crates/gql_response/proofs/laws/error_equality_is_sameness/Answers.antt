@@ -1,0 +1,8 @@
+use Rattle.std.proofs.Common.{sym, ◌∙◌}
+use Rattle.gql_response.proofs.Equality.{error_decides}
+use Rattle.gql_response.proofs.laws.error_equality_is_sameness.Goals as goal
+
+pub returns : goal.returns
+returns c =
+    let decided = error_decides c.args.error.now c.args.other.now in
+    (λ t. decided.0 (sym c.eq.ensures ∙ t), λ s. c.eq.ensures ∙ decided.1 s)
