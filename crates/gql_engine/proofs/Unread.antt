@@ -15,7 +15,7 @@ use Rattle.gql_cst.specs.Leaves.{leaves}
 use Rattle.gql_cst.specs.Nesting.{nesting}
 use Rattle.gql_cst.specs.Parses.{Accepts}
 use Rattle.gql_cst.specs.Sentences.{shown}
-use Rattle.gql_ast_tree.specs.declared.definition.Definition.{Definition}
+use Rattle.gql_ast.specs.declared.definition.Definition.{Definition}
 use Rattle.gql_exec.specs.declared.schema.Schema.{Schema}
 use Rattle.gql_exec.specs.declared.schema.ObjectType.{ObjectType}
 use Rattle.gql_meaning.specs.Meant.{IsDocumentOf}

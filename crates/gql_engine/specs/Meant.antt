@@ -10,7 +10,7 @@ use Rattle.gql_cst_grammar.specs.declared.syntax_kind.SyntaxKind.TheVariants as 
 use Rattle.gql_cst.specs.Forest.{Forest}
 use Rattle.gql_cst.specs.Nesting.{nesting}
 use Rattle.gql_cst_bare.specs.TreeOf.{IsTreeOf}
-use Rattle.gql_ast_tree.specs.declared.definition.Definition.{Definition}
+use Rattle.gql_ast.specs.declared.definition.Definition.{Definition}
 use Rattle.gql_ast.specs.Documents.{definitions}
 use Rattle.gql_exec.specs.declared.schema.Schema.{Schema}
 use Rattle.gql_exec.specs.declared.schema.ObjectType.{ObjectType}

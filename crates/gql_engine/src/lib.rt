@@ -17,8 +17,3 @@ mod texts;
 pub use answering::{AnswerError, UnbuiltPart, VariablesFault, answer};
 pub use data_object::DataObject;
 pub use program::{run, run_in_memory};
-
-#[cfg(test)]
-mod device_tests;
-#[cfg(test)]
-mod tests;

@@ -11,10 +11,10 @@ use crate::data_object::DataObject;
 use crate::request::{Request, decode};
 use crate::task::Task;
 use bytes::Bytes;
-use jb_print::to_bytes;
+use jb_print::append_string;
 use jb_read::{ReadFault, from_bytes_whole};
 use jb_serve::{Command, Reply};
-use jb_tree::{ByteString, Listed, Map, Refused, Text, Value};
+use jb_tree::{Map, Refused, Text};
 use std::alloc::{AllocError, Global};
 
 impl Command for Task {
@@ -100,15 +100,9 @@ fn read_message(alloc: Global, fault: ReadFault) -> Result<Text, AllocError>
 fn refusal(alloc: Global, message: &str) -> Result<Bytes, AllocError>
     ensures { IfOk result (λ text. text ≡ compact (refusal_value message.now)) }
 {
-    let mut error = Map::new(alloc);
-    let text = Value::String(ByteString::from_text(alloc, message)?);
-    error.insert_new(ByteString::from_text(alloc, "message")?, text)?;
-    let mut errors = Listed::new(alloc);
-    errors.push(Value::Object(error))?;
-    let mut members = Map::new(alloc);
-    members.insert_new(
-        ByteString::from_text(alloc, "errors")?,
-        Value::Array(errors),
-    )?;
-    to_bytes(alloc, &Value::Object(members))
+    let mut out = String::new(alloc);
+    out.push_str("{\"errors\":[{\"message\":")?;
+    append_string(&mut out, message)?;
+    out.push_str("}]}")?;
+    Ok(Bytes::from_vec(out.into_bytes())?)
 }

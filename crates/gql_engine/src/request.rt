@@ -1,8 +1,9 @@
 //! What a request asks: the members of its JSON object, each of the kind that it must have.
 
-ghost use Rattle.std.specs.Prelude.{◌≡◌, IfOk, codes};
+ghost use Rattle.std.specs.Prelude.{◌≡◌, Some, None, IfOk, MatchResult, codes};
 ghost use Rattle.jb_tree.specs.Value.{object_members, string_text, truth_value};
 ghost use Rattle.std.specs.Option.{option_copied};
+ghost use Rattle.gql_engine.specs.declared.request.RequestFault.TheVariants.{WrongKind};
 ghost use Rattle.gql_engine.specs.Request.{asked, asked_by_members, member_name, required, optional, given as given_member, fault_message, IsAsked, IsFound, IsFoundSome};
 
 use jb_tree::{Map, Text, Value};
@@ -116,10 +117,7 @@ fn required_text(members: &Map, member: Member) -> Result<&str, RequestFault>
     ensures { IsFound result (required string_text member members.now) }
 {
     match members.get(member.name()) {
-        Some(value) => match value.as_str() {
-            Some(text) => Ok(text),
-            None => Err(RequestFault::WrongKind(member)),
-        },
+        Some(value) => of_kind(member, value.as_str()),
         None => Err(RequestFault::Missing(member)),
     }
 }
@@ -138,10 +136,7 @@ fn optional_text(members: &Map, member: Member) -> Result<Option<&str>, RequestF
     ensures { IsFoundSome result (optional string_text member members.now) }
 {
     match given(members, member) {
-        Some(value) => match value.as_str() {
-            Some(text) => Ok(Some(text)),
-            None => Err(RequestFault::WrongKind(member)),
-        },
+        Some(value) => Ok(Some(of_kind(member, value.as_str())?)),
         None => Ok(None),
     }
 }
@@ -150,10 +145,7 @@ fn optional_object(members: &Map, member: Member) -> Result<Option<&Map>, Reques
     ensures { IsFoundSome result (optional object_members member members.now) }
 {
     match given(members, member) {
-        Some(value) => match value.as_object() {
-            Some(object) => Ok(Some(object)),
-            None => Err(RequestFault::WrongKind(member)),
-        },
+        Some(value) => Ok(Some(of_kind(member, value.as_object())?)),
         None => Ok(None),
     }
 }
@@ -162,10 +154,14 @@ fn optional_truth(members: &Map, member: Member) -> Result<Option<bool>, Request
     ensures { result ≡ optional truth_value member members.now }
 {
     match given(members, member) {
-        Some(value) => match value.as_bool() {
-            Some(truth) => Ok(Some(truth)),
-            None => Err(RequestFault::WrongKind(member)),
-        },
+        Some(value) => Ok(Some(of_kind(member, value.as_bool())?)),
         None => Ok(None),
     }
+}
+
+/// What was found of a member's value, where that has the kind that the member must have.
+fn of_kind<T>(member: Member, found: Option<T>) -> Result<T, RequestFault>
+    ensures { MatchResult result (λ part. found ≡ Some part) (λ fault. (found ≡ None) × (fault ≡ WrongKind member)) }
+{
+    found.ok_or(RequestFault::WrongKind(member))
 }

@@ -20,8 +20,6 @@ mod resolver;
 mod response;
 mod schema;
 mod selection;
-#[cfg(test)]
-mod tests;
 
 pub use error::{GraphQLError, ResponseDataPathSegment};
 pub use execution::execute;
