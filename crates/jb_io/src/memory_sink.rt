@@ -77,27 +77,3 @@ impl Sink for MemorySink {
         }
     }
 }
-
-#[cfg(test)]
-mod tests {
-    use super::*;
-    use std::test::Fail;
-
-    #[test]
-    fn listed_calls_fail_and_so_does_a_full_sink(rt: HostRuntime) -> Result<(), Fail> {
-        let mut fails = Listed::new(rt.alloc());
-        fails.push(2)?;
-        let mut sink = MemorySink::new(rt.alloc(), 5, 3, fails)?;
-        for (bytes, wanted) in [
-            (b"abcd".as_slice(), Ok(3)),
-            (b"d", Err(SinkFault)),
-            (b"defg", Ok(2)),
-            (b"", Ok(0)),
-            (b"f", Err(SinkFault)),
-        ] {
-            assert_eq!(rt; sink.write(bytes), wanted, "{bytes:?}");
-        }
-        assert_eq!(rt; sink.written(), b"abcde".as_slice());
-        Ok(())
-    }
-}

@@ -59,33 +59,3 @@ impl Source for MemorySource {
         Ok(count)
     }
 }
-
-#[cfg(test)]
-mod tests {
-    use super::*;
-    use std::test::Fail;
-
-    #[test]
-    fn listed_calls_fail_and_take_nothing(rt: HostRuntime) -> Result<(), Fail> {
-        let mut fails = Listed::new(rt.alloc());
-        fails.push(2)?;
-        fails.push(4)?;
-        let mut source = MemorySource::new(Bytes::from_static(b"abcde"), 2, fails);
-        let mut buffer = [0; 4];
-        for wanted in [
-            Ok("ab"),
-            Err(SourceFault),
-            Ok("cd"),
-            Err(SourceFault),
-            Ok("e"),
-            Ok(""),
-        ] {
-            let count = source.read(&mut buffer);
-            assert_eq!(rt; count, wanted.map(|piece| piece.len()));
-            if let Ok(piece) = wanted {
-                assert!(rt; buffer.starts_with(piece.as_bytes()), "{piece}");
-            }
-        }
-        Ok(())
-    }
-}

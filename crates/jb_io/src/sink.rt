@@ -1,6 +1,6 @@
 ghost use Rattle.std.specs.Prelude.{◌≡◌, ◌↔◌, ℕ, ◌-◌, ◌<◌, ◌≤◌, Option, [], None, Some, IsTrue, IsSome, IfOk, IfSome, OnErr, vec_len, vec_capacity, if◌then◌else◌};
 ghost use Rattle.jb_io.specs.Sink.{TakesSome, Told, WriteTakes};
-ghost use Rattle.jb_io.specs.Stream.{HasFailed, IsWithin};
+ghost use Rattle.jb_io.specs.Stream.{Counts, HasFailed, IsWithin};
 
 use std::alloc::{AllocError, Global};
 use std::io;
@@ -113,7 +113,15 @@ impl<W: Write> Sink for WriterSink<W> {
 
     ghost faults = { λ sink. sink.faults };
 
-    fn write(&mut self, bytes: &[u8]) -> Result<usize, SinkFault> {
+    fn write(&mut self, bytes: &[u8]) -> Result<usize, SinkFault>
+        ensures within { IsWithin result bytes.now }
+        ensures some { TakesSome result bytes.now }
+        ensures bytes { WriteTakes None None result bytes.now }
+        ensures later { self.old.faults ≤ self.new.faults }
+        ensures cause { OnErr result (HasFailed self.old.faults self.new.faults) }
+        // Nothing else is counted.
+        ensures exact { Counts self.old.faults self.new.faults result }
+    {
         match write_some(&mut self.writer, bytes) {
             Ok(count) => Ok(count),
             Err(_) => {
@@ -141,98 +149,4 @@ fn write_some<W: Write>(writer: &mut W, bytes: &[u8]) -> io::Result<usize>
         }
     }
     Err(io::Error::from(ErrorKind::WriteZero))
-}
-
-#[cfg(test)]
-mod tests {
-    use super::*;
-    use std::test::Fail;
-
-    #[test]
-    fn a_sure_sink_holds_what_fits(rt: HostRuntime) -> Result<(), Fail> {
-        let mut sink = SureSink::new(rt.alloc(), 5)?;
-        assert_eq!(rt; sink.write(b"abc"), Ok(3));
-        assert_eq!(rt; sink.write(b""), Ok(0));
-        assert_eq!(rt; sink.write(b"de"), Ok(2));
-        assert!(rt; sink.is_whole());
-        assert_eq!(rt; sink.written(), b"abcde".as_slice());
-        assert_eq!(rt; sink.write(b"f"), Ok(1));
-        assert!(rt; !sink.is_whole());
-        assert_eq!(rt; sink.written(), b"abcde".as_slice());
-
-        let mut small = SureSink::new(rt.alloc(), 2)?;
-        assert_eq!(rt; small.write(b"abc"), Ok(3));
-        assert!(rt; !small.is_whole());
-        assert_eq!(rt; small.written(), b"ab".as_slice());
-        Ok(())
-    }
-
-    #[test]
-    fn a_writer_sink_hands_on_what_it_takes(rt: HostRuntime) -> Result<(), Fail> {
-        let mut sink = WriterSink::new(Vec::new(rt.alloc()));
-        assert_eq!(rt; sink.write(b"ab"), Ok(2));
-        assert_eq!(rt; sink.write(b""), Ok(0));
-        assert_eq!(rt; sink.write(b"c"), Ok(1));
-        assert_eq!(rt; sink.writer.as_slice(), b"abc".as_slice());
-        assert_eq!(rt; sink.faults, 0);
-        Ok(())
-    }
-
-    // What a writer does at its writes, in turn, and at each flush.
-    #[derive(Drop)]
-    struct Scripted<'a> {
-        writes: &'a [Option<usize>],
-        interrupts: u32,
-        flushes: bool,
-    }
-
-    impl Write for Scripted<'_> {
-        fn write(&mut self, buf: &[u8]) -> io::Result<usize> {
-            if self.interrupts > 0 {
-                self.interrupts -= 1;
-                return Err(io::Error::from(ErrorKind::Interrupted));
-            }
-            let Some((first, rest)) = self.writes.split_first() else {
-                return Err(io::Error::from(ErrorKind::Other));
-            };
-            self.writes = rest;
-            match first {
-                Some(count) => Ok((*count).min(buf.len())),
-                None => Err(io::Error::from(ErrorKind::BrokenPipe)),
-            }
-        }
-
-        fn flush(&mut self) -> io::Result<()> {
-            if self.flushes {
-                Ok(())
-            } else {
-                Err(io::Error::from(ErrorKind::StorageFull))
-            }
-        }
-    }
-
-    #[test]
-    fn a_writer_sink_counts_what_fails(rt: HostRuntime) {
-        let mut sink = WriterSink::new(Scripted {
-            writes: &[Some(2), None, Some(0), Some(9)],
-            interrupts: 3,
-            flushes: true,
-        });
-        assert_eq!(rt; sink.write(b"abc"), Ok(2));
-        assert_eq!(rt; sink.faults, 0);
-        assert_eq!(rt; sink.write(b"c"), Err(SinkFault), "a broken pipe");
-        assert_eq!(rt; sink.faults, 1);
-        assert_eq!(rt; sink.write(b"c"), Err(SinkFault), "a write of nothing");
-        assert_eq!(rt; sink.faults, 2);
-        assert_eq!(rt; sink.write(b"c"), Ok(1));
-        assert_eq!(rt; sink.faults, 2);
-
-        let mut full = WriterSink::new(Scripted {
-            writes: &[Some(1)],
-            interrupts: 0,
-            flushes: false,
-        });
-        assert_eq!(rt; full.write(b"c"), Err(SinkFault), "no flush");
-        assert_eq!(rt; full.faults, 1);
-    }
 }

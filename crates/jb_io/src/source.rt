@@ -1,6 +1,6 @@
 ghost use Rattle.std.specs.Prelude.{◌≡◌, ℕ, ◌<◌, ◌≤◌, List, Option, Some, OnErr};
 ghost use Rattle.std.specs.Io.KnownBytes.{ReadConsumes};
-ghost use Rattle.jb_io.specs.Stream.{HasFailed, IsWithin};
+ghost use Rattle.jb_io.specs.Stream.{Counts, HasFailed, IsWithin};
 
 use bytes::Bytes;
 use std::io::{ErrorKind, Read};
@@ -87,7 +87,14 @@ impl<R: Read> Source for ReaderSource<R> {
     ghost faults = { λ source. source.faults };
 
     // A read that a signal interrupted is tried again, and is no fault.
-    fn read(&mut self, buffer: &mut [u8]) -> Result<usize, SourceFault> {
+    fn read(&mut self, buffer: &mut [u8]) -> Result<usize, SourceFault>
+        ensures within { IsWithin result buffer.new }
+        ensures bytes { ReadConsumes (R.remaining self.old.reader) (R.remaining self.new.reader) result buffer.new }
+        ensures later { self.old.faults ≤ self.new.faults }
+        ensures cause { OnErr result (HasFailed self.old.faults self.new.faults) }
+        // Nothing else is counted.
+        ensures exact { Counts self.old.faults self.new.faults result }
+    {
         for _ in 0..u64::MAX {
             match self.reader.read(buffer) {
                 Ok(count) => return Ok(count),
@@ -97,48 +104,5 @@ impl<R: Read> Source for ReaderSource<R> {
         }
         self.faults = self.faults.saturating_add(1);
         Err(SourceFault)
-    }
-}
-
-#[cfg(test)]
-mod tests {
-    use super::*;
-    use std::io;
-
-    #[test]
-    fn a_sure_source_gives_pieces(rt: HostRuntime) {
-        let mut source = SureSource::new(Bytes::from_static(b"hello"), 2);
-        let mut buffer = [0; 4];
-        assert_eq!(rt; source.read(&mut []), Ok(0));
-        for piece in ["he", "ll", "o", ""] {
-            assert_eq!(rt; source.read(&mut buffer), Ok(piece.len()));
-            assert!(rt; buffer.starts_with(piece.as_bytes()), "{piece}");
-        }
-    }
-
-    // A reader that is interrupted once, gives one byte, and then fails once.
-    #[derive(Drop)]
-    struct Faltering(u32);
-
-    impl Read for Faltering {
-        fn read(&mut self, buf: &mut [u8]) -> io::Result<usize> {
-            self.0 = self.0.saturating_add(1);
-            match self.0 {
-                1 => Err(io::Error::from(ErrorKind::Interrupted)),
-                3 => Err(io::Error::from(ErrorKind::Other)),
-                _ => b"x".as_slice().read(buf),
-            }
-        }
-    }
-
-    #[test]
-    fn a_reader_source_counts_what_fails(rt: HostRuntime) {
-        let mut source = ReaderSource::new(Faltering(0));
-        let mut buffer = [0; 4];
-        for (wanted, faults) in [(Ok(1), 0), (Err(SourceFault), 1), (Ok(1), 1)] {
-            assert_eq!(rt; source.read(&mut buffer), wanted);
-            assert_eq!(rt; source.faults, faults);
-        }
-        assert_eq!(rt; buffer, *b"x\0\0\0");
     }
 }

@@ -7,8 +7,6 @@
 mod compact;
 mod pretty;
 mod print;
-#[cfg(test)]
-mod tests;
 mod text;
 
 pub use print::{append_object, append_string, append_value, to_bytes, to_pretty, to_text};

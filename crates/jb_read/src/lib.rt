@@ -18,6 +18,3 @@ mod value;
 
 pub use document::{from_bytes, from_bytes_whole, from_str};
 pub use fault::{FaultKind, ReadFault};
-
-#[cfg(test)]
-mod tests;

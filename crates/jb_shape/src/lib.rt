@@ -22,6 +22,3 @@ pub use members::Members;
 pub use shape_error::ShapeError;
 pub use shapes::{FromValue, MapKey, ToValue, from_value, to_value};
 pub use variants::{member, read_members, read_variant};
-
-#[cfg(test)]
-mod tests;

@@ -7,6 +7,3 @@ mod style;
 
 pub use program::{run, run_in_memory};
 pub use style::Style;
-
-#[cfg(test)]
-mod tests;

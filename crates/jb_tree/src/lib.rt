@@ -23,8 +23,3 @@ pub use jb_map::{
 };
 pub use jb_text::{ByteString, Listed, ListedIter, Memory, Number, Refused, SliceFault, Text};
 pub use value::{Map, Value};
-
-#[cfg(test)]
-mod member_tests;
-#[cfg(test)]
-mod tests;

@@ -1,0 +1,67 @@
+//! Whole reports, as they are written.
+
+use gql_diag_report::CliReport;
+use gql_source::{FileId, SourceFile, SourceMap, SourceSpan};
+use jb_io::SureSink;
+use std::alloc::{AllocError, Global};
+use std::test::Fail;
+
+const FILE: FileId = FileId { number: 3 };
+
+/// Tells one place in the file, and three that are found nowhere.
+fn fill(report: &mut CliReport<'_>) -> Result<(), AllocError> {
+    report.with_message("old")?;
+    report.with_message("m")?;
+    report.with_label_opt(Some(SourceSpan::new(FILE, 0, 4)), "l")?;
+    report.with_label_opt(None, "nowhere")?;
+    report.with_label_opt(Some(SourceSpan::new(FILE, 7, 7)), "past the end")?;
+    report.with_label_opt(Some(SourceSpan::new(FileId::NONE, 0, 0)), "in no file")?;
+    report.with_note("n")?;
+    report.with_help("h")
+}
+
+fn sources(alloc: Global) -> Result<SourceMap, AllocError> {
+    let mut sources = SourceMap::new(alloc);
+    sources.insert(FILE, SourceFile::new(alloc, "p", "type A")?)?;
+    Ok(sources)
+}
+
+#[test]
+fn a_report_is_its_lines(rt: HostRuntime) -> Result<(), Fail> {
+    let sources = sources(rt.alloc())?;
+    let mut report = CliReport::builder(rt.alloc(), &sources, None);
+    fill(&mut report)?;
+    let mut sink = SureSink::new(rt.alloc(), 64)?;
+    report.write(rt.alloc(), &mut sink).ok().ok_or("refused")?;
+    assert_eq!(rt;
+        sink.written(),
+        b"Error: m\np:1:1: l\nHelp: h\nNote: n\n".as_slice()
+    );
+    Ok(())
+}
+
+#[test]
+fn an_empty_report_has_an_empty_message(rt: HostRuntime) -> Result<(), Fail> {
+    let sources = sources(rt.alloc())?;
+    let start = Some(SourceSpan::new(FILE, 0, 4));
+    let empty = CliReport::builder(rt.alloc(), &sources, start);
+    assert_eq!(rt; empty.into_string(rt.alloc())?.as_str(), "Error: \n");
+    Ok(())
+}
+
+#[test]
+fn a_refused_report_answers_that_from_then_on(rt: HostRuntime) -> Result<(), Fail> {
+    let sources = SourceMap::new(rt.alloc());
+    let mut report = CliReport::builder(rt.alloc(), &sources, None);
+    report.with_message("m")?;
+    let _alloc = report.allocator();
+    report.refuse();
+    assert!(rt; report.with_message("m").is_err());
+    assert!(rt; report.with_help("h").is_err());
+    assert!(rt; report.with_note("n").is_err());
+    assert!(rt; report.with_label_opt(None, "l").is_err());
+    let mut sink = SureSink::new(rt.alloc(), 64)?;
+    assert!(rt; report.write(rt.alloc(), &mut sink).is_err());
+    assert_eq!(rt; sink.written(), b"".as_slice());
+    Ok(())
+}

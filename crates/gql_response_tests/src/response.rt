@@ -1,0 +1,120 @@
+//! Responses printed, and read back.
+
+use bytes::Bytes;
+use gql_response::{ExecutionResponse, ResponseFault};
+use jb_read::{FaultKind, ReadFault};
+use jb_shape::ShapeError;
+use jb_text::Refused;
+use std::alloc::Global;
+use std::test::Fail;
+
+fn read(alloc: Global, text: &'static [u8]) -> Result<ExecutionResponse, Fail> {
+    let response = ExecutionResponse::from_bytes(alloc, &Bytes::from_static(text));
+    Ok(response.ok().ok_or("refused")?)
+}
+
+/// How many errors a response has, and what is printed of it.
+fn reprinted(alloc: Global, text: &'static [u8]) -> Result<(usize, Bytes), Fail> {
+    let response = read(alloc, text)?;
+    let bytes = response.to_bytes(alloc)?;
+    Ok((response.errors.len(), bytes))
+}
+
+#[test]
+fn a_response_reads_back_and_prints_the_same(rt: HostRuntime) -> Result<(), Fail> {
+    let text =
+        b"{\"errors\":[{\"message\":\"resolver error: !\",\"locations\":[{\"line\":1,\"column\":3}],\"path\":[\"f\",1]},{\"message\":\"\",\"extensions\":{\"a\":[]}}],\"data\":{\"f\":null}}";
+    let (errors, bytes) = reprinted(rt.alloc(), text)?;
+    assert_eq!(rt; errors, 2);
+    assert_eq!(rt; bytes.as_slice(), text.as_slice());
+    let (errors, bytes) = reprinted(rt.alloc(), b" { } ")?;
+    assert_eq!(rt; errors, 0);
+    assert_eq!(rt; bytes.as_slice(), b"{\"data\":null}".as_slice());
+    Ok(())
+}
+
+#[test]
+fn each_refusal_has_its_cause(rt: HostRuntime) {
+    let unread = ResponseFault::Read(ReadFault {
+        kind: FaultKind::Syntax,
+        place: 1,
+    });
+    let rows: [(&'static [u8], ResponseFault); 7] = [
+        (b"{", unread),
+        (b"[]", ResponseFault::Shape(ShapeError::WrongKind)),
+        (
+            b"{\"data\":{},\"x\":1}",
+            ResponseFault::Shape(ShapeError::UnknownField),
+        ),
+        (
+            b"{\"data\":1,\"x\":1}",
+            ResponseFault::Shape(ShapeError::WrongKind),
+        ),
+        (
+            b"{\"errors\":[{\"path\":[]}]}",
+            ResponseFault::Shape(ShapeError::MissingField),
+        ),
+        (
+            b"{\"errors\":[{\"path\":[\"1a\"]}]}",
+            ResponseFault::Shape(ShapeError::WrongKind),
+        ),
+        (
+            b"{\"errors\":[{\"path\":[-1]}]}",
+            ResponseFault::Shape(ShapeError::NumberTooLarge),
+        ),
+    ];
+    for (text, fault) in rows {
+        let refused = ExecutionResponse::from_bytes(rt.alloc(), &Bytes::from_static(text));
+        assert_eq!(rt; refused.err(), Some(Refused::Fault(fault)));
+    }
+}
+
+/// Two responses, and whether they are equal.
+const PAIRS: [(&[u8], &[u8], bool); 8] = [
+    (
+        b"{\"data\":{\"a\":1,\"b\":{\"c\":2,\"d\":3}}}",
+        b"{\"data\":{\"b\":{\"d\":3,\"c\":2},\"a\":1}}",
+        true,
+    ),
+    (b"{\"data\":{\"a\":1}}", b"{\"data\":{\"a\":2}}", false),
+    (b"{\"data\":{}}", b"{\"data\":null}", false),
+    (
+        b"{\"errors\":[{\"message\":\"m\",\"extensions\":{\"a\":1,\"b\":2}}]}",
+        b"{\"errors\":[{\"message\":\"m\",\"extensions\":{\"b\":2,\"a\":1}}]}",
+        true,
+    ),
+    (
+        b"{\"errors\":[{\"message\":\"m\"}]}",
+        b"{\"errors\":[{\"message\":\"n\"}]}",
+        false,
+    ),
+    (
+        b"{\"errors\":[{\"message\":\"\",\"locations\":[{\"line\":1,\"column\":2}]}]}",
+        b"{\"errors\":[{\"message\":\"\",\"locations\":[{\"line\":1,\"column\":3}]}]}",
+        false,
+    ),
+    (
+        b"{\"errors\":[{\"message\":\"\",\"path\":[\"a\",0]}]}",
+        b"{\"errors\":[{\"message\":\"\",\"path\":[\"a\",1]}]}",
+        false,
+    ),
+    (
+        b"{\"errors\":[{\"message\":\"\",\"path\":[\"a\"]}]}",
+        b"{\"errors\":[{\"message\":\"\",\"path\":[\"b\"]}]}",
+        false,
+    ),
+];
+
+fn are_equal(alloc: Global, text: &'static [u8], other: &'static [u8]) -> Result<bool, Fail> {
+    let response = read(alloc, text)?;
+    let other = read(alloc, other)?;
+    Ok(response == other)
+}
+
+#[test]
+fn responses_are_equal_part_by_part(rt: HostRuntime) -> Result<(), Fail> {
+    for (text, other, equal) in PAIRS {
+        assert_eq!(rt; are_equal(rt.alloc(), text, other)?, equal);
+    }
+    Ok(())
+}

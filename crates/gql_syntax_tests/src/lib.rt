@@ -1,0 +1,20 @@
+//! Tests of the crates that read GraphQL texts, from places in a text to syntax trees.
+//!
+//! They stand apart because a crate with tests is proved once with them and once without. Each module has the tests of
+//! one crate or of one subject, over what that crate gives to everyone.
+#![tactic(auto)]
+
+#[cfg(test)]
+mod documents;
+#[cfg(test)]
+mod grammar;
+#[cfg(test)]
+mod lexer;
+#[cfg(test)]
+mod sentences;
+#[cfg(test)]
+mod source;
+#[cfg(test)]
+mod strings;
+#[cfg(test)]
+mod trees;

@@ -1,0 +1,32 @@
+//! Tests of the JSON crates, which call them as their users do.
+//!
+//! They stand apart because a crate with tests is proved twice, once with them and once without: here the second proof
+//! is of nothing. Each module tests one crate or one concern of it, and shows what no clause says.
+#![tactic(auto)]
+
+#[cfg(test)]
+mod fixtures;
+#[cfg(test)]
+mod map;
+#[cfg(test)]
+mod members;
+#[cfg(test)]
+mod print;
+#[cfg(test)]
+mod read;
+#[cfg(test)]
+mod shape;
+#[cfg(test)]
+mod sinks;
+#[cfg(test)]
+mod sources;
+#[cfg(test)]
+mod streams;
+#[cfg(test)]
+mod text;
+#[cfg(test)]
+mod tool;
+#[cfg(test)]
+mod tree;
+#[cfg(test)]
+mod value_bytes;
