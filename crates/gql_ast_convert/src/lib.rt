@@ -3,7 +3,7 @@
 //! What a concrete tree stands for is a definition, kind by kind of its nodes, and a conversion gives exactly that.
 //! [`gather`] and [`first`] convert the trees of a row, [`child`] and [`inside`] find one by its kind, [`nth_name`] and its
 //! like find one by its place among the names. [`location`] runs from the first to the last token that is not ignored.
-//! [`Copying`] gives an equal tree, locations included.
+//! [`both`] and its like bring together the parts of a tree. [`Copying`] gives an equal tree, locations included.
 #![tactic(auto)]
 
 mod convert;
@@ -13,6 +13,7 @@ mod name;
 mod named_type;
 mod node;
 mod operation_type;
+mod together;
 mod token;
 
 pub use convert::{Convert, first, gather, keep};
@@ -22,4 +23,5 @@ pub use name::{Name, NameFault};
 pub use named_type::{named_type_in, named_types};
 pub use node::{child, inside, is_of, location};
 pub use operation_type::{OperationType, operation_type_in};
+pub use together::{all_four, all_three, both};
 pub use token::{behind, is_word, nth_name, nth_text, token_text, word};

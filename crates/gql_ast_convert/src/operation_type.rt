@@ -33,16 +33,12 @@ impl Copying for OperationType {
 fn operation_word(found: &str) -> Option<OperationType>
     ensures { result ≡ spec.operation_word found.now }
 {
-    if found == "query" {
-        return Some(OperationType::Query);
+    match found {
+        "query" => Some(OperationType::Query),
+        "mutation" => Some(OperationType::Mutation),
+        "subscription" => Some(OperationType::Subscription),
+        _ => None,
     }
-    if found == "mutation" {
-        return Some(OperationType::Mutation);
-    }
-    if found == "subscription" {
-        return Some(OperationType::Subscription);
-    }
-    None
 }
 
 #[tactic(auto, unfolding(crate::specs::OperationTypes::operation_type_of))]

@@ -6,8 +6,8 @@ ghost use Rattle.gql_ast_operation.specs.Operations as spec;
 
 use crate::selection::{Selection, type_condition};
 use gql_ast_convert::{
-    Convert, Copying, Name, OperationType, child, first, gather, inside, is_of, location, nth_name,
-    operation_type_in,
+    Convert, Copying, Name, OperationType, all_four, both, child, first, gather, inside, is_of,
+    location, nth_name, operation_type_in,
 };
 use gql_ast_value::{Directive, TypeRef, Value, default_value, directives};
 use gql_cst::{SyntaxKind, Tree};
@@ -48,12 +48,18 @@ pub struct FragmentDefinition {
 
 impl Copying for OperationDefinition {
     fn copy(&self, alloc: Global) -> Result<OperationDefinition, Memory> {
+        let (name, variables, directives, selection_set) = all_four(
+            self.name.copy(alloc),
+            self.variables.copy(alloc),
+            self.directives.copy(alloc),
+            self.selection_set.copy(alloc),
+        )?;
         Ok(OperationDefinition {
             operation_type: self.operation_type,
-            name: self.name.copy(alloc)?,
-            variables: self.variables.copy(alloc)?,
-            directives: self.directives.copy(alloc)?,
-            selection_set: self.selection_set.copy(alloc)?,
+            name,
+            variables,
+            directives,
+            selection_set,
             location: self.location,
         })
     }
@@ -61,11 +67,17 @@ impl Copying for OperationDefinition {
 
 impl Copying for VariableDefinition {
     fn copy(&self, alloc: Global) -> Result<VariableDefinition, Memory> {
+        let (name, ty, default_value, directives) = all_four(
+            self.name.copy(alloc),
+            self.ty.copy(alloc),
+            self.default_value.copy(alloc),
+            self.directives.copy(alloc),
+        )?;
         Ok(VariableDefinition {
-            name: self.name.copy(alloc)?,
-            ty: self.ty.copy(alloc)?,
-            default_value: self.default_value.copy(alloc)?,
-            directives: self.directives.copy(alloc)?,
+            name,
+            ty,
+            default_value,
+            directives,
             location: self.location,
         })
     }
@@ -73,11 +85,17 @@ impl Copying for VariableDefinition {
 
 impl Copying for FragmentDefinition {
     fn copy(&self, alloc: Global) -> Result<FragmentDefinition, Memory> {
+        let (name, type_condition, directives, selection_set) = all_four(
+            self.name.copy(alloc),
+            self.type_condition.copy(alloc),
+            self.directives.copy(alloc),
+            self.selection_set.copy(alloc),
+        )?;
         Ok(FragmentDefinition {
-            name: self.name.copy(alloc)?,
-            type_condition: self.type_condition.copy(alloc)?,
-            directives: self.directives.copy(alloc)?,
-            selection_set: self.selection_set.copy(alloc)?,
+            name,
+            type_condition,
+            directives,
+            selection_set,
             location: self.location,
         })
     }
@@ -117,17 +135,20 @@ impl Convert for VariableDefinition {
         }
         let nodes = tree.children().as_slice();
         let names = inside(nodes, SyntaxKind::Variable);
-        let Some(name) = nth_name(alloc, names, text, file_id, 0)? else {
-            return Ok(None);
-        };
-        let Some(ty) = first(alloc, nodes, text, file_id)? else {
+        let (name, ty, default_value, directives) = all_four(
+            nth_name(alloc, names, text, file_id, 0),
+            first(alloc, nodes, text, file_id),
+            default_value(alloc, nodes, text, file_id),
+            directives(alloc, nodes, text, file_id),
+        )?;
+        let Some((name, ty)) = name.zip(ty) else {
             return Ok(None);
         };
         Ok(Some(VariableDefinition {
             name,
             ty,
-            default_value: default_value(alloc, nodes, text, file_id)?,
-            directives: directives(alloc, nodes, text, file_id)?,
+            default_value,
+            directives,
             location: location(file_id, tree),
         }))
     }
@@ -151,12 +172,18 @@ impl Convert for OperationDefinition {
             return Ok(None);
         };
         let operation_type = operation_type_in(nodes, text).unwrap_or(OperationType::Query);
+        let (name, variables, directives, selection_set) = all_four(
+            nth_name(alloc, nodes, text, file_id, 0),
+            variables(alloc, nodes, text, file_id),
+            directives(alloc, nodes, text, file_id),
+            gather(alloc, set.children().as_slice(), text, file_id),
+        )?;
         Ok(Some(OperationDefinition {
             operation_type,
-            name: nth_name(alloc, nodes, text, file_id, 0)?,
-            variables: variables(alloc, nodes, text, file_id)?,
-            directives: directives(alloc, nodes, text, file_id)?,
-            selection_set: gather(alloc, set.children().as_slice(), text, file_id)?,
+            name,
+            variables,
+            directives,
+            selection_set,
             location: location(file_id, tree),
         }))
     }
@@ -180,17 +207,20 @@ impl Convert for FragmentDefinition {
             return Ok(None);
         };
         let names = inside(nodes, SyntaxKind::FragmentName);
-        let Some(name) = nth_name(alloc, names, text, file_id, 0)? else {
-            return Ok(None);
-        };
-        let Some(type_condition) = type_condition(alloc, nodes, text, file_id)? else {
+        let (name, type_condition, directives, selection_set) = all_four(
+            nth_name(alloc, names, text, file_id, 0),
+            type_condition(alloc, nodes, text, file_id),
+            directives(alloc, nodes, text, file_id),
+            gather(alloc, set.children().as_slice(), text, file_id),
+        )?;
+        let Some((name, type_condition)) = name.zip(type_condition) else {
             return Ok(None);
         };
         Ok(Some(FragmentDefinition {
             name,
             type_condition,
-            directives: directives(alloc, nodes, text, file_id)?,
-            selection_set: gather(alloc, set.children().as_slice(), text, file_id)?,
+            directives,
+            selection_set,
             location: location(file_id, tree),
         }))
     }

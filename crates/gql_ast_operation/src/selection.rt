@@ -2,7 +2,7 @@
 
 ghost use Rattle.std.specs.Prelude.{◌≡◌, IfOk};
 
-use gql_ast_convert::{Copying, Name};
+use gql_ast_convert::{Copying, Name, all_four, all_three, both};
 use gql_ast_value::{Argument, Directive};
 use gql_source::SourceSpan;
 use jb_text::{Listed, Memory};
@@ -65,9 +65,13 @@ impl Copying for Field {
 
 impl Copying for FragmentSpread {
     fn copy(&self, alloc: Global) -> Result<FragmentSpread, Memory> {
+        let (fragment_name, directives) = both(
+            self.fragment_name.copy(alloc),
+            self.directives.copy(alloc),
+        )?;
         Ok(FragmentSpread {
-            fragment_name: self.fragment_name.copy(alloc)?,
-            directives: self.directives.copy(alloc)?,
+            fragment_name,
+            directives,
             location: self.location,
         })
     }
@@ -96,12 +100,19 @@ fn copy_selection(selection: &Selection, alloc: Global) -> Result<Selection, Mem
 fn copy_field(field: &Field, alloc: Global) -> Result<Field, Memory>
     ensures { IfOk result (λ copy. copy ≡ field.now) }
 {
+    let selection_set = copy_selections(&field.selection_set, alloc)?;
+    let (alias, name, arguments, directives) = all_four(
+        field.alias.copy(alloc),
+        field.name.copy(alloc),
+        field.arguments.copy(alloc),
+        field.directives.copy(alloc),
+    )?;
     Ok(Field {
-        alias: field.alias.copy(alloc)?,
-        name: field.name.copy(alloc)?,
-        arguments: field.arguments.copy(alloc)?,
-        directives: field.directives.copy(alloc)?,
-        selection_set: copy_selections(&field.selection_set, alloc)?,
+        alias,
+        name,
+        arguments,
+        directives,
+        selection_set,
         location: field.location,
     })
 }
@@ -110,10 +121,15 @@ fn copy_field(field: &Field, alloc: Global) -> Result<Field, Memory>
 fn copy_inline_fragment(fragment: &InlineFragment, alloc: Global) -> Result<InlineFragment, Memory>
     ensures { IfOk result (λ copy. copy ≡ fragment.now) }
 {
+    let (type_condition, directives, selection_set) = all_three(
+        fragment.type_condition.copy(alloc),
+        fragment.directives.copy(alloc),
+        copy_selections(&fragment.selection_set, alloc),
+    )?;
     Ok(InlineFragment {
-        type_condition: fragment.type_condition.copy(alloc)?,
-        directives: fragment.directives.copy(alloc)?,
-        selection_set: copy_selections(&fragment.selection_set, alloc)?,
+        type_condition,
+        directives,
+        selection_set,
         location: fragment.location,
     })
 }

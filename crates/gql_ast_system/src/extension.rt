@@ -9,12 +9,16 @@ use crate::field_definition::{
 };
 use crate::schema_definition::root_operations;
 use crate::type_definition::{interfaces, members};
-use gql_ast_convert::{Convert, Copying, Name, OperationType, is_of, is_word, location, nth_name};
+use gql_ast_convert::{
+    Convert, Name, OperationType, all_three, both, is_of, is_word, location, nth_name,
+};
 use gql_ast_value::{Directive, directives};
 use gql_cst::{SyntaxKind, Tree};
 use gql_source::{FileId, SourceSpan};
 use jb_text::{Listed, Memory};
 use std::alloc::Global;
+
+mod copying;
 
 /// More of a schema (GraphQL October 2021, section 3.3.2).
 #[derive(Drop)]
@@ -79,83 +83,6 @@ pub struct InputObjectTypeExtension {
     pub location: Option<SourceSpan>,
 }
 
-impl Copying for SchemaExtension {
-    fn copy(&self, alloc: Global) -> Result<SchemaExtension, Memory> {
-        Ok(SchemaExtension {
-            directives: self.directives.copy(alloc)?,
-            root_operations: self.root_operations.copy(alloc)?,
-            location: self.location,
-        })
-    }
-}
-
-impl Copying for ScalarTypeExtension {
-    fn copy(&self, alloc: Global) -> Result<ScalarTypeExtension, Memory> {
-        Ok(ScalarTypeExtension {
-            name: self.name.copy(alloc)?,
-            directives: self.directives.copy(alloc)?,
-            location: self.location,
-        })
-    }
-}
-
-impl Copying for ObjectTypeExtension {
-    fn copy(&self, alloc: Global) -> Result<ObjectTypeExtension, Memory> {
-        Ok(ObjectTypeExtension {
-            name: self.name.copy(alloc)?,
-            implements_interfaces: self.implements_interfaces.copy(alloc)?,
-            directives: self.directives.copy(alloc)?,
-            fields: self.fields.copy(alloc)?,
-            location: self.location,
-        })
-    }
-}
-
-impl Copying for InterfaceTypeExtension {
-    fn copy(&self, alloc: Global) -> Result<InterfaceTypeExtension, Memory> {
-        Ok(InterfaceTypeExtension {
-            name: self.name.copy(alloc)?,
-            implements_interfaces: self.implements_interfaces.copy(alloc)?,
-            directives: self.directives.copy(alloc)?,
-            fields: self.fields.copy(alloc)?,
-            location: self.location,
-        })
-    }
-}
-
-impl Copying for UnionTypeExtension {
-    fn copy(&self, alloc: Global) -> Result<UnionTypeExtension, Memory> {
-        Ok(UnionTypeExtension {
-            name: self.name.copy(alloc)?,
-            directives: self.directives.copy(alloc)?,
-            members: self.members.copy(alloc)?,
-            location: self.location,
-        })
-    }
-}
-
-impl Copying for EnumTypeExtension {
-    fn copy(&self, alloc: Global) -> Result<EnumTypeExtension, Memory> {
-        Ok(EnumTypeExtension {
-            name: self.name.copy(alloc)?,
-            directives: self.directives.copy(alloc)?,
-            values: self.values.copy(alloc)?,
-            location: self.location,
-        })
-    }
-}
-
-impl Copying for InputObjectTypeExtension {
-    fn copy(&self, alloc: Global) -> Result<InputObjectTypeExtension, Memory> {
-        Ok(InputObjectTypeExtension {
-            name: self.name.copy(alloc)?,
-            directives: self.directives.copy(alloc)?,
-            fields: self.fields.copy(alloc)?,
-            location: self.location,
-        })
-    }
-}
-
 /// Whether the tree is an extension of what the word says.
 #[tactic(auto, unfolding(crate::specs::Extensions::extends))]
 fn extends(tree: &Tree, text: &str, word: &str) -> bool
@@ -178,9 +105,13 @@ impl Convert for SchemaExtension {
             return Ok(None);
         }
         let nodes = tree.children().as_slice();
+        let (directives, root_operations) = both(
+            directives(alloc, nodes, text, file_id),
+            root_operations(alloc, nodes, text, file_id),
+        )?;
         Ok(Some(SchemaExtension {
-            directives: directives(alloc, nodes, text, file_id)?,
-            root_operations: root_operations(alloc, nodes, text, file_id)?,
+            directives,
+            root_operations,
             location: location(file_id, tree),
         }))
     }
@@ -228,11 +159,16 @@ impl Convert for ObjectTypeExtension {
         let Some(name) = nth_name(alloc, nodes, text, file_id, 2)? else {
             return Ok(None);
         };
+        let (implements_interfaces, directives, fields) = all_three(
+            interfaces(alloc, nodes, text, file_id),
+            directives(alloc, nodes, text, file_id),
+            fields(alloc, nodes, text, file_id),
+        )?;
         Ok(Some(ObjectTypeExtension {
             name,
-            implements_interfaces: interfaces(alloc, nodes, text, file_id)?,
-            directives: directives(alloc, nodes, text, file_id)?,
-            fields: fields(alloc, nodes, text, file_id)?,
+            implements_interfaces,
+            directives,
+            fields,
             location: location(file_id, tree),
         }))
     }
@@ -255,11 +191,16 @@ impl Convert for InterfaceTypeExtension {
         let Some(name) = nth_name(alloc, nodes, text, file_id, 2)? else {
             return Ok(None);
         };
+        let (implements_interfaces, directives, fields) = all_three(
+            interfaces(alloc, nodes, text, file_id),
+            directives(alloc, nodes, text, file_id),
+            fields(alloc, nodes, text, file_id),
+        )?;
         Ok(Some(InterfaceTypeExtension {
             name,
-            implements_interfaces: interfaces(alloc, nodes, text, file_id)?,
-            directives: directives(alloc, nodes, text, file_id)?,
-            fields: fields(alloc, nodes, text, file_id)?,
+            implements_interfaces,
+            directives,
+            fields,
             location: location(file_id, tree),
         }))
     }
@@ -282,10 +223,14 @@ impl Convert for UnionTypeExtension {
         let Some(name) = nth_name(alloc, nodes, text, file_id, 2)? else {
             return Ok(None);
         };
+        let (directives, members) = both(
+            directives(alloc, nodes, text, file_id),
+            members(alloc, nodes, text, file_id),
+        )?;
         Ok(Some(UnionTypeExtension {
             name,
-            directives: directives(alloc, nodes, text, file_id)?,
-            members: members(alloc, nodes, text, file_id)?,
+            directives,
+            members,
             location: location(file_id, tree),
         }))
     }
@@ -308,10 +253,14 @@ impl Convert for EnumTypeExtension {
         let Some(name) = nth_name(alloc, nodes, text, file_id, 2)? else {
             return Ok(None);
         };
+        let (directives, values) = both(
+            directives(alloc, nodes, text, file_id),
+            enum_values(alloc, nodes, text, file_id),
+        )?;
         Ok(Some(EnumTypeExtension {
             name,
-            directives: directives(alloc, nodes, text, file_id)?,
-            values: enum_values(alloc, nodes, text, file_id)?,
+            directives,
+            values,
             location: location(file_id, tree),
         }))
     }
@@ -334,10 +283,14 @@ impl Convert for InputObjectTypeExtension {
         let Some(name) = nth_name(alloc, nodes, text, file_id, 2)? else {
             return Ok(None);
         };
+        let (directives, fields) = both(
+            directives(alloc, nodes, text, file_id),
+            input_fields(alloc, nodes, text, file_id),
+        )?;
         Ok(Some(InputObjectTypeExtension {
             name,
-            directives: directives(alloc, nodes, text, file_id)?,
-            fields: input_fields(alloc, nodes, text, file_id)?,
+            directives,
+            fields,
             location: location(file_id, tree),
         }))
     }

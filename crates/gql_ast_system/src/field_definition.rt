@@ -5,7 +5,8 @@ ghost use Rattle.gql_cst.specs.Forest.{forest};
 ghost use Rattle.gql_ast_system.specs.Fields as spec;
 
 use gql_ast_convert::{
-    Convert, Copying, Name, description, first, gather, inside, is_of, location, nth_name,
+    Convert, Copying, Name, all_three, both, description, first, gather, inside, is_of, location,
+    nth_name,
 };
 use gql_ast_value::{Directive, TypeRef, Value, default_value, directives};
 use gql_cst::{SyntaxKind, Tree};
@@ -46,12 +47,18 @@ pub struct EnumValueDefinition {
 
 impl Copying for FieldDefinition {
     fn copy(&self, alloc: Global) -> Result<FieldDefinition, Memory> {
+        let (description, name, directives) = all_three(
+            self.description.copy(alloc),
+            self.name.copy(alloc),
+            self.directives.copy(alloc),
+        )?;
+        let (arguments, ty) = both(self.arguments.copy(alloc), self.ty.copy(alloc))?;
         Ok(FieldDefinition {
-            description: self.description.copy(alloc)?,
-            name: self.name.copy(alloc)?,
-            arguments: self.arguments.copy(alloc)?,
-            ty: self.ty.copy(alloc)?,
-            directives: self.directives.copy(alloc)?,
+            description,
+            name,
+            arguments,
+            ty,
+            directives,
             location: self.location,
         })
     }
@@ -59,12 +66,18 @@ impl Copying for FieldDefinition {
 
 impl Copying for InputValueDefinition {
     fn copy(&self, alloc: Global) -> Result<InputValueDefinition, Memory> {
+        let (description, name, directives) = all_three(
+            self.description.copy(alloc),
+            self.name.copy(alloc),
+            self.directives.copy(alloc),
+        )?;
+        let (ty, default_value) = both(self.ty.copy(alloc), self.default_value.copy(alloc))?;
         Ok(InputValueDefinition {
-            description: self.description.copy(alloc)?,
-            name: self.name.copy(alloc)?,
-            ty: self.ty.copy(alloc)?,
-            default_value: self.default_value.copy(alloc)?,
-            directives: self.directives.copy(alloc)?,
+            description,
+            name,
+            ty,
+            default_value,
+            directives,
             location: self.location,
         })
     }
@@ -72,10 +85,15 @@ impl Copying for InputValueDefinition {
 
 impl Copying for EnumValueDefinition {
     fn copy(&self, alloc: Global) -> Result<EnumValueDefinition, Memory> {
+        let (description, value, directives) = all_three(
+            self.description.copy(alloc),
+            self.value.copy(alloc),
+            self.directives.copy(alloc),
+        )?;
         Ok(EnumValueDefinition {
-            description: self.description.copy(alloc)?,
-            value: self.value.copy(alloc)?,
-            directives: self.directives.copy(alloc)?,
+            description,
+            value,
+            directives,
             location: self.location,
         })
     }
@@ -95,18 +113,24 @@ impl Convert for InputValueDefinition {
             return Ok(None);
         }
         let nodes = tree.children().as_slice();
-        let Some(name) = nth_name(alloc, nodes, text, file_id, 0)? else {
+        let (name, ty) = both(
+            nth_name(alloc, nodes, text, file_id, 0),
+            first(alloc, nodes, text, file_id),
+        )?;
+        let Some((name, ty)) = name.zip(ty) else {
             return Ok(None);
         };
-        let Some(ty) = first(alloc, nodes, text, file_id)? else {
-            return Ok(None);
-        };
+        let (description, default_value, directives) = all_three(
+            description(alloc, nodes, text, file_id),
+            default_value(alloc, nodes, text, file_id),
+            directives(alloc, nodes, text, file_id),
+        )?;
         Ok(Some(InputValueDefinition {
-            description: description(alloc, nodes, text, file_id)?,
+            description,
             name,
             ty,
-            default_value: default_value(alloc, nodes, text, file_id)?,
-            directives: directives(alloc, nodes, text, file_id)?,
+            default_value,
+            directives,
             location: location(file_id, tree),
         }))
     }
@@ -126,18 +150,24 @@ impl Convert for FieldDefinition {
             return Ok(None);
         }
         let nodes = tree.children().as_slice();
-        let Some(name) = nth_name(alloc, nodes, text, file_id, 0)? else {
+        let (name, ty) = both(
+            nth_name(alloc, nodes, text, file_id, 0),
+            first(alloc, nodes, text, file_id),
+        )?;
+        let Some((name, ty)) = name.zip(ty) else {
             return Ok(None);
         };
-        let Some(ty) = first(alloc, nodes, text, file_id)? else {
-            return Ok(None);
-        };
+        let (description, arguments, directives) = all_three(
+            description(alloc, nodes, text, file_id),
+            argument_definitions(alloc, nodes, text, file_id),
+            directives(alloc, nodes, text, file_id),
+        )?;
         Ok(Some(FieldDefinition {
-            description: description(alloc, nodes, text, file_id)?,
+            description,
             name,
-            arguments: argument_definitions(alloc, nodes, text, file_id)?,
+            arguments,
             ty,
-            directives: directives(alloc, nodes, text, file_id)?,
+            directives,
             location: location(file_id, tree),
         }))
     }
@@ -161,10 +191,14 @@ impl Convert for EnumValueDefinition {
         let Some(value) = nth_name(alloc, names, text, file_id, 0)? else {
             return Ok(None);
         };
+        let (description, directives) = both(
+            description(alloc, nodes, text, file_id),
+            directives(alloc, nodes, text, file_id),
+        )?;
         Ok(Some(EnumValueDefinition {
-            description: description(alloc, nodes, text, file_id)?,
+            description,
             value,
-            directives: directives(alloc, nodes, text, file_id)?,
+            directives,
             location: location(file_id, tree),
         }))
     }

@@ -6,8 +6,8 @@ ghost use Rattle.gql_ast_system.specs.Schemas as spec;
 
 use crate::field_definition::{InputValueDefinition, argument_definitions};
 use gql_ast_convert::{
-    Convert, Copying, Name, OperationType, behind, description, gather, is_of, is_word, location,
-    nth_name, word,
+    Convert, Copying, Name, OperationType, all_four, all_three, behind, description, gather, is_of,
+    is_word, location, nth_name, word,
 };
 use gql_ast_value::{Directive, directives};
 use gql_cst::{SyntaxKind, Tree};
@@ -61,10 +61,15 @@ pub enum DirectiveLocation {
 
 impl Copying for SchemaDefinition {
     fn copy(&self, alloc: Global) -> Result<SchemaDefinition, Memory> {
+        let (description, directives, root_operations) = all_three(
+            self.description.copy(alloc),
+            self.directives.copy(alloc),
+            self.root_operations.copy(alloc),
+        )?;
         Ok(SchemaDefinition {
-            description: self.description.copy(alloc)?,
-            directives: self.directives.copy(alloc)?,
-            root_operations: self.root_operations.copy(alloc)?,
+            description,
+            directives,
+            root_operations,
             location: self.location,
         })
     }
@@ -72,12 +77,18 @@ impl Copying for SchemaDefinition {
 
 impl Copying for DirectiveDefinition {
     fn copy(&self, alloc: Global) -> Result<DirectiveDefinition, Memory> {
+        let (description, name, arguments, locations) = all_four(
+            self.description.copy(alloc),
+            self.name.copy(alloc),
+            self.arguments.copy(alloc),
+            self.locations.copy(alloc),
+        )?;
         Ok(DirectiveDefinition {
-            description: self.description.copy(alloc)?,
-            name: self.name.copy(alloc)?,
-            arguments: self.arguments.copy(alloc)?,
+            description,
+            name,
+            arguments,
             repeatable: self.repeatable,
-            locations: self.locations.copy(alloc)?,
+            locations,
             location: self.location,
         })
     }
@@ -93,24 +104,16 @@ impl Copying for DirectiveLocation {
 fn executable_location(found: &str) -> Option<DirectiveLocation>
     ensures { result ≡ spec.executable_location found.now }
 {
-    if found == "QUERY" {
-        Some(DirectiveLocation::Query)
-    } else if found == "MUTATION" {
-        Some(DirectiveLocation::Mutation)
-    } else if found == "SUBSCRIPTION" {
-        Some(DirectiveLocation::Subscription)
-    } else if found == "FIELD" {
-        Some(DirectiveLocation::Field)
-    } else if found == "FRAGMENT_DEFINITION" {
-        Some(DirectiveLocation::FragmentDefinition)
-    } else if found == "FRAGMENT_SPREAD" {
-        Some(DirectiveLocation::FragmentSpread)
-    } else if found == "INLINE_FRAGMENT" {
-        Some(DirectiveLocation::InlineFragment)
-    } else if found == "VARIABLE_DEFINITION" {
-        Some(DirectiveLocation::VariableDefinition)
-    } else {
-        None
+    match found {
+        "QUERY" => Some(DirectiveLocation::Query),
+        "MUTATION" => Some(DirectiveLocation::Mutation),
+        "SUBSCRIPTION" => Some(DirectiveLocation::Subscription),
+        "FIELD" => Some(DirectiveLocation::Field),
+        "FRAGMENT_DEFINITION" => Some(DirectiveLocation::FragmentDefinition),
+        "FRAGMENT_SPREAD" => Some(DirectiveLocation::FragmentSpread),
+        "INLINE_FRAGMENT" => Some(DirectiveLocation::InlineFragment),
+        "VARIABLE_DEFINITION" => Some(DirectiveLocation::VariableDefinition),
+        _ => None,
     }
 }
 
@@ -118,18 +121,13 @@ fn executable_location(found: &str) -> Option<DirectiveLocation>
 fn output_location(found: &str) -> Option<DirectiveLocation>
     ensures { result ≡ spec.output_location found.now }
 {
-    if found == "SCHEMA" {
-        Some(DirectiveLocation::Schema)
-    } else if found == "SCALAR" {
-        Some(DirectiveLocation::Scalar)
-    } else if found == "OBJECT" {
-        Some(DirectiveLocation::Object)
-    } else if found == "FIELD_DEFINITION" {
-        Some(DirectiveLocation::FieldDefinition)
-    } else if found == "ARGUMENT_DEFINITION" {
-        Some(DirectiveLocation::ArgumentDefinition)
-    } else {
-        None
+    match found {
+        "SCHEMA" => Some(DirectiveLocation::Schema),
+        "SCALAR" => Some(DirectiveLocation::Scalar),
+        "OBJECT" => Some(DirectiveLocation::Object),
+        "FIELD_DEFINITION" => Some(DirectiveLocation::FieldDefinition),
+        "ARGUMENT_DEFINITION" => Some(DirectiveLocation::ArgumentDefinition),
+        _ => None,
     }
 }
 
@@ -137,20 +135,14 @@ fn output_location(found: &str) -> Option<DirectiveLocation>
 fn other_location(found: &str) -> Option<DirectiveLocation>
     ensures { result ≡ spec.other_location found.now }
 {
-    if found == "INTERFACE" {
-        Some(DirectiveLocation::Interface)
-    } else if found == "UNION" {
-        Some(DirectiveLocation::Union)
-    } else if found == "ENUM" {
-        Some(DirectiveLocation::Enum)
-    } else if found == "ENUM_VALUE" {
-        Some(DirectiveLocation::EnumValue)
-    } else if found == "INPUT_OBJECT" {
-        Some(DirectiveLocation::InputObject)
-    } else if found == "INPUT_FIELD_DEFINITION" {
-        Some(DirectiveLocation::InputFieldDefinition)
-    } else {
-        None
+    match found {
+        "INTERFACE" => Some(DirectiveLocation::Interface),
+        "UNION" => Some(DirectiveLocation::Union),
+        "ENUM" => Some(DirectiveLocation::Enum),
+        "ENUM_VALUE" => Some(DirectiveLocation::EnumValue),
+        "INPUT_OBJECT" => Some(DirectiveLocation::InputObject),
+        "INPUT_FIELD_DEFINITION" => Some(DirectiveLocation::InputFieldDefinition),
+        _ => None,
     }
 }
 
@@ -228,10 +220,15 @@ impl Convert for SchemaDefinition {
             return Ok(None);
         }
         let nodes = tree.children().as_slice();
+        let (description, directives, root_operations) = all_three(
+            description(alloc, nodes, text, file_id),
+            directives(alloc, nodes, text, file_id),
+            root_operations(alloc, nodes, text, file_id),
+        )?;
         Ok(Some(SchemaDefinition {
-            description: description(alloc, nodes, text, file_id)?,
-            directives: directives(alloc, nodes, text, file_id)?,
-            root_operations: root_operations(alloc, nodes, text, file_id)?,
+            description,
+            directives,
+            root_operations,
             location: location(file_id, tree),
         }))
     }
@@ -254,12 +251,17 @@ impl Convert for DirectiveDefinition {
         let Some(name) = nth_name(alloc, nodes, text, file_id, 1)? else {
             return Ok(None);
         };
+        let (description, arguments, locations) = all_three(
+            description(alloc, nodes, text, file_id),
+            argument_definitions(alloc, nodes, text, file_id),
+            directive_locations(alloc, nodes, text, file_id),
+        )?;
         Ok(Some(DirectiveDefinition {
-            description: description(alloc, nodes, text, file_id)?,
+            description,
             name,
-            arguments: argument_definitions(alloc, nodes, text, file_id)?,
+            arguments,
             repeatable: is_word(nodes, text, 2, "repeatable"),
-            locations: directive_locations(alloc, nodes, text, file_id)?,
+            locations,
             location: location(file_id, tree),
         }))
     }

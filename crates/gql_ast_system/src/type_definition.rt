@@ -8,13 +8,16 @@ use crate::field_definition::{
     EnumValueDefinition, FieldDefinition, InputValueDefinition, enum_values, fields, input_fields,
 };
 use gql_ast_convert::{
-    Convert, Copying, Name, description, inside, is_of, location, named_types, nth_name,
+    Convert, Name, all_four, all_three, both, description, inside, is_of, location, named_types,
+    nth_name,
 };
 use gql_ast_value::{Directive, directives};
 use gql_cst::{SyntaxKind, Tree};
 use gql_source::{FileId, SourceSpan};
 use jb_text::{Listed, Memory, Text};
 use std::alloc::Global;
+
+mod copying;
 
 /// A scalar type (GraphQL October 2021, section 3.5).
 #[derive(Drop)]
@@ -77,79 +80,6 @@ pub struct InputObjectTypeDefinition {
     pub location: Option<SourceSpan>,
 }
 
-impl Copying for ScalarTypeDefinition {
-    fn copy(&self, alloc: Global) -> Result<ScalarTypeDefinition, Memory> {
-        Ok(ScalarTypeDefinition {
-            description: self.description.copy(alloc)?,
-            name: self.name.copy(alloc)?,
-            directives: self.directives.copy(alloc)?,
-            location: self.location,
-        })
-    }
-}
-
-impl Copying for ObjectTypeDefinition {
-    fn copy(&self, alloc: Global) -> Result<ObjectTypeDefinition, Memory> {
-        Ok(ObjectTypeDefinition {
-            description: self.description.copy(alloc)?,
-            name: self.name.copy(alloc)?,
-            implements_interfaces: self.implements_interfaces.copy(alloc)?,
-            directives: self.directives.copy(alloc)?,
-            fields: self.fields.copy(alloc)?,
-            location: self.location,
-        })
-    }
-}
-
-impl Copying for InterfaceTypeDefinition {
-    fn copy(&self, alloc: Global) -> Result<InterfaceTypeDefinition, Memory> {
-        Ok(InterfaceTypeDefinition {
-            description: self.description.copy(alloc)?,
-            name: self.name.copy(alloc)?,
-            implements_interfaces: self.implements_interfaces.copy(alloc)?,
-            directives: self.directives.copy(alloc)?,
-            fields: self.fields.copy(alloc)?,
-            location: self.location,
-        })
-    }
-}
-
-impl Copying for UnionTypeDefinition {
-    fn copy(&self, alloc: Global) -> Result<UnionTypeDefinition, Memory> {
-        Ok(UnionTypeDefinition {
-            description: self.description.copy(alloc)?,
-            name: self.name.copy(alloc)?,
-            directives: self.directives.copy(alloc)?,
-            members: self.members.copy(alloc)?,
-            location: self.location,
-        })
-    }
-}
-
-impl Copying for EnumTypeDefinition {
-    fn copy(&self, alloc: Global) -> Result<EnumTypeDefinition, Memory> {
-        Ok(EnumTypeDefinition {
-            description: self.description.copy(alloc)?,
-            name: self.name.copy(alloc)?,
-            directives: self.directives.copy(alloc)?,
-            values: self.values.copy(alloc)?,
-            location: self.location,
-        })
-    }
-}
-
-impl Copying for InputObjectTypeDefinition {
-    fn copy(&self, alloc: Global) -> Result<InputObjectTypeDefinition, Memory> {
-        Ok(InputObjectTypeDefinition {
-            description: self.description.copy(alloc)?,
-            name: self.name.copy(alloc)?,
-            directives: self.directives.copy(alloc)?,
-            fields: self.fields.copy(alloc)?,
-            location: self.location,
-        })
-    }
-}
-
 /// The interfaces among the parts of an object type or an interface type.
 #[tactic(auto, unfolding(crate::specs::Definitions::interfaces))]
 pub(crate) fn interfaces(
@@ -205,10 +135,14 @@ impl Convert for ScalarTypeDefinition {
         let Some(name) = nth_name(alloc, nodes, text, file_id, 1)? else {
             return Ok(None);
         };
+        let (description, directives) = both(
+            description(alloc, nodes, text, file_id),
+            directives(alloc, nodes, text, file_id),
+        )?;
         Ok(Some(ScalarTypeDefinition {
-            description: description(alloc, nodes, text, file_id)?,
+            description,
             name,
-            directives: directives(alloc, nodes, text, file_id)?,
+            directives,
             location: location(file_id, tree),
         }))
     }
@@ -231,12 +165,18 @@ impl Convert for ObjectTypeDefinition {
         let Some(name) = nth_name(alloc, nodes, text, file_id, 1)? else {
             return Ok(None);
         };
+        let (description, implements_interfaces, directives, fields) = all_four(
+            description(alloc, nodes, text, file_id),
+            interfaces(alloc, nodes, text, file_id),
+            directives(alloc, nodes, text, file_id),
+            fields(alloc, nodes, text, file_id),
+        )?;
         Ok(Some(ObjectTypeDefinition {
-            description: description(alloc, nodes, text, file_id)?,
+            description,
             name,
-            implements_interfaces: interfaces(alloc, nodes, text, file_id)?,
-            directives: directives(alloc, nodes, text, file_id)?,
-            fields: fields(alloc, nodes, text, file_id)?,
+            implements_interfaces,
+            directives,
+            fields,
             location: location(file_id, tree),
         }))
     }
@@ -259,12 +199,18 @@ impl Convert for InterfaceTypeDefinition {
         let Some(name) = nth_name(alloc, nodes, text, file_id, 1)? else {
             return Ok(None);
         };
+        let (description, implements_interfaces, directives, fields) = all_four(
+            description(alloc, nodes, text, file_id),
+            interfaces(alloc, nodes, text, file_id),
+            directives(alloc, nodes, text, file_id),
+            fields(alloc, nodes, text, file_id),
+        )?;
         Ok(Some(InterfaceTypeDefinition {
-            description: description(alloc, nodes, text, file_id)?,
+            description,
             name,
-            implements_interfaces: interfaces(alloc, nodes, text, file_id)?,
-            directives: directives(alloc, nodes, text, file_id)?,
-            fields: fields(alloc, nodes, text, file_id)?,
+            implements_interfaces,
+            directives,
+            fields,
             location: location(file_id, tree),
         }))
     }
@@ -287,11 +233,16 @@ impl Convert for UnionTypeDefinition {
         let Some(name) = nth_name(alloc, nodes, text, file_id, 1)? else {
             return Ok(None);
         };
+        let (description, directives, members) = all_three(
+            description(alloc, nodes, text, file_id),
+            directives(alloc, nodes, text, file_id),
+            members(alloc, nodes, text, file_id),
+        )?;
         Ok(Some(UnionTypeDefinition {
-            description: description(alloc, nodes, text, file_id)?,
+            description,
             name,
-            directives: directives(alloc, nodes, text, file_id)?,
-            members: members(alloc, nodes, text, file_id)?,
+            directives,
+            members,
             location: location(file_id, tree),
         }))
     }
@@ -314,11 +265,16 @@ impl Convert for EnumTypeDefinition {
         let Some(name) = nth_name(alloc, nodes, text, file_id, 1)? else {
             return Ok(None);
         };
+        let (description, directives, values) = all_three(
+            description(alloc, nodes, text, file_id),
+            directives(alloc, nodes, text, file_id),
+            enum_values(alloc, nodes, text, file_id),
+        )?;
         Ok(Some(EnumTypeDefinition {
-            description: description(alloc, nodes, text, file_id)?,
+            description,
             name,
-            directives: directives(alloc, nodes, text, file_id)?,
-            values: enum_values(alloc, nodes, text, file_id)?,
+            directives,
+            values,
             location: location(file_id, tree),
         }))
     }
@@ -341,11 +297,16 @@ impl Convert for InputObjectTypeDefinition {
         let Some(name) = nth_name(alloc, nodes, text, file_id, 1)? else {
             return Ok(None);
         };
+        let (description, directives, fields) = all_three(
+            description(alloc, nodes, text, file_id),
+            directives(alloc, nodes, text, file_id),
+            input_fields(alloc, nodes, text, file_id),
+        )?;
         Ok(Some(InputObjectTypeDefinition {
-            description: description(alloc, nodes, text, file_id)?,
+            description,
             name,
-            directives: directives(alloc, nodes, text, file_id)?,
-            fields: input_fields(alloc, nodes, text, file_id)?,
+            directives,
+            fields,
             location: location(file_id, tree),
         }))
     }

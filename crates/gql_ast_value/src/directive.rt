@@ -5,7 +5,9 @@ ghost use Rattle.gql_cst.specs.Forest.{forest};
 ghost use Rattle.gql_ast_value.specs.Directives as spec;
 
 use crate::value::Value;
-use gql_ast_convert::{Convert, Copying, Name, first, gather, inside, is_of, location, nth_name};
+use gql_ast_convert::{
+    Convert, Copying, Name, both, first, gather, inside, is_of, location, nth_name,
+};
 use gql_cst::{SyntaxKind, Tree};
 use gql_source::{FileId, SourceSpan};
 use jb_text::{Listed, Memory};
@@ -29,9 +31,10 @@ pub struct Argument {
 
 impl Copying for Directive {
     fn copy(&self, alloc: Global) -> Result<Directive, Memory> {
+        let (name, arguments) = both(self.name.copy(alloc), self.arguments.copy(alloc))?;
         Ok(Directive {
-            name: self.name.copy(alloc)?,
-            arguments: self.arguments.copy(alloc)?,
+            name,
+            arguments,
             location: self.location,
         })
     }
@@ -39,9 +42,10 @@ impl Copying for Directive {
 
 impl Copying for Argument {
     fn copy(&self, alloc: Global) -> Result<Argument, Memory> {
+        let (name, value) = both(self.name.copy(alloc), self.value.copy(alloc))?;
         Ok(Argument {
-            name: self.name.copy(alloc)?,
-            value: self.value.copy(alloc)?,
+            name,
+            value,
             location: self.location,
         })
     }

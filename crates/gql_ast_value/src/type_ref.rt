@@ -38,15 +38,15 @@ fn copy_type(ty: &TypeRef, alloc: Global) -> Result<TypeRef, Memory>
     ensures { IfOk result (λ copy. copy ≡ ty.now) }
 {
     match ty {
-        TypeRef::Named(name) => Ok(TypeRef::Named(name.copy(alloc)?)),
-        TypeRef::NonNullNamed(name) => Ok(TypeRef::NonNullNamed(name.copy(alloc)?)),
+        TypeRef::Named(name) => name.copy(alloc).map(TypeRef::Named),
+        TypeRef::NonNullNamed(name) => name.copy(alloc).map(TypeRef::NonNullNamed),
         TypeRef::List(item) => {
             let item = copy_type(item.get(), alloc)?;
-            Ok(TypeRef::List(Boxed::new(alloc, item)?))
+            Boxed::new(alloc, item).map(TypeRef::List)
         }
         TypeRef::NonNullList(item) => {
             let item = copy_type(item.get(), alloc)?;
-            Ok(TypeRef::NonNullList(Boxed::new(alloc, item)?))
+            Boxed::new(alloc, item).map(TypeRef::NonNullList)
         }
     }
 }

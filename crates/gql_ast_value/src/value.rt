@@ -2,7 +2,7 @@
 
 ghost use Rattle.std.specs.Prelude.{◌≡◌, IfOk};
 
-use gql_ast_convert::{Copying, Name};
+use gql_ast_convert::{Copying, Name, both};
 use gql_source::SourceSpan;
 use jb_text::{Listed, Memory, Text};
 use std::alloc::Global;
@@ -65,14 +65,14 @@ fn copy_kind(kind: &ValueKind, alloc: Global) -> Result<ValueKind, Memory>
 {
     match kind {
         ValueKind::Null => Ok(ValueKind::Null),
-        ValueKind::Variable(name) => Ok(ValueKind::Variable(name.copy(alloc)?)),
-        ValueKind::Int(number) => Ok(ValueKind::Int(number.copy(alloc)?)),
-        ValueKind::Float(number) => Ok(ValueKind::Float(number.copy(alloc)?)),
-        ValueKind::String(text) => Ok(ValueKind::String(text.copy(alloc)?)),
+        ValueKind::Variable(name) => name.copy(alloc).map(ValueKind::Variable),
+        ValueKind::Int(number) => number.copy(alloc).map(ValueKind::Int),
+        ValueKind::Float(number) => number.copy(alloc).map(ValueKind::Float),
+        ValueKind::String(text) => text.copy(alloc).map(ValueKind::String),
         ValueKind::Boolean(truth) => Ok(ValueKind::Boolean(*truth)),
-        ValueKind::Enum(name) => Ok(ValueKind::Enum(name.copy(alloc)?)),
-        ValueKind::List(items) => Ok(ValueKind::List(copy_items(items, alloc)?)),
-        ValueKind::Object(members) => Ok(ValueKind::Object(copy_members(members, alloc)?)),
+        ValueKind::Enum(name) => name.copy(alloc).map(ValueKind::Enum),
+        ValueKind::List(items) => copy_items(items, alloc).map(ValueKind::List),
+        ValueKind::Object(members) => copy_members(members, alloc).map(ValueKind::Object),
     }
 }
 
@@ -96,8 +96,7 @@ fn copy_members(
 {
     let mut copies = Listed::new(alloc);
     for member in members.as_slice() {
-        let value = copy_value(&member.1, alloc)?;
-        copies.push((member.0.copy(alloc)?, value))?;
+        copies.push(both(member.0.copy(alloc), copy_value(&member.1, alloc))?)?;
     }
     Ok(copies)
 }

@@ -6,7 +6,9 @@ ghost use Rattle.gql_ast_convert.specs.Parts as parts;
 ghost use Rattle.gql_ast_operation.specs.Selections as spec;
 
 use super::{Field, FragmentSpread, InlineFragment, Selection};
-use gql_ast_convert::{Convert, Name, child, inside, is_of, location, named_type_in, nth_name};
+use gql_ast_convert::{
+    Convert, Name, all_three, both, child, inside, is_of, location, named_type_in, nth_name,
+};
 use gql_ast_value::{arguments, directives};
 use gql_cst::{SyntaxKind, Tree};
 use gql_source::FileId;
@@ -125,11 +127,16 @@ fn field(
     let Some(name) = nth_name(alloc, nodes, text, file_id, 0)? else {
         return Ok(None);
     };
+    let (alias, arguments, directives) = all_three(
+        alias(alloc, nodes, text, file_id),
+        arguments(alloc, nodes, text, file_id),
+        directives(alloc, nodes, text, file_id),
+    )?;
     Ok(Some(Field {
-        alias: alias(alloc, nodes, text, file_id)?,
+        alias,
         name,
-        arguments: arguments(alloc, nodes, text, file_id)?,
-        directives: directives(alloc, nodes, text, file_id)?,
+        arguments,
+        directives,
         selection_set: selections,
         location: location(file_id, tree),
     }))
@@ -153,9 +160,13 @@ fn inline_fragment(
     if child(nodes, SyntaxKind::SelectionSet).is_none() {
         return Ok(None);
     }
+    let (type_condition, directives) = both(
+        type_condition(alloc, nodes, text, file_id),
+        directives(alloc, nodes, text, file_id),
+    )?;
     Ok(Some(InlineFragment {
-        type_condition: type_condition(alloc, nodes, text, file_id)?,
-        directives: directives(alloc, nodes, text, file_id)?,
+        type_condition,
+        directives,
         selection_set: selections,
         location: location(file_id, tree),
     }))

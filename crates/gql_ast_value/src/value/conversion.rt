@@ -219,13 +219,8 @@ fn member(
     if !is_of(tree, SyntaxKind::ObjectField) {
         return Ok(None);
     }
-    let Some(value) = items.into_iter().next() else {
-        return Ok(None);
-    };
-    let Some(name) = nth_name(alloc, tree.children().as_slice(), text, file_id, 0)? else {
-        return Ok(None);
-    };
-    Ok(Some((name, value)))
+    let name = nth_name(alloc, tree.children().as_slice(), text, file_id, 0)?;
+    Ok(name.zip(items.into_iter().next()))
 }
 
 /// Adds the pair of an object with these values right below it, if the tree is one, at the end of the list.
