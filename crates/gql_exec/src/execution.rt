@@ -1,7 +1,7 @@
 //! Execution of a selection set, of a field and of a value (GraphQL, sections 6.3 and 6.4).
 
 ghost use Rattle.std.specs.Prelude.{◌≡◌, ◌++◌, [], Some, IfOk, OnOk};
-ghost use Rattle.gql_exec.specs.Meaning.{meaning_of};
+ghost use Rattle.gql_exec.specs.Meaning.{meaning_of, gives_leaf, gives_object};
 ghost use Rattle.gql_exec.specs.Selections.{selections_of};
 ghost use Rattle.gql_exec.specs.Path.{path_of};
 ghost use Rattle.gql_exec.specs.Place.{setting};
@@ -134,33 +134,55 @@ impl<'s> Execution<'s> {
             (outcome_at (setting self.now.schema.now O.type_of O.resolves) (place_in place.now (meaning_of resolved))).1) }
     {
         match resolved {
-            ResolvedValue::Leaf(value) => {
-                match leaf_misfit(self.alloc, self.schema, place.expected, &value)? {
-                    None => Ok(value),
-                    Some(message) => place.refuse(self.alloc, message, errors),
-                }
+            ResolvedValue::Leaf(value) => self.complete_leaf::<O>(place, value, errors),
+            ResolvedValue::Object(object) => self.complete_object(place, &object, errors),
+        }
+    }
+
+    /// The value of a place whose resolver gave this leaf.
+    fn complete_leaf<O: ObjectValue>(
+        &self,
+        place: &FieldPlace<'_>,
+        value: Value,
+        errors: &mut Listed<GraphQLError>,
+    ) -> Result<Value, AllocError>
+        ensures value { IfOk result (λ made. made ≡
+            (outcome_at (setting self.now.schema.now O.type_of O.resolves) (place_in place.now (gives_leaf value))).0) }
+        ensures listed { OnOk result (errors.new ≡ errors.old ++
+            (outcome_at (setting self.now.schema.now O.type_of O.resolves) (place_in place.now (gives_leaf value))).1) }
+    {
+        match leaf_misfit(self.alloc, self.schema, place.expected, &value)? {
+            None => Ok(value),
+            Some(message) => place.refuse(self.alloc, message, errors),
+        }
+    }
+
+    /// The value of a place whose resolver gave this object.
+    #[cycle(execute)]
+    fn complete_object<O: ObjectValue>(
+        &self,
+        place: &FieldPlace<'_>,
+        object: &O,
+        errors: &mut Listed<GraphQLError>,
+    ) -> Result<Value, AllocError>
+        ensures value { IfOk result (λ value. value ≡
+            (outcome_at (setting self.now.schema.now O.type_of O.resolves) (place_in place.now (gives_object object.now))).0) }
+        ensures listed { OnOk result (errors.new ≡ errors.old ++
+            (outcome_at (setting self.now.schema.now O.type_of O.resolves) (place_in place.now (gives_object object.now))).1) }
+    {
+        match fitting_object_type(self.alloc, self.schema, place.expected, object.type_name()) {
+            Ok(object_type) => {
+                let members = self.execute_selection_set(
+                    object_type,
+                    object,
+                    place.path,
+                    &place.field.selections,
+                    errors,
+                )?;
+                Ok(Value::Object(members))
             }
-            ResolvedValue::Object(object) => {
-                match fitting_object_type(
-                    self.alloc,
-                    self.schema,
-                    place.expected,
-                    object.type_name(),
-                ) {
-                    Ok(object_type) => {
-                        let members = self.execute_selection_set(
-                            object_type,
-                            &object,
-                            place.path,
-                            &place.field.selections,
-                            errors,
-                        )?;
-                        Ok(Value::Object(members))
-                    }
-                    Err(Refused::Fault(message)) => place.refuse(self.alloc, message, errors),
-                    Err(Refused::Memory) => Err(AllocError),
-                }
-            }
+            Err(Refused::Fault(message)) => place.refuse(self.alloc, message, errors),
+            Err(Refused::Memory) => Err(AllocError),
         }
     }
 }

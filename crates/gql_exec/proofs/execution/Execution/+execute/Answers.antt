@@ -18,38 +18,38 @@ use Rattle.gql_exec.proofs.Weight.{weight, within-selections, weight-field, drop
 use Rattle.gql_exec.proofs.execution.Execution.+execute.Goals as goal
 use Rattle.gql_exec.proofs.execution.Execution.+execute.Goals.{execute_selection_set-in-Some+in_ok-value+in_ok-copy+in_ok-insert_new, execute_selection_set-in_default}
 
-pub complete_value-execute_selection_set-requires : goal.complete_value-execute_selection_set-requires
-complete_value-execute_selection_set-requires g t c =
+pub complete_object-execute_selection_set-requires : goal.complete_object-execute_selection_set-requires
+complete_object-execute_selection_set-requires g t c =
     let f = c.args.place.now.field.now in
-    let smaller : 3 * weight (selections_of (out-Field f).selections) < 3 * weight (field_tree f).1 + 1 = omega (arith, ap weight (within-selections f)) in
+    let smaller : 4 * weight (selections_of (out-Field f).selections) < 4 * weight (field_tree f).1 + 1 = omega (arith, ap weight (within-selections f)) in
     search rules
 
-pub complete_value-returns-in-Ok-clause-value : goal.complete_value-returns-in-Ok-clause-value
-complete_value-returns-in-Ok-clause-value g t c =
+pub complete_object-returns-in_ok-members-in-Ok-clause-value : goal.complete_object-returns-in_ok-members-in-Ok-clause-value
+complete_object-returns-in_ok-members-in-Ok-clause-value g t c =
     let world = setting c.args.self.now.schema.now g.O.ObjectValue.type_of g.O.ObjectValue.resolves in
     let f = c.args.place.now.field.now in
-    let place = place_in c.args.place.now (gives_object c.in-Object.object) in
+    let place = place_in c.args.place.now (gives_object c.args.object.now) in
     let T = c.in-Ok.object_type.now in
     let fits = rw c.type_name.ensures at c.in-Ok.ensures in
-    let made = execute world T c.in-Object.object place.path (selections_of (out-Field f).selections) in
-    let outcome = outcome_at-object world place c.in-Object.object T (selections_of (out-Field f).selections) refl fits.0 fits.1 (within-selections f) in
-    rw c.in-Object.is (value-of_object world place made c.in_ok-members-in-Ok.members outcome c.in_ok-members-in-Ok.ensures.members)
+    let made = execute world T c.args.object.now place.path (selections_of (out-Field f).selections) in
+    let outcome = outcome_at-object world place c.args.object.now T (selections_of (out-Field f).selections) refl fits.0 fits.1 (within-selections f) in
+    (value-of_object world place made c.in_ok-members-in-Ok.members outcome c.in_ok-members-in-Ok.ensures.members)
 
-pub complete_value-returns-in-Ok-clause-listed : goal.complete_value-returns-in-Ok-clause-listed
-complete_value-returns-in-Ok-clause-listed g t c =
+pub complete_object-returns-in_ok-members-in-Ok-clause-listed : goal.complete_object-returns-in_ok-members-in-Ok-clause-listed
+complete_object-returns-in_ok-members-in-Ok-clause-listed g t c =
     let world = setting c.args.self.now.schema.now g.O.ObjectValue.type_of g.O.ObjectValue.resolves in
     let f = c.args.place.now.field.now in
-    let place = place_in c.args.place.now (gives_object c.in-Object.object) in
+    let place = place_in c.args.place.now (gives_object c.args.object.now) in
     let T = c.in-Ok.object_type.now in
     let fits = rw c.type_name.ensures at c.in-Ok.ensures in
-    let made = execute world T c.in-Object.object place.path (selections_of (out-Field f).selections) in
-    let outcome = outcome_at-object world place c.in-Object.object T (selections_of (out-Field f).selections) refl fits.0 fits.1 (within-selections f) in
-    rw c.in-Object.is (errors-of_object world place made c.args.errors.now c.execute_selection_set.new.errors outcome c.in_ok-members-in-Ok.ensures.listed)
+    let made = execute world T c.args.object.now place.path (selections_of (out-Field f).selections) in
+    let outcome = outcome_at-object world place c.args.object.now T (selections_of (out-Field f).selections) refl fits.0 fits.1 (within-selections f) in
+    (errors-of_object world place made c.args.errors.now c.execute_selection_set.new.errors outcome c.in_ok-members-in-Ok.ensures.listed)
 
 pub execute_selection_set-execute_field-requires : goal.execute_selection_set-execute_field-requires
 execute_selection_set-execute_field-requires g t c =
     let f = c.value_at.result.now in
-    let smaller : 3 * weight (field_tree f).1 + 2 < 3 * weight (selections_of c.args.selections.now) = omega (arith, weight-field c.args.selections.now c.loop-index.index f c.value_at.ensures) in
+    let smaller : 4 * weight (field_tree f).1 + 3 < 4 * weight (selections_of c.args.selections.now) = omega (arith, weight-field c.args.selections.now c.loop-index.index f c.value_at.ensures) in
     search rules
 
 pub execute_selection_set-insert_new-requires : goal.execute_selection_set-insert_new-requires

@@ -8,14 +8,17 @@ use Rattle.gql_exec.proofs.Weight.{weight}
 use Rattle.gql_exec.proofs.Steps.{IsOnTheWay}
 use Rattle.gql_exec.proofs.execution.Execution.+execute.Given as goal
 
+abbrev pub decreases-complete_object : goal.decreases-complete_object
+decreases-complete_object g l = 4 * weight (field_tree l.place.now.field.now).1 + 1
+
 abbrev pub decreases-complete_value : goal.decreases-complete_value
-decreases-complete_value g l = 3 * weight (field_tree l.place.now.field.now).1 + 1
+decreases-complete_value g l = 4 * weight (field_tree l.place.now.field.now).1 + 2
 
 abbrev pub decreases-execute_field : goal.decreases-execute_field
-decreases-execute_field g l = 3 * weight (field_tree l.place.now.field.now).1 + 2
+decreases-execute_field g l = 4 * weight (field_tree l.place.now.field.now).1 + 3
 
 abbrev pub decreases-execute_selection_set : goal.decreases-execute_selection_set
-decreases-execute_selection_set g l = 3 * weight (selections_of l.selections.now)
+decreases-execute_selection_set g l = 4 * weight (selections_of l.selections.now)
 
 abbrev pub invariant-execute_selection_set-loop-index :
     goal.invariant-execute_selection_set-loop-index
