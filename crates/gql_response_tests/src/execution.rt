@@ -70,22 +70,30 @@ fn put<V: Drop>(alloc: Global, pairs: &mut Pairs<V>, key: &str, value: V) -> Res
     }
 }
 
-/// The fields of an object type: names and types, where any other name is that of an object type.
-fn object_type(alloc: Global, name: &str, fields: &[(&str, &str)]) -> Result<ObjectType, Fail> {
+/// The type of this name, where any other than a built-in one is that of an object type.
+fn type_named(alloc: Global, name: &str) -> Result<TypeRef, Fail> {
+    match name {
+        "Int" => Ok(TypeRef::Int),
+        "String" => Ok(TypeRef::String),
+        "Boolean" => Ok(TypeRef::Boolean),
+        other => Ok(TypeRef::Object(Text::from_str(alloc, other)?)),
+    }
+}
+
+/// Fields, by their names and those of their types.
+fn typed(alloc: Global, fields: &[(&str, &str)]) -> Result<Pairs<TypeRef>, Fail> {
     let mut types = Pairs::new(alloc);
     for (field, ty) in fields {
-        let ty = match *ty {
-            "Int" => TypeRef::Int,
-            "String" => TypeRef::String,
-            "Boolean" => TypeRef::Boolean,
-            other => TypeRef::Object(Text::from_str(alloc, other)?),
-        };
-        put(alloc, &mut types, field, ty)?;
+        put(alloc, &mut types, field, type_named(alloc, ty)?)?;
     }
-    Ok(ObjectType {
-        name: Text::from_str(alloc, name)?,
-        fields: types,
-    })
+    Ok(types)
+}
+
+/// An object type with these fields.
+fn object_type(alloc: Global, name: &str, fields: &[(&str, &str)]) -> Result<ObjectType, Fail> {
+    let name = Text::from_str(alloc, name)?;
+    let fields = typed(alloc, fields)?;
+    Ok(ObjectType { name, fields })
 }
 
 /// Fields with nothing selected below them, the first in column 3 of line 1 and each two columns further.
@@ -103,16 +111,22 @@ fn selected(alloc: Global, names: &[&str]) -> Result<SelectionSet, Fail> {
     Ok(fields)
 }
 
+/// Adds an object type with these fields.
+fn put_type(
+    alloc: Global,
+    types: &mut Pairs<ObjectType>,
+    name: &str,
+    fields: &[(&str, &str)],
+) -> Result<(), Fail> {
+    let object_type = object_type(alloc, name, fields)?;
+    put(alloc, types, name, object_type)
+}
+
 /// A type `A` with a field `x: Int`, and a type `B` without fields.
 fn schema(alloc: Global) -> Result<Schema, Fail> {
     let mut types = Pairs::new(alloc);
-    put(
-        alloc,
-        &mut types,
-        "A",
-        object_type(alloc, "A", &[("x", "Int")])?,
-    )?;
-    put(alloc, &mut types, "B", object_type(alloc, "B", &[])?)?;
+    put_type(alloc, &mut types, "A", &[("x", "Int")])?;
+    put_type(alloc, &mut types, "B", &[])?;
     Ok(Schema { types })
 }
 
@@ -122,14 +136,24 @@ fn response(
     query: &ObjectType,
     selections: &SelectionSet,
     initial: &Sample,
-) -> Result<Text, Fail> {
+) -> Result<Value, Fail> {
     let schema = schema(alloc)?;
     let response = execute(alloc, &schema, query, selections, initial)?;
-    let value = response.into_value(alloc)?;
+    Ok(response.into_value(alloc)?)
+}
+
+/// That response as a text.
+fn answer_on(
+    alloc: Global,
+    query: &ObjectType,
+    selections: &SelectionSet,
+    initial: &Sample,
+) -> Result<Text, Fail> {
+    let value = response(alloc, query, selections, initial)?;
     Ok(jb_print::to_text(alloc, &value)?)
 }
 
-/// The response of the selections on an object that is executed on `Query`, which has these fields.
+/// The text where the object is executed on `Query`, which has these fields.
 fn answer(
     alloc: Global,
     fields: &[(&str, &str)],
@@ -137,24 +161,39 @@ fn answer(
     initial: &Sample,
 ) -> Result<Text, Fail> {
     let query = object_type(alloc, "Query", fields)?;
-    response(alloc, &query, selections, initial)
+    answer_on(alloc, &query, selections, initial)
+}
+
+/// The same, where keys with nothing selected below them are selected.
+fn answer_keys(
+    alloc: Global,
+    fields: &[(&str, &str)],
+    keys: &[&str],
+    initial: &Sample,
+) -> Result<Text, Fail> {
+    let selections = selected(alloc, keys)?;
+    answer(alloc, fields, &selections, initial)
 }
 
 /// `{ b a { y x } }`
 fn nested(alloc: Global) -> Result<SelectionSet, Fail> {
+    let mut selections = selected(alloc, &["b"])?;
     let object = Field {
         location: LineColumn { line: 1, column: 5 },
         selections: selected(alloc, &["y", "x"])?,
     };
-    let mut selections = selected(alloc, &["b"])?;
     put(alloc, &mut selections, "a", object)?;
     Ok(selections)
 }
 
+fn answer_nested(alloc: Global) -> Result<Text, Fail> {
+    let selections = nested(alloc)?;
+    answer(alloc, &[("a", "A")], &selections, &Sample::Holder)
+}
+
 #[test]
 fn a_fault_below_an_object(rt: HostRuntime) -> Result<(), Fail> {
-    let selections = nested(rt.alloc())?;
-    let text = answer(rt.alloc(), &[("a", "A")], &selections, &Sample::Holder)?;
+    let text = answer_nested(rt.alloc())?;
     assert_eq!(rt;
         text.as_str(),
         "{\"errors\":[{\"message\":\"resolver returned \\\"no\\\", expected Int\",\"locations\":[{\"line\":1,\"column\":5}],\"path\":[\"a\",\"x\"]}],\"data\":{\"a\":{\"x\":null}}}"
@@ -163,7 +202,9 @@ fn a_fault_below_an_object(rt: HostRuntime) -> Result<(), Fail> {
 }
 
 /// What resolves, the type of its field, and what is said of it: the value, or the message of its fault.
-const CASES: [(Sample, &str, Result<&str, &str>); 13] = [
+type Case = (Sample, &'static str, Result<&'static str, &'static str>);
+
+const CASES: &[Case] = &[
     (Sample::Seven, "Int", Ok("7")),
     (Sample::Word, "String", Ok("\"no\"")),
     (Sample::Nothing, "Int", Ok("null")),
@@ -205,8 +246,7 @@ const CASES: [(Sample, &str, Result<&str, &str>); 13] = [
 
 /// The response where a field `f` of this type is selected on the object.
 fn answer_alone(alloc: Global, initial: &Sample, ty: &str) -> Result<Text, Fail> {
-    let selections = selected(alloc, &["f"])?;
-    answer(alloc, &[("f", ty)], &selections, initial)
+    answer_keys(alloc, &[("f", ty)], &["f"], initial)
 }
 
 /// The response that says this of `f`.
@@ -219,21 +259,29 @@ fn saying(alloc: Global, said: Result<&str, &str>) -> Result<String, Fail> {
     }
 }
 
+/// The response in a case, and the one that says what is said there.
+fn found_and_said(alloc: Global, case: &Case) -> Result<(Text, String), Fail> {
+    let (initial, ty, said) = case;
+    let found = answer_alone(alloc, initial, ty)?;
+    Ok((found, saying(alloc, *said)?))
+}
+
 #[test]
 fn each_fit_and_misfit(rt: HostRuntime) -> Result<(), Fail> {
-    for (initial, ty, said) in CASES {
-        let text = answer_alone(rt.alloc(), &initial, ty)?;
-        assert_eq!(rt; text.as_str(), saying(rt.alloc(), said)?.as_str());
+    for case in CASES {
+        let (found, said) = found_and_said(rt.alloc(), case)?;
+        assert_eq!(rt; found.as_str(), said.as_str());
     }
     Ok(())
 }
 
+const NUMBERS: &[(&str, &str)] = &[("a", "Int"), ("b", "Int"), ("c", "Int")];
+
+const KEYS: &[&str] = &["c", "absent", "a", "b"];
+
 #[test]
 fn keys_in_the_order_of_the_document(rt: HostRuntime) -> Result<(), Fail> {
-    let alloc = rt.alloc();
-    let fields = [("a", "Int"), ("b", "Int"), ("c", "Int")];
-    let selections = selected(alloc, &["c", "absent", "a", "b"])?;
-    let text = answer(alloc, &fields, &selections, &Sample::Seven)?;
+    let text = answer_keys(rt.alloc(), NUMBERS, KEYS, &Sample::Seven)?;
     assert_eq!(rt; text.as_str(), "{\"data\":{\"c\":7,\"a\":7,\"b\":7}}");
     Ok(())
 }

@@ -16,25 +16,38 @@ fn name(alloc: Global, text: &str, offset: usize) -> Result<Name, Fail> {
     Ok(name.with_location(SourceSpan::new(FileId::NONE, offset, offset)))
 }
 
-/// `type NAME { a: Int }`
-fn defined(alloc: Global, type_name: &str) -> Result<Definition, Fail> {
-    let mut fields = Listed::new(alloc);
-    fields.push(FieldDefinition {
+/// `a: Int`
+fn number_field(alloc: Global) -> Result<FieldDefinition, Fail> {
+    let field_name = name(alloc, "a", 0)?;
+    let type_name = name(alloc, "Int", 0)?;
+    Ok(FieldDefinition {
         description: None,
-        name: name(alloc, "a", 0)?,
+        name: field_name,
         arguments: Listed::new(alloc),
-        ty: TypeRef::Named(name(alloc, "Int", 0)?),
+        ty: TypeRef::Named(type_name),
         directives: Listed::new(alloc),
         location: None,
-    })?;
-    Ok(Definition::ObjectTypeDefinition(ObjectTypeDefinition {
+    })
+}
+
+/// Adds `type NAME { a: Int }`.
+fn define(
+    alloc: Global,
+    definitions: &mut Listed<Definition>,
+    type_name: &str,
+) -> Result<(), Fail> {
+    let name = name(alloc, type_name, 0)?;
+    let mut fields = Listed::new(alloc);
+    fields.push(number_field(alloc)?)?;
+    definitions.push(Definition::ObjectTypeDefinition(ObjectTypeDefinition {
         description: None,
-        name: name(alloc, type_name, 0)?,
+        name,
         implements_interfaces: Listed::new(alloc),
         directives: Listed::new(alloc),
         fields,
         location: None,
-    }))
+    }))?;
+    Ok(())
 }
 
 /// The selection of a field at an offset.
@@ -49,12 +62,18 @@ fn field(alloc: Global, offset: usize) -> Result<Selection, Fail> {
     }))
 }
 
+/// So many selections of the same field.
+fn repeated(alloc: Global, count: usize) -> Result<Listed<Selection>, Fail> {
+    let mut selections = Listed::new(alloc);
+    for _ in 0..count {
+        selections.push(field(alloc, 3)?)?;
+    }
+    Ok(selections)
+}
+
 /// A query of so many selections of the same field.
 fn query(alloc: Global, count: usize) -> Result<Listed<Definition>, Fail> {
-    let mut selection_set = Listed::new(alloc);
-    for _ in 0..count {
-        selection_set.push(field(alloc, 3)?)?;
-    }
+    let selection_set = repeated(alloc, count)?;
     let mut definitions = Listed::new(alloc);
     definitions.push(Definition::OperationDefinition(OperationDefinition {
         operation_type: OperationType::Query,
@@ -67,13 +86,18 @@ fn query(alloc: Global, count: usize) -> Result<Listed<Definition>, Fail> {
     Ok(definitions)
 }
 
-/// The schema of `type Query { a: Int }` and, behind it, of a type with this name.
-fn schema(alloc: Global, behind: Option<&str>) -> Result<Option<Schema>, Fail> {
+/// A type `{ a: Int }` of each of these names.
+fn defined(alloc: Global, type_names: &[&str]) -> Result<Listed<Definition>, Fail> {
     let mut definitions = Listed::new(alloc);
-    definitions.push(defined(alloc, "Query")?)?;
-    if let Some(type_name) = behind {
-        definitions.push(defined(alloc, type_name)?)?;
+    for type_name in type_names {
+        define(alloc, &mut definitions, type_name)?;
     }
+    Ok(definitions)
+}
+
+/// The schema of these types.
+fn schema(alloc: Global, type_names: &[&str]) -> Result<Option<Schema>, Fail> {
+    let definitions = defined(alloc, type_names)?;
     made(plain_schema(alloc, &definitions))
 }
 
@@ -87,25 +111,44 @@ fn made<T: Drop>(outcome: Result<T, Refused<NotPlain>>) -> Result<Option<T>, Fai
 }
 
 /// The selections of a query of so many selections of the same field, at the end of `{\n a }`.
-fn selections(alloc: Global, count: usize) -> Result<Option<SelectionSet>, Fail> {
-    let schema = schema(alloc, None)?.ok_or("no schema")?;
-    let definitions = query(alloc, count)?;
+fn selections(alloc: Global, schema: &Schema, count: usize) -> Result<Option<SelectionSet>, Fail> {
     let root_type = schema.get_object("Query").ok_or("no Query")?;
-    made(plain_query(alloc, &schema, root_type, &definitions, "{\n a }"))
+    let definitions = query(alloc, count)?;
+    made(plain_query(alloc, schema, root_type, &definitions, "{\n a }"))
+}
+
+/// Whether a query of so many selections of the same field is plain, and then where the field stands.
+fn place(alloc: Global, count: usize) -> Result<Option<LineColumn>, Fail> {
+    let schema = schema(alloc, &["Query"])?.ok_or("no schema")?;
+    let selections = selections(alloc, &schema, count)?;
+    Ok(selections.as_ref().and_then(place_of))
+}
+
+fn place_of(selections: &SelectionSet) -> Option<LineColumn> {
+    let field = selections.get("a")?;
+    Some(field.location)
+}
+
+/// Whether these types are plain.
+fn is_schema(alloc: Global, type_names: &[&str]) -> Result<bool, Fail> {
+    Ok(schema(alloc, type_names)?.is_some())
 }
 
 #[test]
 fn one_field(rt: HostRuntime) -> Result<(), Fail> {
-    let set = selections(rt.alloc(), 1)?.ok_or("no query")?;
-    let found = set.get("a").ok_or("no field")?;
-    assert_eq!(rt; found.location, LineColumn { line: 2, column: 2 });
+    let place = place(rt.alloc(), 1)?;
+    assert_eq!(rt; place, Some(LineColumn { line: 2, column: 2 }));
     Ok(())
 }
 
 #[test]
 fn a_field_twice_and_a_type_of_a_built_in_name_are_not_plain(rt: HostRuntime) -> Result<(), Fail> {
-    assert!(rt; selections(rt.alloc(), 2)?.is_none());
-    assert!(rt; schema(rt.alloc(), Some("A"))?.is_some());
-    assert!(rt; schema(rt.alloc(), Some("ID"))?.is_none());
+    let is_twice_plain = place(rt.alloc(), 2)?.is_some();
+    let is_own_plain = is_schema(rt.alloc(), &["Query", "A"])?;
+    let is_built_in_plain = is_schema(rt.alloc(), &["Query", "ID"])?;
+    assert_eq!(rt;
+        (is_twice_plain, is_own_plain, is_built_in_plain),
+        (false, true, false)
+    );
     Ok(())
 }

@@ -22,31 +22,39 @@ fn outcome(
     words: &[&str],
     input: &'static [u8],
 ) -> Result<(u8, Vec<u8>, usize), Fail> {
-    let words = words_of(alloc, words)?;
     let mut source = SureSource::new(Bytes::from_static(input), 1);
-    let mut sink = SureSink::new(alloc, 100)?;
-    let status = run_in_memory(alloc, words.as_slice(), &mut source, &mut sink);
+    let (status, written) = served(alloc, words, &mut source)?;
     let left = read_to_end(alloc, &mut source)?.len();
-    Ok((status, sink.written().to_vec(alloc)?, left))
+    Ok((status, written, left))
 }
+
+/// The status for these words over a source, and what was written.
+fn served(alloc: Global, words: &[&str], source: &mut SureSource) -> Result<(u8, Vec<u8>), Fail> {
+    let words = words_of(alloc, words)?;
+    let mut sink = SureSink::new(alloc, 100)?;
+    let status = run_in_memory(alloc, words.as_slice(), source, &mut sink);
+    Ok((status, sink.written().to_vec(alloc)?))
+}
+
+/// Words that are no command.
+const MISTAKEN: &[&[&str]] = &[
+    &[],
+    &["answers"],
+    &["Answer"],
+    &["answer", "answer"],
+    &["", "answer"],
+];
+
+const USAGE: &[u8] = b"usage: gql_program answer\n";
 
 #[test]
 fn words_that_are_no_command_get_the_usage_line(rt: HostRuntime) -> Result<(), Fail> {
-    let rows: [&[&str]; 5] = [
-        &[],
-        &["answers"],
-        &["Answer"],
-        &["answer", "answer"],
-        &["", "answer"],
-    ];
-    for row in rows {
-        let (status, written, left) = outcome(rt.alloc(), row, b"{}")?;
-        assert_eq!(rt; status, 2, "{row:?}");
+    for words in MISTAKEN {
+        let (status, written, left) = outcome(rt.alloc(), words, b"{}")?;
         assert_eq!(rt;
-            written.as_slice(),
-            b"usage: gql_program answer\n".as_slice()
+            (*words, status, written.as_slice(), left),
+            (*words, 2, USAGE, 2)
         );
-        assert_eq!(rt; left, 2);
     }
     Ok(())
 }
@@ -54,22 +62,21 @@ fn words_that_are_no_command_get_the_usage_line(rt: HostRuntime) -> Result<(), F
 #[test]
 fn a_request_gets_one_line(rt: HostRuntime) -> Result<(), Fail> {
     let (status, written, left) = outcome(rt.alloc(), &["answer"], b"{}")?;
-    assert_eq!(rt; status, 1);
     let line = b"{\"errors\":[{\"message\":\"request: member `schema` is missing\"}]}\n";
-    assert_eq!(rt; written.as_slice(), line.as_slice());
-    assert_eq!(rt; left, 0);
+    assert_eq!(rt; (status, written.as_slice(), left), (1, line.as_slice(), 0));
     Ok(())
+}
+
+fn spaces(alloc: Global, count: usize) -> Result<Bytes, Fail> {
+    Ok(Bytes::from_vec(vec![in alloc; b' '; count]?)?)
 }
 
 #[test]
 fn one_byte_too_many_is_refused(rt: HostRuntime) -> Result<(), Fail> {
-    let words = words_of(rt.alloc(), &["answer"])?;
-    let spaces = Bytes::from_vec(vec![in rt.alloc(); b' '; INPUT_LIMIT + 1]?)?;
+    let spaces = spaces(rt.alloc(), INPUT_LIMIT + 1)?;
     let mut source = SureSource::new(spaces, 65_536);
-    let mut sink = SureSink::new(rt.alloc(), 64)?;
-    let status = run_in_memory(rt.alloc(), words.as_slice(), &mut source, &mut sink);
-    assert_eq!(rt; status, 6);
-    assert_eq!(rt; sink.written(), b"".as_slice());
+    let (status, written) = served(rt.alloc(), &["answer"], &mut source)?;
+    assert_eq!(rt; (status, written.len()), (6, 0));
     Ok(())
 }
 

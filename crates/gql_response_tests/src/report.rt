@@ -26,16 +26,21 @@ fn sources(alloc: Global) -> Result<SourceMap, AllocError> {
     Ok(sources)
 }
 
+fn filled(alloc: Global, sources: &SourceMap) -> Result<CliReport<'_>, AllocError> {
+    let mut report = CliReport::builder(alloc, sources, None);
+    fill(&mut report)?;
+    Ok(report)
+}
+
 #[test]
 fn a_report_is_its_lines(rt: HostRuntime) -> Result<(), Fail> {
-    let sources = sources(rt.alloc())?;
-    let mut report = CliReport::builder(rt.alloc(), &sources, None);
-    fill(&mut report)?;
     let mut sink = SureSink::new(rt.alloc(), 64)?;
-    report.write(rt.alloc(), &mut sink).ok().ok_or("refused")?;
+    let sources = sources(rt.alloc())?;
+    let report = filled(rt.alloc(), &sources)?;
+    let is_written = report.write(rt.alloc(), &mut sink).is_ok();
     assert_eq!(rt;
-        sink.written(),
-        b"Error: m\np:1:1: l\nHelp: h\nNote: n\n".as_slice()
+        (is_written, sink.written()),
+        (true, b"Error: m\np:1:1: l\nHelp: h\nNote: n\n".as_slice())
     );
     Ok(())
 }
@@ -49,19 +54,33 @@ fn an_empty_report_has_an_empty_message(rt: HostRuntime) -> Result<(), Fail> {
     Ok(())
 }
 
-#[test]
-fn a_refused_report_answers_that_from_then_on(rt: HostRuntime) -> Result<(), Fail> {
-    let sources = SourceMap::new(rt.alloc());
-    let mut report = CliReport::builder(rt.alloc(), &sources, None);
+/// A report that was refused after its first message.
+fn refused(alloc: Global, sources: &SourceMap) -> Result<CliReport<'_>, AllocError> {
+    let mut report = CliReport::builder(alloc, sources, None);
     report.with_message("m")?;
     let _alloc = report.allocator();
     report.refuse();
-    assert!(rt; report.with_message("m").is_err());
-    assert!(rt; report.with_help("h").is_err());
-    assert!(rt; report.with_note("n").is_err());
-    assert!(rt; report.with_label_opt(None, "l").is_err());
+    Ok(report)
+}
+
+/// Whether each call that adds to a report is refused.
+fn refuses_each(report: &mut CliReport<'_>) -> bool {
+    report.with_message("m").is_err()
+        && report.with_help("h").is_err()
+        && report.with_note("n").is_err()
+        && report.with_label_opt(None, "l").is_err()
+}
+
+#[test]
+fn a_refused_report_answers_that_from_then_on(rt: HostRuntime) -> Result<(), Fail> {
     let mut sink = SureSink::new(rt.alloc(), 64)?;
-    assert!(rt; report.write(rt.alloc(), &mut sink).is_err());
-    assert_eq!(rt; sink.written(), b"".as_slice());
+    let sources = SourceMap::new(rt.alloc());
+    let mut report = refused(rt.alloc(), &sources)?;
+    let is_refused = refuses_each(&mut report);
+    let is_written = report.write(rt.alloc(), &mut sink).is_ok();
+    assert_eq!(rt;
+        (is_refused, is_written, sink.written()),
+        (true, false, b"".as_slice())
+    );
     Ok(())
 }

@@ -2,23 +2,32 @@
 use bytes::Bytes;
 use gql_engine::{AnswerError, DataObject, UnbuiltPart, VariablesFault, answer, run_in_memory};
 use jb_io::{SureSink, SureSource, from_bytes_whole};
+use jb_tree::Value;
 use std::alloc::Global;
 use std::test::Fail;
 
-/// What the program answers to these bytes: its status, and the line without its LF.
-fn reply(alloc: Global, request: &'static str) -> Result<(u8, String), Fail> {
-    let mut words = Vec::new(alloc);
-    words.push(String::from_str(alloc, "answer")?)?;
+/// What the program answers to these bytes: its status, and what it writes.
+fn reply(alloc: Global, request: &'static str) -> Result<(u8, Vec<u8>), Fail> {
     let mut source = SureSource::new(Bytes::from_static(request.as_bytes()), 7);
     let mut sink = SureSink::new(alloc, 4096)?;
-    let status = run_in_memory(alloc, words.as_slice(), &mut source, &mut sink);
-    let written = String::from_utf8(sink.written().to_vec(alloc)?).map_err(|_| "no text")?;
-    let line = written.as_str().strip_suffix('\n').ok_or("no LF")?;
-    Ok((status, String::from_str(alloc, line)?))
+    let status = status_of(alloc, &mut source, &mut sink)?;
+    Ok((status, sink.written().to_vec(alloc)?))
+}
+
+/// The status of the program over a source and a sink.
+fn status_of(alloc: Global, source: &mut SureSource, sink: &mut SureSink) -> Result<u8, Fail> {
+    let mut words = Vec::new(alloc);
+    words.push(String::from_str(alloc, "answer")?)?;
+    Ok(run_in_memory(alloc, words.as_slice(), source, sink))
+}
+
+/// The one line that was written, without its LF.
+fn line_of(written: &[u8]) -> Option<&str> {
+    str::from_utf8(written).ok()?.strip_suffix('\n')
 }
 
 /// Requests, and the status and the line that they get.
-const REQUESTS: [(&str, u8, &str); 17] = [
+const REQUESTS: &[(&str, u8, &str)] = &[
     (
         r#"{"schema":"type Query { a: A } type A { x: Int }","query":"{ a { x } }","data":{"a":{"x":7}}}"#,
         0,
@@ -109,9 +118,11 @@ const REQUESTS: [(&str, u8, &str); 17] = [
 #[test]
 fn requests_get_their_replies(rt: HostRuntime) -> Result<(), Fail> {
     for (request, status, line) in REQUESTS {
-        let (found_status, found_line) = reply(rt.alloc(), request)?;
-        assert_eq!(rt; found_line.as_str(), line);
-        assert_eq!(rt; found_status, status);
+        let (found_status, written) = reply(rt.alloc(), request)?;
+        assert_eq!(rt;
+            (found_status, line_of(written.as_slice())),
+            (*status, Some(*line))
+        );
     }
     Ok(())
 }
@@ -123,6 +134,16 @@ fn answered(
     variables: &'static [u8],
 ) -> Option<Result<Bytes, AnswerError>> {
     let data = from_bytes_whole(alloc, &Bytes::from_static(br#"{"a":"b"}"#)).ok()?;
+    answered_on(alloc, &data, operation_name, variables)
+}
+
+/// The same of a resolver with these members.
+fn answered_on(
+    alloc: Global,
+    data: &Value,
+    operation_name: Option<&str>,
+    variables: &'static [u8],
+) -> Option<Result<Bytes, AnswerError>> {
     let root = DataObject::root(data.as_object()?);
     let variables = Bytes::from_static(variables);
     let schema = "type Query { a: String }";
@@ -137,20 +158,32 @@ fn answered(
     ))
 }
 
+/// What is answered without a name of an operation and without variables.
+fn bytes_answered(alloc: Global) -> Option<Bytes> {
+    answered(alloc, None, b"{}")?.ok()
+}
+
 #[test]
 fn a_resolver_is_answered(rt: HostRuntime) -> Result<(), Fail> {
-    let bytes = answered(rt.alloc(), None, b"{}").ok_or("no data")?;
-    assert_eq!(rt;
-        bytes.ok().ok_or("no answer")?.as_slice(),
-        br#"{"data":{"a":"b"}}"#.as_slice()
-    );
-    let list = answered(rt.alloc(), None, b"[]").ok_or("no data")?;
-    assert_eq!(rt;
-        list.err(),
-        Some(AnswerError::Variables(VariablesFault::NotObject))
-    );
-    let named = answered(rt.alloc(), Some("A"), b"{}").ok_or("no data")?;
-    let part = UnbuiltPart::Options;
-    assert_eq!(rt; named.err(), Some(AnswerError::Unbuilt { part }));
+    let bytes = bytes_answered(rt.alloc()).ok_or("no answer")?;
+    assert_eq!(rt; bytes.as_slice(), br#"{"data":{"a":"b"}}"#.as_slice());
     Ok(())
+}
+
+/// Why a resolver is not answered.
+fn refusal(
+    alloc: Global,
+    operation_name: Option<&str>,
+    variables: &'static [u8],
+) -> Option<AnswerError> {
+    answered(alloc, operation_name, variables)?.err()
+}
+
+#[test]
+fn options_that_do_not_fit_are_refused(rt: HostRuntime) {
+    let list = AnswerError::Variables(VariablesFault::NotObject);
+    assert_eq!(rt; refusal(rt.alloc(), None, b"[]"), Some(list));
+    let part = UnbuiltPart::Options;
+    let named = AnswerError::Unbuilt { part };
+    assert_eq!(rt; refusal(rt.alloc(), Some("A"), b"{}"), Some(named));
 }

@@ -37,38 +37,58 @@ fn diagnostic(alloc: Global, rule: Rule, names: &[&str]) -> Result<DiagnosticDat
     })
 }
 
-fn message_of(alloc: Global, rule: Rule, names: &[&str]) -> Result<Text, Memory> {
-    let item = diagnostic(alloc, rule, names)?;
-    item.message(alloc)
-}
-
 /// What the reference implementation says, or the empty text.
-fn compat_of(alloc: Global, rule: Rule, names: &[&str]) -> Result<Text, Memory> {
-    let item = diagnostic(alloc, rule, names)?;
+fn compat_of(alloc: Global, item: &DiagnosticData) -> Result<Text, Memory> {
     match item.unstable_compat_message(alloc)? {
         Some(compat) => Ok(compat),
         None => Text::from_str(alloc, ""),
     }
 }
 
+/// The message, and what the reference implementation says or the empty text.
+fn both_of(alloc: Global, item: &DiagnosticData) -> Result<(Text, Text), Memory> {
+    let message = item.message(alloc)?;
+    Ok((message, compat_of(alloc, item)?))
+}
+
+/// What is told of a rule that is broken by these names, in both ways.
+fn messages(alloc: Global, rule: Rule, names: &[&str]) -> Result<(Text, Text), Memory> {
+    let item = diagnostic(alloc, rule, names)?;
+    both_of(alloc, &item)
+}
+
+/// Each rule, its message, and what the reference implementation says or the empty text.
+const TABLES: [&[(Rule, &str, &str)]; 8] = [
+    &build_rules::SCHEMAS,
+    &build_rules::DOCUMENTS,
+    &document_rules::VALUES,
+    &document_rules::FRAGMENTS,
+    &document_rules::VARIABLES_AND_FIELDS,
+    &shared_rules::USES,
+    &shared_rules::TYPES,
+    &shared_rules::DEFINITIONS,
+];
+
+const NAMES: [&str; 6] = ["A", "b", "c", "d", "E", "F"];
+
+/// The name of the first rule of a table that is told otherwise.
+fn told_otherwise(
+    alloc: Global,
+    rows: &[(Rule, &str, &str)],
+) -> Result<Option<&'static str>, Memory> {
+    for (rule, message, compat) in rows {
+        let (found, found_compat) = messages(alloc, *rule, &NAMES)?;
+        if found.as_str() != *message || found_compat.as_str() != *compat {
+            return Ok(Some(rule.name()));
+        }
+    }
+    Ok(None)
+}
+
 #[test]
 fn each_rule_has_its_messages(rt: HostRuntime) -> Result<(), Fail> {
-    let tables: [&[(Rule, &str, &str)]; 8] = [
-        &build_rules::SCHEMAS,
-        &build_rules::DOCUMENTS,
-        &document_rules::VALUES,
-        &document_rules::FRAGMENTS,
-        &document_rules::VARIABLES_AND_FIELDS,
-        &shared_rules::USES,
-        &shared_rules::TYPES,
-        &shared_rules::DEFINITIONS,
-    ];
-    let names = ["A", "b", "c", "d", "E", "F"];
-    for rows in tables {
-        for (rule, message, compat) in rows {
-            assert_eq!(rt; message_of(rt.alloc(), *rule, &names)?.as_str(), *message);
-            assert_eq!(rt; compat_of(rt.alloc(), *rule, &names)?.as_str(), *compat);
-        }
+    for rows in &TABLES {
+        assert_eq!(rt; told_otherwise(rt.alloc(), rows)?, None);
     }
     Ok(())
 }
@@ -112,10 +132,16 @@ const LACKING_NAMES: [(Rule, &[&str], &str); 7] = [
     ),
 ];
 
+fn compat_message(alloc: Global, rule: Rule, names: &[&str]) -> Result<Text, Memory> {
+    let item = diagnostic(alloc, rule, names)?;
+    compat_of(alloc, &item)
+}
+
 #[test]
 fn lacking_names_are_told_in_words_of_their_own(rt: HostRuntime) -> Result<(), Fail> {
-    for (rule, names, compat) in LACKING_NAMES {
-        assert_eq!(rt; compat_of(rt.alloc(), rule, names)?.as_str(), compat);
+    for (rule, names, compat) in &LACKING_NAMES {
+        let found = compat_message(rt.alloc(), *rule, names)?;
+        assert_eq!(rt; found.as_str(), *compat);
     }
     Ok(())
 }
@@ -136,14 +162,10 @@ fn add_compat(lines: &mut String, alloc: Global, item: &DiagnosticData) -> Resul
 
 /// What is told of a diagnostic, in lines: its message, what the reference implementation says, the name of the error,
 /// the label, and the name of the broken rule. A `-` stands for what there is not.
-fn told(alloc: Global, details: Details) -> Result<String, Memory> {
-    let item = DiagnosticData {
-        location: None,
-        details,
-    };
+fn lines_of(alloc: Global, item: &DiagnosticData) -> Result<String, Memory> {
     let mut lines = String::new(alloc);
     add(&mut lines, item.message(alloc)?.as_str())?;
-    add_compat(&mut lines, alloc, &item)?;
+    add_compat(&mut lines, alloc, item)?;
     add(&mut lines, item.unstable_error_name().unwrap_or("-"))?;
     add(&mut lines, item.details.label(alloc)?.as_str())?;
     add(
@@ -153,43 +175,72 @@ fn told(alloc: Global, details: Details) -> Result<String, Memory> {
     Ok(lines)
 }
 
+fn told(alloc: Global, details: Details) -> Result<String, Memory> {
+    let item = DiagnosticData {
+        location: None,
+        details,
+    };
+    lines_of(alloc, &item)
+}
+
+fn told_limit(alloc: Global, message: &str) -> Result<String, Memory> {
+    let message = Text::from_str(alloc, message)?;
+    told(alloc, Details::ParserLimit { message })
+}
+
+fn told_syntax(alloc: Global, message: &str) -> Result<String, Memory> {
+    let message = Text::from_str(alloc, message)?;
+    told(alloc, Details::SyntaxError { message })
+}
+
+/// What is told of each kind that breaks no rule, one behind the other.
+fn told_without_rule(alloc: Global) -> Result<String, Memory> {
+    let mut all = told_limit(alloc, "too many tokens")?;
+    all.push_str(told_syntax(alloc, "expected a name")?.as_str())?;
+    all.push_str(told(alloc, Details::RecursionLimitError)?.as_str())?;
+    Ok(all)
+}
+
 #[test]
 fn what_breaks_no_rule_is_told_too(rt: HostRuntime) -> Result<(), Fail> {
-    let limit = Details::ParserLimit {
-        message: Text::from_str(rt.alloc(), "too many tokens")?,
-    };
+    let all = told_without_rule(rt.alloc())?;
     assert_eq!(rt;
-        told(rt.alloc(), limit)?.as_str(),
-        "too many tokens\n-\n-\nhere\n-\n"
-    );
-    let syntax = Details::SyntaxError {
-        message: Text::from_str(rt.alloc(), "expected a name")?,
-    };
-    assert_eq!(rt;
-        told(rt.alloc(), syntax)?.as_str(),
-        "syntax error: expected a name\n-\n-\nhere\n-\n"
-    );
-    assert_eq!(rt;
-        told(rt.alloc(), Details::RecursionLimitError)?.as_str(),
-        "too much recursion\n-\nRecursionLimitError\nhere\n-\n"
+        all.as_str(),
+        "too many tokens\n-\n-\nhere\n-\nsyntax error: expected a name\n-\n-\nhere\n-\ntoo much recursion\n-\nRecursionLimitError\nhere\n-\n"
     );
     Ok(())
 }
 
+/// What is told of a rule that is broken in a document.
+fn told_in_document(alloc: Global, rule: Rule, names: &[&str]) -> Result<String, Memory> {
+    let fault = broken(alloc, rule, names, None)?;
+    told(alloc, Details::ExecutableBuildError(fault))
+}
+
+/// What is told of a rule that is broken in a schema.
+fn told_in_schema(alloc: Global, rule: Rule, names: &[&str]) -> Result<String, Memory> {
+    let fault = broken(alloc, rule, names, None)?;
+    told(alloc, Details::SchemaBuildError(fault))
+}
+
+/// The other place of a rule that is broken in a document, where it has this one.
+fn other_place(alloc: Global, other: SourceSpan) -> Result<Option<SourceSpan>, Memory> {
+    let fault = broken(alloc, Rule::UndefinedRootOperation, &[], Some(other))?;
+    Ok(Details::ExecutableBuildError(fault).other())
+}
+
 #[test]
 fn a_broken_rule_has_a_name_a_label_and_another_place(rt: HostRuntime) -> Result<(), Fail> {
-    let other = Some(SourceSpan::new(FileId { number: 1 }, 3, 4));
-    let rule = Rule::UndefinedRootOperation;
-    let document = Details::ExecutableBuildError(broken(rt.alloc(), rule, &["mutation"], other)?);
-    assert!(rt; document.other() == other);
+    let other = SourceSpan::new(FileId { number: 1 }, 3, 4);
+    assert_eq!(rt; other_place(rt.alloc(), other)?, Some(other));
+    let document = told_in_document(rt.alloc(), Rule::UndefinedRootOperation, &["mutation"])?;
     assert_eq!(rt;
-        told(rt.alloc(), document)?.as_str(),
+        document.as_str(),
         "`mutation` root operation type is not defined\nThe schema has no \"mutation\" root type defined\nUndefinedRootOperation\n`mutation` is not defined in the schema and is therefore not supported\nUndefinedRootOperation\n"
     );
-    let rule = Rule::UndefinedField;
-    let schema = Details::SchemaBuildError(broken(rt.alloc(), rule, &["Query", "g"], None)?);
+    let schema = told_in_schema(rt.alloc(), Rule::UndefinedField, &["Query", "g"])?;
     assert_eq!(rt;
-        told(rt.alloc(), schema)?.as_str(),
+        schema.as_str(),
         "type `Query` does not have a field `g`\n-\n-\nhere\nUndefinedField\n"
     );
     Ok(())

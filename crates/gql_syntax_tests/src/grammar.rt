@@ -1,40 +1,46 @@
 //! Words of names and signs, and each public call once.
 
 use gql_cst_grammar::{Rule, Symbol, SyntaxKind, Terminal, Word, laws};
-use std::test::Fail;
 
-#[test]
-fn words_of_tokens(rt: HostRuntime) -> Result<(), Fail> {
-    let names = [
-        ("on", Word::OnWord),
-        ("On", Word::OtherName),
-        ("mutation", Word::OperationWord),
-        ("false", Word::BooleanWord),
-        ("INPUT_FIELD_DEFINITION", Word::LocationWord),
-        ("FIELD", Word::LocationWord),
-        ("extend", Word::ExtendWord),
-        ("", Word::OtherName),
-    ];
-    for (name, word) in names {
-        assert_eq!(rt; Word::of_name(name), word);
-        assert!(rt; Terminal::AnyName.takes(word));
-    }
-    assert_eq!(rt; Word::of_punctuator(b'|'), Word::Bar);
-    assert_eq!(rt; Word::of_punctuator(b'.'), Word::Spread);
-    Ok(())
+const NAMES: &[(&str, Word)] = &[
+    ("on", Word::OnWord),
+    ("On", Word::OtherName),
+    ("mutation", Word::OperationWord),
+    ("false", Word::BooleanWord),
+    ("INPUT_FIELD_DEFINITION", Word::LocationWord),
+    ("FIELD", Word::LocationWord),
+    ("extend", Word::ExtendWord),
+    ("", Word::OtherName),
+];
+
+fn is_word(name: &str, word: Word) -> bool {
+    Word::of_name(name) == word && Terminal::AnyName.takes(word)
 }
 
 #[test]
-fn ways_of_a_selection(rt: HostRuntime) -> Result<(), Fail> {
-    let field = Rule::Selection.way(Word::TypeWord).ok_or("no field")?;
-    assert_eq!(rt; field, [Symbol::One(Rule::Field)].as_slice());
-    let dots = Rule::Selection.way(Word::Spread).ok_or("no spread")?;
-    assert_eq!(rt; dots.len(), 2);
-    assert!(rt; Rule::Selection.way(Word::BraceOpen).is_none());
-    assert_eq!(rt; Rule::Selection.kind(), Some(SyntaxKind::Selection));
+fn words_of_tokens(rt: HostRuntime) {
+    for (name, word) in NAMES {
+        assert!(rt; is_word(name, *word), "{name}");
+    }
+    assert!(rt; Word::of_punctuator(b'|') == Word::Bar);
+    assert!(rt; Word::of_punctuator(b'.') == Word::Spread);
+}
+
+/// Whether a selection is a field before a name, has two parts behind dots, and does not begin with a brace.
+fn selection_has_its_ways() -> bool {
+    let field = Rule::Selection.way(Word::TypeWord);
+    let spread = Rule::Selection.way(Word::Spread);
+    matches!(field, Some([Symbol::One(Rule::Field)]))
+        && matches!(spread, Some([_, _]))
+        && Rule::Selection.way(Word::BraceOpen).is_none()
+}
+
+#[test]
+fn ways_of_a_selection(rt: HostRuntime) {
+    assert!(rt; selection_has_its_ways());
+    assert!(rt; Rule::Selection.kind() == Some(SyntaxKind::Selection));
     assert!(rt; Rule::AfterSpread.kind().is_none());
     laws::sentences_have_one_tree();
     laws::factored_is_declared();
     laws::first_word_chooses();
-    Ok(())
 }

@@ -1,9 +1,11 @@
 //! Worked rows of the lexical grammar, and each public call once.
 
-use gql_cst_lexer::{
-    CstError, Lexer, SyntaxFault, TokenKind, block_string_value, is_block_string, string_value,
-};
+use crate::same::same;
+use crate::strings::value_of;
+use gql_cst_lexer::{CstError, Lexer, SyntaxFault, Token, TokenKind, is_block_string};
+use jb_text::Memory;
 use std::alloc::Global;
+use std::process::Abort;
 use std::test::Fail;
 
 /// A letter for each kind, and for each fault that a text's token can have.
@@ -28,34 +30,43 @@ fn fault_letter_of(fault: SyntaxFault) -> char {
     }
 }
 
-/// Each token's letter and end, and a fault's letter, start and end.
-fn describe(alloc: Global, text: &str) -> Result<String, Fail> {
+/// Tells a token's letter and end, or a fault's letter, start and end, and gives the place where the next token starts.
+fn tell(out: &mut String, place: usize, found: &Result<Token, CstError>) -> Result<usize, Memory> {
+    match found {
+        Ok(Token { kind, range }) if range.start == place => {
+            let end = range.end;
+            write!(out, "{}{end} ", letter_of(*kind))?;
+            Ok(end)
+        }
+        Err(CstError::Syntax { fault, range }) => {
+            let start = range.start;
+            let end = range.end;
+            write!(out, "{}{start}-{end} ", fault_letter_of(*fault))?;
+            Ok(place)
+        }
+        _ => {
+            out.push_str("a gap or a limit ")?;
+            Ok(place)
+        }
+    }
+}
+
+/// What is told of each token of a text.
+fn describe(alloc: Global, text: &str) -> Result<String, Memory> {
     let mut out = String::new(alloc);
     let mut lexer = Lexer::new(text);
     let mut place = 0;
     for _ in 0..text.len() + 1 {
-        match lexer.next_token() {
-            Some(Ok(token)) => {
-                if token.range.start != place {
-                    return Err("a gap between tokens".into());
-                }
-                place = token.range.end;
-                write!(out, "{}{place} ", letter_of(token.kind))?;
-            }
-            Some(Err(CstError::Syntax { fault, range })) => {
-                let start = range.start;
-                let end = range.end;
-                write!(out, "{}{start}-{end} ", fault_letter_of(fault))?;
-            }
-            Some(Err(_)) => return Err("a limit".into()),
-            None => break,
-        }
+        let Some(found) = lexer.next_token() else {
+            break;
+        };
+        place = tell(&mut out, place, &found)?;
     }
     Ok(out)
 }
 
 /// Texts, and the letter and the end of each of their tokens.
-const TOKENS: [(&str, &str); 20] = [
+const TOKENS: &[(&str, &str)] = &[
     ("", ""),
     ("a_1 B", "N3 _4 N5"),
     ("{a:$b}", "M1 N2 M3 M4 N5 M6"),
@@ -78,20 +89,20 @@ const TOKENS: [(&str, &str); 20] = [
     ("\"\"\"\\\"\"\"\"\"\"", "S10"),
 ];
 
-#[test]
-fn tokens(rt: HostRuntime) -> Result<(), Fail> {
-    for (text, row) in TOKENS {
-        assert_eq!(rt;
-            describe(rt.alloc(), text)?.as_str().trim_end(),
-            row,
-            "{text:?}"
-        );
+fn check_tokens(rt: &impl Abort, alloc: Global, rows: &[(&str, &str)]) -> Result<(), Memory> {
+    for (text, row) in rows {
+        same(rt, text, describe(alloc, text)?.as_str().trim_end(), row);
     }
     Ok(())
 }
 
+#[test]
+fn tokens(rt: HostRuntime) -> Result<(), Fail> {
+    Ok(check_tokens(&rt, rt.alloc(), TOKENS)?)
+}
+
 /// Texts with a fault: the letter and the end of each token, and the letter and the range of the fault.
-const FAULTS: [(&str, &str); 36] = [
+const FAULTS: &[(&str, &str)] = &[
     ("01", "n0-1"),
     ("00", "n0-1"),
     ("1.", "n0-2"),
@@ -132,18 +143,11 @@ const FAULTS: [(&str, &str); 36] = [
 
 #[test]
 fn faults(rt: HostRuntime) -> Result<(), Fail> {
-    for (text, row) in FAULTS {
-        assert_eq!(rt;
-            describe(rt.alloc(), text)?.as_str().trim_end(),
-            row,
-            "{text:?}"
-        );
-    }
-    Ok(())
+    Ok(check_tokens(&rt, rt.alloc(), FAULTS)?)
 }
 
 /// Strings on one line, and what they stand for.
-const VALUES: [(&str, &str); 6] = [
+const VALUES: &[(&str, &str)] = &[
     ("\"\"", ""),
     ("\"a b\"", "a b"),
     ("\"\u{7F}é\u{1F600}\"", "\u{7F}é\u{1F600}"),
@@ -152,25 +156,26 @@ const VALUES: [(&str, &str); 6] = [
     ("\"\\ud83d\\ude00\\uDBFF\\uDFFF\"", "\u{1F600}\u{10FFFF}"),
 ];
 
-#[test]
-fn values(rt: HostRuntime) -> Result<(), Fail> {
-    for (token, value) in VALUES {
-        assert!(rt; !is_block_string(token), "{token}");
-        assert_eq!(rt; value_of(rt.alloc(), token)?.as_str(), value, "{token}");
+fn check_values(
+    rt: &impl Abort,
+    alloc: Global,
+    block: bool,
+    rows: &[(&str, &str)],
+) -> Result<(), Memory> {
+    for (token, value) in rows {
+        assert!(rt; is_block_string(token) == block, "{token}");
+        same(rt, token, value_of(alloc, token)?.as_str(), value);
     }
     Ok(())
 }
 
-/// The value of a token that is a string on one line.
-fn value_of(alloc: Global, token: &str) -> Result<String, Fail> {
-    if !token.starts_with('"') {
-        return Err("no string".into());
-    }
-    Ok(string_value(alloc, token)?)
+#[test]
+fn values(rt: HostRuntime) -> Result<(), Fail> {
+    Ok(check_values(&rt, rt.alloc(), false, VALUES)?)
 }
 
 /// Block strings, and what they stand for.
-const BLOCK_VALUES: [(&str, &str); 14] = [
+const BLOCK_VALUES: &[(&str, &str)] = &[
     ("\"\"\"\"\"\"", ""),
     ("\"\"\"a\"\"\"", "a"),
     ("\"\"\" a \"\"\"", " a "),
@@ -198,39 +203,34 @@ const BLOCK_VALUES: [(&str, &str); 14] = [
 
 #[test]
 fn block_values(rt: HostRuntime) -> Result<(), Fail> {
-    for (token, value) in BLOCK_VALUES {
-        assert_eq!(rt;
-            block_value_of(rt.alloc(), token)?.as_str(),
-            value,
-            "{token:?}"
-        );
-    }
-    Ok(())
+    Ok(check_values(&rt, rt.alloc(), true, BLOCK_VALUES)?)
 }
 
-/// The value of a token that is a block string.
-fn block_value_of(alloc: Global, token: &str) -> Result<String, Fail> {
-    if !is_block_string(token) {
-        return Err("no block string".into());
-    }
-    Ok(block_string_value(alloc, token)?)
+fn syntax_error(fault: SyntaxFault) -> CstError {
+    CstError::Syntax { fault, range: 0..1 }
+}
+
+/// Faults, and their messages.
+const MESSAGES: &[(SyntaxFault, &str)] = &[
+    (SyntaxFault::EndOfText, "Unexpected <EOF>."),
+    (SyntaxFault::BadCharacter, "unexpected character"),
+    (SyntaxFault::OpenString, "unterminated string"),
+    (SyntaxFault::BadEscape, "invalid escape in string"),
+    (SyntaxFault::BadNumber, "invalid number"),
+    (SyntaxFault::BadToken, "unexpected token"),
+];
+
+fn check_message(rt: &impl Abort, error: &CstError, message: &str) {
+    assert_eq!(rt; error.message(), message);
 }
 
 #[test]
 fn messages(rt: HostRuntime) {
-    let faults = [
-        (SyntaxFault::EndOfText, "Unexpected <EOF>."),
-        (SyntaxFault::BadCharacter, "unexpected character"),
-        (SyntaxFault::OpenString, "unterminated string"),
-        (SyntaxFault::BadEscape, "invalid escape in string"),
-        (SyntaxFault::BadNumber, "invalid number"),
-        (SyntaxFault::BadToken, "unexpected token"),
-    ];
-    for (fault, message) in faults {
-        assert_eq!(rt; CstError::Syntax { fault, range: 0..1 }.message(), message);
+    for (fault, message) in MESSAGES {
+        check_message(&rt, &syntax_error(*fault), message);
     }
-    let limit = CstError::TokenLimit { range: 0..1 };
-    assert_eq!(rt; limit.message(), "token limit reached, aborting lexing");
-    let limit = CstError::RecursionLimit { range: 0..1 };
-    assert_eq!(rt; limit.message(), "parser recursion limit reached");
+    let tokens = CstError::TokenLimit { range: 0..1 };
+    check_message(&rt, &tokens, "token limit reached, aborting lexing");
+    let levels = CstError::RecursionLimit { range: 0..1 };
+    check_message(&rt, &levels, "parser recursion limit reached");
 }

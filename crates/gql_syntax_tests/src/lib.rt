@@ -1,4 +1,4 @@
-//! Tests of the crates that read GraphQL texts, from places in a text to syntax trees.
+//! Tests of the crates that read GraphQL texts, from places in a text to syntax trees, and of the program over them.
 //!
 //! They stand apart because a crate with tests is proved once with them and once without. Each module has the tests of
 //! one crate or of one subject, over what that crate gives to everyone.
@@ -10,6 +10,10 @@ mod documents;
 mod grammar;
 #[cfg(test)]
 mod lexer;
+#[cfg(test)]
+mod program;
+#[cfg(test)]
+mod same;
 #[cfg(test)]
 mod sentences;
 #[cfg(test)]

@@ -1,10 +1,13 @@
 //! Worked rows of the grammar and of the limits.
 
+use crate::same::same;
 use gql_cst::{
     CstError, Limits, Parsed, SyntaxFault, parse_document, parse_selection_set, parse_type,
 };
+use jb_text::Memory;
 use std::alloc::Global;
 use std::ops::Range;
+use std::process::Abort;
 use std::test::Fail;
 
 fn letter_of(fault: SyntaxFault) -> char {
@@ -18,20 +21,23 @@ fn letter_of(fault: SyntaxFault) -> char {
     }
 }
 
-fn at(alloc: Global, letter: char, range: &Range<usize>) -> Result<String, Fail> {
-    let start = range.start;
-    let end = range.end;
-    Ok(format!(in alloc; "{letter}{start}-{end}")?)
+fn parts_of(error: &CstError) -> (char, &Range<usize>) {
+    match error {
+        CstError::Syntax { fault, range } => (letter_of(*fault), range),
+        CstError::RecursionLimit { range } => ('r', range),
+        CstError::TokenLimit { range } => ('l', range),
+    }
 }
 
 /// A letter for the error and its range, or `ok`.
-fn outcome(alloc: Global, parsed: &Parsed) -> Result<String, Fail> {
-    match &parsed.error {
-        None => Ok(String::from_str(alloc, "ok")?),
-        Some(CstError::Syntax { fault, range }) => at(alloc, letter_of(*fault), range),
-        Some(CstError::RecursionLimit { range }) => at(alloc, 'r', range),
-        Some(CstError::TokenLimit { range }) => at(alloc, 'l', range),
-    }
+fn outcome(alloc: Global, parsed: &Parsed) -> Result<String, Memory> {
+    let Some(error) = &parsed.error else {
+        return String::from_str(alloc, "ok");
+    };
+    let (letter, range) = parts_of(error);
+    let start = range.start;
+    let end = range.end;
+    format!(in alloc; "{letter}{start}-{end}")
 }
 
 // Each line: what comes out, and the text.
@@ -191,37 +197,41 @@ e4-4 [Int\n\
 t5-6 [Int]]\n\
 ";
 
+const LIMITS: Limits = Limits {
+    recursion: 500,
+    tokens: None,
+};
+
 /// What comes out for the text: of a document (`d`), a selection set (`s`) or a reference to a type.
-fn outcome_of(alloc: Global, part: char, text: &str, limits: &Limits) -> Result<String, Fail> {
+fn outcome_of(alloc: Global, part: char, text: &str) -> Result<String, Memory> {
     let parsed = match part {
-        'd' => parse_document(alloc, text, limits)?,
-        's' => parse_selection_set(alloc, text, limits)?,
-        _ => parse_type(alloc, text, limits)?,
+        'd' => parse_document(alloc, text, &LIMITS)?,
+        's' => parse_selection_set(alloc, text, &LIMITS)?,
+        _ => parse_type(alloc, text, &LIMITS)?,
     };
     outcome(alloc, &parsed)
 }
 
-/// Whether each line begins with what comes out for the rest of it.
-fn all_hold(alloc: Global, part: char, rows: &str) -> Result<bool, Fail> {
-    let limits = Limits {
-        recursion: 500,
-        tokens: None,
-    };
+fn check_rows(rt: &impl Abort, alloc: Global, part: char, rows: &str) -> Result<(), Memory> {
     for row in rows.lines() {
-        let (expected, text) = row.split_once(' ').ok_or("no row")?;
-        if outcome_of(alloc, part, text, &limits)?.as_str() != expected {
-            return Ok(false);
-        }
+        let (expected, text) = row.split_once(' ').unwrap_or(("a space", row));
+        same(rt, text, outcome_of(alloc, part, text)?.as_str(), expected);
     }
-    Ok(true)
+    Ok(())
 }
+
+const GRAMMAR: &[(char, &str)] = &[
+    ('d', DOCUMENTS),
+    ('d', NO_DOCUMENTS),
+    ('s', SELECTION_SETS),
+    ('t', TYPES),
+];
 
 #[test]
 fn grammar(rt: HostRuntime) -> Result<(), Fail> {
-    assert!(rt; all_hold(rt.alloc(), 'd', DOCUMENTS)?);
-    assert!(rt; all_hold(rt.alloc(), 'd', NO_DOCUMENTS)?);
-    assert!(rt; all_hold(rt.alloc(), 's', SELECTION_SETS)?);
-    assert!(rt; all_hold(rt.alloc(), 't', TYPES)?);
+    for (part, rows) in GRAMMAR {
+        check_rows(&rt, rt.alloc(), *part, rows)?;
+    }
     Ok(())
 }
 
@@ -229,35 +239,48 @@ const NESTED: &str =
     "\n        query {\n            a {\n                a {\n                    a {\n                        a\n                    }\n                }\n            }\n        }\n";
 
 /// Texts, the limits of levels and of tokens, and what comes of them: the error, the levels and the tokens.
-const LIMITED: [(&str, usize, usize, &str, usize, usize); 8] = [
-    ("{ a { b { c } } }", 1, 99, "r6-7", 2, 7),
-    ("{ a { b { c } } }", 7, 99, "ok", 3, 17),
-    ("{a(b:[[1] [1] {}])}", 3, 99, "ok", 3, 19),
-    ("{a(b:[[{c:", 3, 99, "r8-9", 4, 9),
-    ("{a(b:[[[", 3, 99, "r8-8", 4, 8),
-    (NESTED, 10, 22, "l142-155", 4, 23),
-    (NESTED, 3, 200, "r101-102", 4, 18),
+const LIMITED: &[(&str, usize, usize, &str)] = &[
+    ("{ a { b { c } } }", 1, 99, "r6-7, 2 levels, 7 tokens"),
+    ("{ a { b { c } } }", 7, 99, "ok, 3 levels, 17 tokens"),
+    ("{a(b:[[1] [1] {}])}", 3, 99, "ok, 3 levels, 19 tokens"),
+    ("{a(b:[[{c:", 3, 99, "r8-9, 4 levels, 9 tokens"),
+    ("{a(b:[[[", 3, 99, "r8-8, 4 levels, 8 tokens"),
+    (NESTED, 10, 22, "l142-155, 4 levels, 23 tokens"),
+    (NESTED, 3, 200, "r101-102, 4 levels, 18 tokens"),
     (
         "\n    type Query {\n      field(arg1: Int, arg2: Int): Int",
         500,
         18,
-        "l47-50",
-        0,
-        19,
+        "l47-50, 0 levels, 19 tokens",
     ),
 ];
 
+/// The outcome, with the levels and the tokens that were reached.
+fn reached(alloc: Global, parsed: &Parsed) -> Result<String, Memory> {
+    let levels = parsed.recursion_reached;
+    let tokens = parsed.tokens_reached;
+    let error = outcome(alloc, parsed)?;
+    format!(in alloc; "{error}, {levels} levels, {tokens} tokens")
+}
+
+fn limited(alloc: Global, text: &str, recursion: usize, tokens: usize) -> Result<String, Memory> {
+    let limits = Limits {
+        recursion,
+        tokens: Some(tokens),
+    };
+    let parsed = parse_document(alloc, text, &limits)?;
+    reached(alloc, &parsed)
+}
+
 #[test]
 fn limits(rt: HostRuntime) -> Result<(), Fail> {
-    for (text, recursion, tokens, expected, levels, count) in LIMITED {
-        let limits = Limits {
-            recursion,
-            tokens: Some(tokens),
-        };
-        let parsed = parse_document(rt.alloc(), text, &limits)?;
-        assert_eq!(rt; outcome(rt.alloc(), &parsed)?.as_str(), expected, "{text}");
-        assert_eq!(rt; parsed.recursion_reached, levels, "{text}");
-        assert_eq!(rt; parsed.tokens_reached, count, "{text}");
+    for (text, recursion, tokens, wanted) in LIMITED {
+        same(
+            &rt,
+            text,
+            limited(rt.alloc(), text, *recursion, *tokens)?.as_str(),
+            wanted,
+        );
     }
     Ok(())
 }

@@ -7,6 +7,3 @@ mod start;
 
 pub use program::run;
 pub use start::Start;
-
-#[cfg(test)]
-mod tests;

@@ -1,14 +1,7 @@
 //! What several tests are made of, and how they show a value.
 use jb_print::to_text;
-use jb_read::from_str;
 use jb_tree::{ByteString, Text, Value};
 use std::alloc::{AllocError, Global};
-use std::test::Fail;
-
-/// The value of a JSON text.
-pub(crate) fn value(alloc: Global, text: &str) -> Result<Value, Fail> {
-    Ok(from_str(alloc, text)?)
-}
 
 /// The JSON text of a value.
 pub(crate) fn shown(alloc: Global, value: &Value) -> Result<Text, AllocError> {

@@ -3,7 +3,8 @@
 use jb_map::Pairs;
 use jb_text::{ByteString, Listed};
 use std::alloc::{AllocError, Global};
-use std::test::Fail;
+use std::mem;
+use std::process::Abort;
 
 /// A key of the tests.
 fn key(alloc: Global, number: u64) -> Result<ByteString, AllocError> {
@@ -43,36 +44,76 @@ fn shown(alloc: Global, map: &Pairs<u64>) -> Result<String, AllocError> {
     Ok(text)
 }
 
-#[test]
-fn a_key_keeps_its_place(rt: HostRuntime) -> Result<(), Fail> {
-    let alloc = rt.alloc();
-    let mut map = Pairs::new(alloc);
-    assert!(rt; map.is_empty());
+fn assert_shows(
+    rt: &impl Abort,
+    alloc: Global,
+    map: &Pairs<u64>,
+    wanted: &str,
+) -> Result<(), AllocError> {
+    assert_eq!(*rt; shown(alloc, map)?.as_str(), wanted);
+    Ok(())
+}
+
+/// Puts each number below forty at its own key and then 0 at the key of its half: whether only the second of these keys
+/// was there each time.
+fn put_forty(alloc: Global, map: &mut Pairs<u64>) -> Result<bool, AllocError> {
+    let mut is_right = true;
     for number in 0..40u64 {
-        assert_eq!(rt; put(alloc, &mut map, number, number)?, None);
-        assert!(rt; put(alloc, &mut map, number / 2, 0)?.is_some());
+        let own = put(alloc, map, number, number)?;
+        let half = put(alloc, map, number / 2, 0)?;
+        is_right = is_right && own.is_none() && half.is_some();
     }
-    assert_eq!(rt; map.len(), 40);
-    assert!(rt; map.get("key 40").is_none());
-    assert_eq!(rt; map.get("key 3").copied(), Some(0));
-    assert_eq!(rt; map.get("key 39").copied(), Some(39));
+    Ok(is_right)
+}
+
+/// How many pairs there are, where their keys count up from 0.
+fn count_in_order(alloc: Global, map: &Pairs<u64>) -> Result<Option<u64>, AllocError> {
     let mut place = 0u64;
     for (text, _) in map.iter() {
-        assert_eq!(rt; text.as_str(), key(alloc, place)?.as_str());
+        if text.as_str() != key(alloc, place)?.as_str() {
+            return Ok(None);
+        }
         place = place.saturating_add(1);
     }
-    assert_eq!(rt; place, 40);
+    Ok(Some(place))
+}
+
+/// The values at three keys.
+fn found(map: &Pairs<u64>, keys: [&str; 3]) -> [Option<u64>; 3] {
+    let [first, second, third] = keys;
+    [
+        map.get(first).copied(),
+        map.get(second).copied(),
+        map.get(third).copied(),
+    ]
+}
+
+fn check_places(rt: &impl Abort, alloc: Global, map: &mut Pairs<u64>) -> Result<(), AllocError> {
+    assert!(*rt; map.is_empty());
+    assert!(*rt; put_forty(alloc, map)?);
+    assert_eq!(*rt; map.len(), 40);
+    let values = found(map, ["key 40", "key 3", "key 39"]);
+    assert_eq!(*rt; values, [None, Some(0), Some(39)]);
+    assert_eq!(*rt; count_in_order(alloc, map)?, Some(40));
     Ok(())
 }
 
 #[test]
-fn a_removal_moves_the_last_pair_into_the_gap(rt: HostRuntime) -> Result<(), Fail> {
+fn a_key_keeps_its_place(rt: HostRuntime) -> Result<(), AllocError> {
+    check_places(&rt, rt.alloc(), &mut Pairs::new(rt.alloc()))
+}
+
+fn check_removal(rt: &impl Abort, alloc: Global, map: &mut Pairs<u64>) -> Result<(), AllocError> {
+    assert_shows(rt, alloc, map, "key 5=5;key 3=3;key 9=9;")?;
+    assert_eq!(*rt; map.remove("key 5"), Some(5));
+    assert_shows(rt, alloc, map, "key 9=9;key 3=3;")
+}
+
+#[test]
+fn a_removal_moves_the_last_pair_into_the_gap(rt: HostRuntime) -> Result<(), AllocError> {
     let alloc = rt.alloc();
     let mut map = map_of(alloc, &[(5, 4), (3, 3), (9, 9), (5, 5)])?;
-    assert_eq!(rt; shown(alloc, &map)?.as_str(), "key 5=5;key 3=3;key 9=9;");
-    assert_eq!(rt; map.remove("key 5"), Some(5));
-    assert_eq!(rt; shown(alloc, &map)?.as_str(), "key 9=9;key 3=3;");
-    Ok(())
+    check_removal(&rt, alloc, &mut map)
 }
 
 /// Puts 8 at the key of 7 where there is none.
@@ -82,14 +123,17 @@ fn enter(alloc: Global, map: &mut Pairs<u64>) -> Result<(), AllocError> {
     Ok(())
 }
 
+fn check_entry(rt: &impl Abort, alloc: Global, map: &mut Pairs<u64>) -> Result<(), AllocError> {
+    enter(alloc, map)?;
+    map.sort_keys()?;
+    assert_shows(rt, alloc, map, "key 3=3;key 7=8;key 9=9;")
+}
+
 #[test]
-fn pairs_are_entered_and_sorted(rt: HostRuntime) -> Result<(), Fail> {
+fn pairs_are_entered_and_sorted(rt: HostRuntime) -> Result<(), AllocError> {
     let alloc = rt.alloc();
     let mut map = map_of(alloc, &[(9, 9), (3, 3)])?;
-    enter(alloc, &mut map)?;
-    map.sort_keys()?;
-    assert_eq!(rt; shown(alloc, &map)?.as_str(), "key 3=3;key 7=8;key 9=9;");
-    Ok(())
+    check_entry(&rt, alloc, &mut map)
 }
 
 /// The last value of a map.
@@ -98,71 +142,85 @@ fn last(map: &Pairs<u64>) -> Option<u64> {
     Some(*value)
 }
 
-#[test]
-fn pairs_are_kept_and_moved(rt: HostRuntime) -> Result<(), Fail> {
-    let alloc = rt.alloc();
-    let mut map = map_of(alloc, &[(3, 3), (9, 9), (7, 8)])?;
-    map.retain(|_, value| *value != 8);
-    let mut all = Pairs::new(alloc);
-    all.append(&mut map)?;
-    assert!(rt; map.is_empty());
-    assert_eq!(rt; last(&all), Some(9));
+fn check_moves(
+    rt: &impl Abort,
+    from: &mut Pairs<u64>,
+    to: &mut Pairs<u64>,
+) -> Result<(), AllocError> {
+    from.retain(|_, value| *value != 8);
+    to.append(from)?;
+    assert!(*rt; from.is_empty());
+    assert_eq!(*rt; last(to), Some(9));
     Ok(())
 }
 
-/// The values at the first three keys.
-fn found(map: &Pairs<u64>) -> [Option<u64>; 3] {
-    [
-        map.get("key 0").copied(),
-        map.get("key 1").copied(),
-        map.get("key 2").copied(),
-    ]
+#[test]
+fn pairs_are_kept_and_moved(rt: HostRuntime) -> Result<(), AllocError> {
+    let alloc = rt.alloc();
+    let mut map = map_of(alloc, &[(3, 3), (9, 9), (7, 8)])?;
+    check_moves(&rt, &mut map, &mut Pairs::new(alloc))
+}
+
+/// Writes to the place of a pair: its key.
+fn write_pair<'a>(pair: (&'a ByteString, &mut u64), value: u64) -> &'a str {
+    *pair.1 = value;
+    pair.0.as_str()
+}
+
+/// Writes 22 to the last pair, 20 to the first and 21 to the one between: whether a walk from both ends gave these, and
+/// then no more.
+fn write_pairs(map: &mut Pairs<u64>) -> Option<bool> {
+    let mut walk = map.iter_mut();
+    let mut is_right = walk.len() == 3;
+    is_right &= write_pair(walk.next_back()?, 22) == "key 2";
+    is_right &= write_pair(walk.next()?, 20) == "key 0";
+    is_right &= walk.len() == 1;
+    is_right &= write_pair(walk.next_back()?, 21) == "key 1";
+    is_right &= walk.next().is_none();
+    Some(is_right && walk.len() == 0)
+}
+
+/// That the walks' values are there, in order and by key.
+fn check_written(rt: &impl Abort, alloc: Global, map: &Pairs<u64>) -> Result<(), AllocError> {
+    assert_shows(rt, alloc, map, "key 0=20;key 1=21;key 2=22;")?;
+    let values = found(map, ["key 0", "key 1", "key 2"]);
+    assert_eq!(*rt; values, [Some(20), Some(21), Some(22)]);
+    Ok(())
 }
 
 /// What a walk from both ends writes is found by key.
 #[test]
-fn a_walk_writes_pairs(rt: HostRuntime) -> Result<(), Fail> {
+fn a_walk_writes_pairs(rt: HostRuntime) -> Result<(), AllocError> {
     let alloc = rt.alloc();
     let mut map = map_of(alloc, &[(0, 0), (1, 1), (2, 2)])?;
-    let mut walk = map.iter_mut();
-    assert_eq!(rt; walk.len(), 3);
-    let (text, value) = walk.next_back().ok_or("no last pair")?;
-    assert_eq!(rt; text.as_str(), "key 2");
-    *value = 22;
-    let (text, value) = walk.next().ok_or("no first pair")?;
-    assert_eq!(rt; text.as_str(), "key 0");
-    *value = 20;
-    assert_eq!(rt; walk.len(), 1);
-    let (text, value) = walk.next_back().ok_or("no pair between")?;
-    assert_eq!(rt; text.as_str(), "key 1");
-    *value = 21;
-    assert!(rt; walk.next().is_none());
-    assert_eq!(rt; walk.len(), 0);
-    assert_eq!(rt; shown(alloc, &map)?.as_str(), "key 0=20;key 1=21;key 2=22;");
-    assert_eq!(rt; found(&map), [Some(20), Some(21), Some(22)]);
-    Ok(())
+    assert_eq!(rt; write_pairs(&mut map), Some(true));
+    check_written(&rt, alloc, &map)
+}
+
+/// Writes to the place of a value that a walk gave: the value that was there.
+fn write_value(place: Option<&mut u64>, value: u64) -> Option<u64> {
+    Some(mem::replace(place?, value))
+}
+
+/// Writes 20 to the first value, 22 to the last and 21 to the one between: whether a walk from both ends gave these, and
+/// then no more, at either end.
+fn write_values(map: &mut Pairs<u64>) -> bool {
+    let mut walk = map.values_mut();
+    let mut is_right = walk.len() == 3;
+    is_right &= write_value(walk.next(), 20) == Some(0);
+    is_right &= write_value(walk.next_back(), 22) == Some(2);
+    is_right &= write_value(walk.next(), 21) == Some(1);
+    is_right &= walk.next_back().is_none();
+    is_right &= walk.next().is_none();
+    is_right &= walk.next_back().is_none();
+    is_right && walk.len() == 0
 }
 
 /// The same of the walk that gives the values alone, which ends for good.
 #[test]
-fn a_walk_writes_values(rt: HostRuntime) -> Result<(), Fail> {
+fn a_walk_writes_values(rt: HostRuntime) -> Result<(), AllocError> {
     let alloc = rt.alloc();
     let mut map = map_of(alloc, &[(0, 0), (1, 1), (2, 2)])?;
-    let mut walk = map.values_mut();
-    assert_eq!(rt; walk.len(), 3);
-    let value = walk.next().ok_or("no first value")?;
-    assert_eq!(rt; *value, 0);
-    *value = 20;
-    let value = walk.next_back().ok_or("no last value")?;
-    assert_eq!(rt; *value, 2);
-    *value = 22;
-    let value = walk.next().ok_or("no value between")?;
-    *value = 21;
-    assert!(rt; walk.next_back().is_none());
-    assert!(rt; walk.next().is_none());
-    assert!(rt; walk.next_back().is_none());
-    assert_eq!(rt; walk.len(), 0);
-    assert_eq!(rt; shown(alloc, &map)?.as_str(), "key 0=20;key 1=21;key 2=22;");
-    assert_eq!(rt; found(&map), [Some(20), Some(21), Some(22)]);
-    Ok(())
+    assert!(rt; write_values(&mut map));
+    check_written(&rt, alloc, &map)
 }

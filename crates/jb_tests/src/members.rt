@@ -1,10 +1,11 @@
 //! Objects and places in values: the order of members after each change, refusals, and hashing.
-use crate::fixtures::{key, shown as text_of, value};
+use crate::fixtures::{key, shown as text_of};
 use jb_print::append_object;
-use jb_tree::{ByteString, Index, IndexError, Listed, Map, Refused, Value};
+use jb_read::{ReadFault, from_str};
+use jb_tree::{ByteString, Index, IndexError, Listed, Map, Refused, Text, Value};
 use std::alloc::{AllocError, Global};
 use std::hash::{DefaultHasher, Hash, Hasher};
-use std::test::Fail;
+use std::process::Abort;
 
 /// These members, in a list.
 fn pairs_of(
@@ -30,9 +31,13 @@ fn shown(alloc: Global, members: &Map) -> Result<String, AllocError> {
     Ok(text)
 }
 
+fn number_of(value: Option<Value>) -> Option<u64> {
+    value?.as_u64()
+}
+
 /// Takes a member out, and gives its number.
 fn remove(members: &mut Map, name: &str) -> Option<u64> {
-    members.remove(name)?.as_u64()
+    number_of(members.remove(name))
 }
 
 /// Puts a number at a key, and gives the one that was there.
@@ -43,8 +48,7 @@ fn put(
     number: u64,
 ) -> Result<Option<u64>, AllocError> {
     match members.insert(key(alloc, name)?, Value::from(number)) {
-        Ok(Some(old)) => Ok(old.as_u64()),
-        Ok(None) => Ok(None),
+        Ok(old) => Ok(number_of(old)),
         Err(_) => Err(AllocError),
     }
 }
@@ -62,42 +66,62 @@ fn enter(
     Ok(place.as_u64())
 }
 
-#[test]
-fn members_keep_their_order(rt: HostRuntime) -> Result<(), Fail> {
-    let alloc = rt.alloc();
-    let mut members = object(alloc, &[("a", 1), ("b", 2), ("c", 3)])?;
-    assert_eq!(rt; remove(&mut members, "a"), Some(1));
-    assert_eq!(rt; shown(alloc, &members)?.as_str(), "{\"c\":3,\"b\":2}");
-    assert_eq!(rt; put(alloc, &mut members, "b", 5)?, Some(2));
-    assert_eq!(rt; shown(alloc, &members)?.as_str(), "{\"c\":3,\"b\":5}");
-    members.sort_keys()?;
-    assert_eq!(rt; enter(alloc, &mut members, "d", 4)?, Some(4));
-    assert_eq!(rt;
-        shown(alloc, &members)?.as_str(),
-        "{\"b\":5,\"c\":3,\"d\":4}"
-    );
+fn assert_shows(
+    rt: &impl Abort,
+    alloc: Global,
+    members: &Map,
+    wanted: &str,
+) -> Result<(), AllocError> {
+    assert_eq!(*rt; shown(alloc, members)?.as_str(), wanted);
     Ok(())
 }
 
+fn check_changes(rt: &impl Abort, alloc: Global, members: &mut Map) -> Result<(), AllocError> {
+    assert_eq!(*rt; remove(members, "a"), Some(1));
+    assert_shows(rt, alloc, members, "{\"c\":3,\"b\":2}")?;
+    assert_eq!(*rt; put(alloc, members, "b", 5)?, Some(2));
+    assert_shows(rt, alloc, members, "{\"c\":3,\"b\":5}")
+}
+
+fn check_sorted(rt: &impl Abort, alloc: Global, members: &mut Map) -> Result<(), AllocError> {
+    members.sort_keys()?;
+    assert_eq!(*rt; enter(alloc, members, "d", 4)?, Some(4));
+    assert_shows(rt, alloc, members, "{\"b\":5,\"c\":3,\"d\":4}")
+}
+
 #[test]
-fn the_last_pair_of_a_key_counts(rt: HostRuntime) -> Result<(), Fail> {
+fn members_keep_their_order(rt: HostRuntime) -> Result<(), AllocError> {
+    let alloc = rt.alloc();
+    let mut members = object(alloc, &[("a", 1), ("b", 2), ("c", 3)])?;
+    check_changes(&rt, alloc, &mut members)?;
+    check_sorted(&rt, alloc, &mut members)
+}
+
+fn extend(alloc: Global, members: &mut Map, more: &[(&str, u64)]) -> Result<(), AllocError> {
+    members.extend(pairs_of(alloc, more)?)
+}
+
+/// Moves members over from another object: whether none is left there.
+fn append(alloc: Global, members: &mut Map, more: &[(&str, u64)]) -> Result<bool, AllocError> {
+    let mut other = object(alloc, more)?;
+    members.append(&mut other)?;
+    Ok(other.is_empty())
+}
+
+fn check_additions(rt: &impl Abort, alloc: Global, members: &mut Map) -> Result<(), AllocError> {
+    assert_shows(rt, alloc, members, "{\"a\":3,\"c\":2}")?;
+    extend(alloc, members, &[("c", 4), ("b", 5)])?;
+    assert_shows(rt, alloc, members, "{\"a\":3,\"c\":4,\"b\":5}")?;
+    assert!(*rt; append(alloc, members, &[("b", 9), ("e", 1)])?);
+    assert_shows(rt, alloc, members, "{\"a\":3,\"c\":4,\"b\":9,\"e\":1}")
+}
+
+#[test]
+fn the_last_pair_of_a_key_counts(rt: HostRuntime) -> Result<(), AllocError> {
     let alloc = rt.alloc();
     assert!(rt; Map::with_capacity(alloc, 4)?.is_empty());
     let mut members = object(alloc, &[("a", 1), ("c", 2), ("a", 3)])?;
-    assert_eq!(rt; shown(alloc, &members)?.as_str(), "{\"a\":3,\"c\":2}");
-    members.extend(pairs_of(alloc, &[("c", 4), ("b", 5)])?)?;
-    assert_eq!(rt;
-        shown(alloc, &members)?.as_str(),
-        "{\"a\":3,\"c\":4,\"b\":5}"
-    );
-    let mut other = object(alloc, &[("b", 9), ("e", 1)])?;
-    members.append(&mut other)?;
-    assert_eq!(rt;
-        shown(alloc, &members)?.as_str(),
-        "{\"a\":3,\"c\":4,\"b\":9,\"e\":1}"
-    );
-    assert!(rt; other.is_empty());
-    Ok(())
+    check_additions(&rt, alloc, &mut members)
 }
 
 /// What a hasher answers that was fed this value.
@@ -107,20 +131,42 @@ fn hash_of(value: &Value) -> u64 {
     state.finish()
 }
 
-#[test]
-fn the_order_of_members_does_not_count(rt: HostRuntime) -> Result<(), Fail> {
-    let alloc = rt.alloc();
-    let forwards = Value::from_pairs(alloc, pairs_of(alloc, &[("id1", 1), ("id2", 2)])?)?;
-    let mut backwards = value(alloc, "{\"id2\":2,\"id1\":1}")?;
-    assert!(rt; forwards == backwards);
-    assert_eq!(rt; hash_of(&forwards), hash_of(&backwards));
-    assert!(rt; forwards != value(alloc, "{\"id2\":1,\"id1\":2}")?);
-    backwards.sort_all_objects()?;
-    assert_eq!(rt;
-        text_of(alloc, &backwards)?.as_str(),
-        "{\"id1\":1,\"id2\":2}"
-    );
+const BACKWARDS: &str = "{\"id2\":2,\"id1\":1}";
+
+fn hash_of_text(alloc: Global, text: &str) -> Result<u64, Refused<ReadFault>> {
+    Ok(hash_of(&from_str(alloc, text)?))
+}
+
+fn is_value_of(alloc: Global, value: &Value, text: &str) -> Result<bool, Refused<ReadFault>> {
+    Ok(*value == from_str(alloc, text)?)
+}
+
+fn check_order(rt: &impl Abort, alloc: Global, forwards: &Value) -> Result<(), Refused<ReadFault>> {
+    assert!(*rt; is_value_of(alloc, forwards, BACKWARDS)?);
+    assert_eq!(*rt; hash_of(forwards), hash_of_text(alloc, BACKWARDS)?);
+    assert!(*rt; !is_value_of(alloc, forwards, "{\"id2\":1,\"id1\":2}")?);
     Ok(())
+}
+
+/// Sorts the members of each object by their keys: the value's text then.
+fn sort(alloc: Global, value: &mut Value) -> Result<Text, AllocError> {
+    value.sort_all_objects()?;
+    text_of(alloc, value)
+}
+
+/// The same of the value of a text.
+fn sorted(alloc: Global, text: &str) -> Result<Text, Refused<ReadFault>> {
+    let mut value = from_str(alloc, text)?;
+    Ok(sort(alloc, &mut value)?)
+}
+
+#[test]
+fn the_order_of_members_does_not_count(rt: HostRuntime) -> Result<(), Refused<ReadFault>> {
+    let alloc = rt.alloc();
+    assert_eq!(rt; sorted(alloc, BACKWARDS)?.as_str(), "{\"id1\":1,\"id2\":2}");
+    let pairs = pairs_of(alloc, &[("id1", 1), ("id2", 2)])?;
+    let forwards = Value::from_pairs(alloc, pairs)?;
+    check_order(&rt, alloc, &forwards)
 }
 
 /// Makes a place of this key, and says whether a null is there.
@@ -131,36 +177,51 @@ fn makes_null(alloc: Global, name: &str, value: &mut Value) -> bool {
     }
 }
 
-#[test]
-fn places_are_made(rt: HostRuntime) -> Result<(), Fail> {
-    let alloc = rt.alloc();
-    let mut value = Value::default();
-    assert!(rt; makes_null(alloc, "k", &mut value));
-    assert_eq!(rt; text_of(alloc, &value)?.as_str(), "{\"k\":null}");
-    let name = String::from_str(alloc, "k")?;
-    assert!(rt; value.get_mut(&name).is_some());
-    assert!(rt; value.get(0).is_none());
+/// Whether a string's text leads to a place.
+fn is_place(alloc: Global, value: &mut Value, name: &str) -> Result<bool, AllocError> {
+    let name = String::from_str(alloc, name)?;
+    Ok(value.get_mut(&name).is_some())
+}
+
+fn check_place(rt: &impl Abort, alloc: Global, value: &mut Value) -> Result<(), AllocError> {
+    assert!(*rt; makes_null(alloc, "k", value));
+    assert_eq!(*rt; text_of(alloc, value)?.as_str(), "{\"k\":null}");
+    assert!(*rt; is_place(alloc, value, "k")?);
+    assert!(*rt; value.get(0).is_none());
     Ok(())
 }
 
-/// Why there can be no such place in the value of a JSON text.
-fn refusal(alloc: Global, index: impl Index, text: &str) -> Result<Option<IndexError>, Fail> {
-    match index.index_or_insert(alloc, &mut value(alloc, text)?) {
-        Err(Refused::Fault(fault)) => Ok(Some(fault)),
-        _ => Ok(None),
+#[test]
+fn places_are_made(rt: HostRuntime) -> Result<(), AllocError> {
+    check_place(&rt, rt.alloc(), &mut Value::default())
+}
+
+/// Why there can be no such place.
+fn refused(alloc: Global, index: impl Index, value: &mut Value) -> Option<IndexError> {
+    match index.index_or_insert(alloc, value) {
+        Err(Refused::Fault(fault)) => Some(fault),
+        _ => None,
     }
 }
 
+/// The same in the value of a JSON text.
+fn refusal(alloc: Global, index: impl Index, text: &str) -> Option<IndexError> {
+    let mut value = from_str(alloc, text).ok()?;
+    refused(alloc, index, &mut value)
+}
+
 #[test]
-fn places_that_can_not_be_made(rt: HostRuntime) -> Result<(), Fail> {
+fn places_that_can_not_be_made(rt: HostRuntime) {
     let alloc = rt.alloc();
-    let no_place = IndexError::NoPlace { index: 2, len: 1 };
-    for (refusal, wanted) in [
-        (refusal(alloc, 2, "[1]")?, no_place),
-        (refusal(alloc, 0, "null")?, IndexError::NotArray),
-        (refusal(alloc, "k", "1")?, IndexError::NotObject),
-    ] {
-        assert_eq!(rt; refusal, Some(wanted));
-    }
-    Ok(())
+    let refusals = [
+        refusal(alloc, 2, "[1]"),
+        refusal(alloc, 0, "null"),
+        refusal(alloc, "k", "1"),
+    ];
+    let wanted = [
+        Some(IndexError::NoPlace { index: 2, len: 1 }),
+        Some(IndexError::NotArray),
+        Some(IndexError::NotObject),
+    ];
+    assert_eq!(rt; refusals, wanted);
 }

@@ -1,13 +1,12 @@
 //! Texts that are read, and the kind and place of the first fault of others.
-use crate::fixtures::{shown, value};
+use crate::fixtures::shown;
 use bytes::Bytes;
-use jb_read::{FaultKind, ReadFault, from_bytes, from_bytes_whole};
-use jb_tree::{Refused, Value};
+use jb_read::{FaultKind, ReadFault, from_bytes, from_bytes_whole, from_str};
+use jb_tree::{Refused, Text, Value};
 use std::alloc::{AllocError, Global};
-use std::test::Fail;
 
 /// Where each text breaks first.
-const BROKEN: [(&[u8], FaultKind, usize); 79] = [
+const BROKEN: &[(&[u8], FaultKind, usize)] = &[
     (b"", FaultKind::Syntax, 0),
     (b" \n", FaultKind::Syntax, 2),
     (b"x", FaultKind::Syntax, 0),
@@ -104,74 +103,104 @@ fn fault(alloc: Global, text: &[u8]) -> Option<(FaultKind, usize)> {
 #[test]
 fn faults_stand_where_the_text_breaks(rt: HostRuntime) {
     for (text, kind, place) in BROKEN {
-        assert_eq!(rt; fault(rt.alloc(), text), Some((kind, place)), "at {text:?}");
+        assert_eq!(rt;
+            fault(rt.alloc(), text),
+            Some((*kind, *place)),
+            "at {text:?}"
+        );
     }
 }
 
-#[test]
-fn nesting_ends_at_level_127(rt: HostRuntime) -> Result<(), Fail> {
-    let mut text = vec![in rt.alloc(); b'['; 127]?;
-    for _ in 0..127 {
+/// So many lists, one in the other.
+fn nested(alloc: Global, count: usize) -> Result<Vec<u8>, AllocError> {
+    let mut text = vec![in alloc; b'['; count]?;
+    for _ in 0..count {
         text.push(b']')?;
     }
-    assert!(rt; read(rt.alloc(), text.as_slice()).is_ok());
-    let deep = vec![in rt.alloc(); b'['; 128]?;
+    Ok(text)
+}
+
+#[test]
+fn nesting_ends_at_level_127(rt: HostRuntime) -> Result<(), AllocError> {
+    let alloc = rt.alloc();
+    assert!(rt; read(alloc, nested(alloc, 127)?.as_slice()).is_ok());
+    let deep = vec![in alloc; b'['; 128]?;
     assert_eq!(rt;
-        fault(rt.alloc(), deep.as_slice()),
+        fault(alloc, deep.as_slice()),
         Some((FaultKind::Depth, 127))
     );
     Ok(())
 }
 
-/// The least and the greatest number that a value is.
-fn numbers_of(value: &Value) -> (Option<i64>, Option<u64>) {
-    (value.as_i64(), value.as_u64())
-}
+/// A number as each type has it.
+type Numbers = (Option<i64>, Option<u64>);
 
-#[test]
-fn numbers(rt: HostRuntime) -> Result<(), Fail> {
-    for (text, wanted) in [
-        ("0", (Some(0), Some(0))),
-        (" \t\r\n10 \n", (Some(10), Some(10))),
-        ("-1", (Some(-1), None)),
-        ("1234567890", (Some(1_234_567_890), Some(1_234_567_890))),
-        (
-            "9223372036854775807",
-            (Some(i64::MAX), Some(9_223_372_036_854_775_807)),
-        ),
-        ("-9223372036854775808", (Some(i64::MIN), None)),
-        ("18446744073709551615", (None, Some(u64::MAX))),
-    ] {
-        let value = value(rt.alloc(), text)?;
-        assert_eq!(rt; numbers_of(&value), wanted, "{text}");
+const NUMBERS: &[(&str, Numbers)] = &[
+    ("0", (Some(0), Some(0))),
+    (" \t\r\n10 \n", (Some(10), Some(10))),
+    ("-1", (Some(-1), None)),
+    ("1234567890", (Some(1_234_567_890), Some(1_234_567_890))),
+    (
+        "9223372036854775807",
+        (Some(i64::MAX), Some(9_223_372_036_854_775_807)),
+    ),
+    ("-9223372036854775808", (Some(i64::MIN), None)),
+    ("18446744073709551615", (None, Some(u64::MAX))),
+];
+
+/// Whether a number's text is read as these.
+fn is_number(alloc: Global, text: &str, wanted: Numbers) -> bool {
+    match from_str(alloc, text) {
+        Ok(value) => value.as_i64() == wanted.0 && value.as_u64() == wanted.1,
+        Err(_) => false,
     }
-    Ok(())
 }
 
 #[test]
-fn strings(rt: HostRuntime) -> Result<(), Fail> {
-    for (text, wanted) in [
-        ("\"\"", ""),
-        ("\"plain / text\"", "plain / text"),
-        ("\"\u{e9}\u{20ac}\u{1f600}\"", "é€😀"),
-        ("\"\\\"\\\\\\/\\b\\f\\n\\r\\t\"", "\"\\/\u{8}\u{c}\n\r\t"),
-        ("\"\\u0041\\u00e9\\u20AC\\u0000\"", "Aé€\0"),
-        ("\"a\\ud83d\\ude00z\"", "a😀z"),
-        ("\"\\uDBFF\\uDFFF\"", "\u{10ffff}"),
-        ("\"é\\né\"", "é\né"),
-    ] {
-        let value = value(rt.alloc(), text)?;
-        assert_eq!(rt; value.as_str(), Some(wanted), "{text}");
+fn numbers(rt: HostRuntime) {
+    for (text, wanted) in NUMBERS {
+        assert!(rt; is_number(rt.alloc(), text, *wanted), "{text}");
     }
-    Ok(())
+}
+
+const STRINGS: &[(&str, &str)] = &[
+    ("\"\"", ""),
+    ("\"plain / text\"", "plain / text"),
+    ("\"\u{e9}\u{20ac}\u{1f600}\"", "é€😀"),
+    ("\"\\\"\\\\\\/\\b\\f\\n\\r\\t\"", "\"\\/\u{8}\u{c}\n\r\t"),
+    ("\"\\u0041\\u00e9\\u20AC\\u0000\"", "Aé€\0"),
+    ("\"a\\ud83d\\ude00z\"", "a😀z"),
+    ("\"\\uDBFF\\uDFFF\"", "\u{10ffff}"),
+    ("\"é\\né\"", "é\né"),
+];
+
+/// Whether a string's text is read as `wanted`.
+fn is_string(alloc: Global, text: &str, wanted: &str) -> bool {
+    match from_str(alloc, text) {
+        Ok(value) => value.as_str() == Some(wanted),
+        Err(_) => false,
+    }
 }
 
 #[test]
-fn a_repeated_key_keeps_its_place_and_takes_its_last_value(rt: HostRuntime) -> Result<(), Fail> {
+fn strings(rt: HostRuntime) {
+    for (text, wanted) in STRINGS {
+        assert!(rt; is_string(rt.alloc(), text, wanted), "{text}");
+    }
+}
+
+/// What a text is read as, printed.
+fn read_and_shown(alloc: Global, text: &[u8]) -> Result<Text, Refused<ReadFault>> {
+    Ok(shown(alloc, &read(alloc, text)?)?)
+}
+
+#[test]
+fn a_repeated_key_keeps_its_place_and_takes_its_last_value(
+    rt: HostRuntime,
+) -> Result<(), Refused<ReadFault>> {
     let text = b" { \"b\" : 1 , \"a\" : [ true , false , null ] , \"b\" : 3 } ";
-    let value = read(rt.alloc(), text)?;
     assert_eq!(rt;
-        shown(rt.alloc(), &value)?.as_str(),
+        read_and_shown(rt.alloc(), text)?.as_str(),
         "{\"b\":3,\"a\":[true,false,null]}"
     );
     Ok(())
@@ -190,20 +219,26 @@ fn front_fault(alloc: Global, text: &[u8]) -> Option<(FaultKind, usize)> {
     }
 }
 
+/// The number that the front of a text is read as.
+fn front_number(alloc: Global, text: &[u8]) -> Option<i64> {
+    front(alloc, text).ok()?.as_i64()
+}
+
+/// Where the fronts of texts break.
+const BROKEN_FRONTS: &[(&[u8], FaultKind, usize)] = &[
+    (b"01", FaultKind::Syntax, 1),
+    (b"1.5", FaultKind::Float, 0),
+    (b"[1", FaultKind::Syntax, 2),
+];
+
 #[test]
-fn a_front_is_read_whatever_follows(rt: HostRuntime) -> Result<(), Fail> {
-    let alloc = rt.alloc();
-    assert_eq!(rt; front(alloc, b" 12 x")?.as_i64(), Some(12));
-    for (text, kind, place) in [
-        ("01", FaultKind::Syntax, 1),
-        ("1.5", FaultKind::Float, 0),
-        ("[1", FaultKind::Syntax, 2),
-    ] {
+fn a_front_is_read_whatever_follows(rt: HostRuntime) {
+    assert_eq!(rt; front_number(rt.alloc(), b" 12 x"), Some(12));
+    for (text, kind, place) in BROKEN_FRONTS {
         assert_eq!(rt;
-            front_fault(alloc, text.as_bytes()),
-            Some((kind, place)),
-            "at {text}"
+            front_fault(rt.alloc(), text),
+            Some((*kind, *place)),
+            "at {text:?}"
         );
     }
-    Ok(())
 }

@@ -1,112 +1,127 @@
 //! Worked cases of what values stand for, by kind, with the cause of each refusal.
-use crate::fixtures::{shown, value};
+use crate::fixtures::shown;
+use jb_read::{ReadFault, from_str};
 use jb_shape::{
     FromValue, MapKey, Members, ShapeError, ToValue, from_value, laws, member, read_members,
     read_variant, to_value,
 };
 use jb_tree::{Listed, Map, Refused, Text, Value};
 use std::alloc::{AllocError, Global};
-use std::test::Fail;
+
+/// What the value of a JSON text is read as, if it is.
+fn read<T: FromValue>(alloc: Global, text: &str) -> Option<T> {
+    let value = from_str(alloc, text).ok()?;
+    from_value(alloc, &value).ok()
+}
 
 /// Whether the value of a JSON text is read as `wanted`.
-fn reads<T: FromValue + PartialEq>(alloc: Global, text: &str, wanted: T) -> Result<bool, Fail> {
-    let read: T = from_value(alloc, &value(alloc, text)?)?;
-    Ok(read == wanted)
+fn reads<T: FromValue + PartialEq>(alloc: Global, text: &str, wanted: T) -> bool {
+    read(alloc, text) == Some(wanted)
 }
 
-/// Why the value of a JSON text is not of the type.
-fn cause<T: FromValue>(alloc: Global, text: &str) -> Result<Option<ShapeError>, Fail> {
-    match from_value::<T>(alloc, &value(alloc, text)?) {
-        Err(Refused::Fault(cause)) => Ok(Some(cause)),
-        _ => Ok(None),
+/// Whether the value of a JSON text is refused so where the type is asked for.
+fn refuses<T: FromValue>(alloc: Global, text: &str, wanted: ShapeError) -> bool {
+    let Ok(value) = from_str(alloc, text) else {
+        return false;
+    };
+    match from_value::<T>(alloc, &value) {
+        Err(Refused::Fault(cause)) => cause == wanted,
+        _ => false,
     }
 }
 
 #[test]
-fn whole_numbers_of_each_type_are_read(rt: HostRuntime) -> Result<(), Fail> {
+fn whole_numbers_of_each_type_are_read(rt: HostRuntime) {
     let alloc = rt.alloc();
-    for (is_read, name) in [
-        (reads(alloc, "255", 255u8)?, "u8"),
-        (reads(alloc, "65535", 65_535u16)?, "u16"),
-        (reads(alloc, "4294967295", 4_294_967_295u32)?, "u32"),
-        (reads(alloc, "18446744073709551615", u64::MAX)?, "u64"),
-        (reads(alloc, "7", 7usize)?, "usize"),
-        (reads(alloc, "-128", -128i8)?, "i8"),
-        (reads(alloc, "-32768", -32_768i16)?, "i16"),
-        (reads(alloc, "-9223372036854775808", isize::MIN)?, "isize"),
-        (reads(alloc, "3", Some(3u8))?, "some u8"),
-        (reads(alloc, "null", None::<u8>)?, "no u8"),
-        (reads(alloc, "[1,2]", (1u8, 2i64))?, "a pair of numbers"),
-        (reads(alloc, "[false,null]", (false, ()))?, "a pair"),
-    ] {
-        assert!(rt; is_read, "{name}");
-    }
-    Ok(())
+    let are_read = [
+        reads(alloc, "255", 255u8),
+        reads(alloc, "65535", 65_535u16),
+        reads(alloc, "4294967295", 4_294_967_295u32),
+        reads(alloc, "18446744073709551615", u64::MAX),
+        reads(alloc, "7", 7usize),
+        reads(alloc, "-128", -128i8),
+        reads(alloc, "-32768", -32_768i16),
+        reads(alloc, "-9223372036854775808", isize::MIN),
+        reads(alloc, "3", Some(3u8)),
+        reads(alloc, "null", None::<u8>),
+        reads(alloc, "[1,2]", (1u8, 2i64)),
+        reads(alloc, "[false,null]", (false, ())),
+    ];
+    assert_eq!(rt; are_read, [true; 12]);
 }
 
 #[test]
-fn numbers_outside_their_types_are_too_large(rt: HostRuntime) -> Result<(), Fail> {
+fn numbers_outside_their_types_are_too_large(rt: HostRuntime) {
     let alloc = rt.alloc();
-    for (cause, name) in [
-        (cause::<u8>(alloc, "300")?, "u8"),
-        (cause::<u8>(alloc, "-1")?, "u8 of -1"),
-        (cause::<i8>(alloc, "128")?, "i8"),
-        (cause::<i32>(alloc, "2147483648")?, "i32"),
-        (cause::<i64>(alloc, "18446744073709551615")?, "i64"),
-    ] {
-        assert_eq!(rt; cause, Some(ShapeError::NumberTooLarge), "{name}");
-    }
-    Ok(())
+    let cause = ShapeError::NumberTooLarge;
+    let are_refused = [
+        refuses::<u8>(alloc, "300", cause),
+        refuses::<u8>(alloc, "-1", cause),
+        refuses::<i8>(alloc, "128", cause),
+        refuses::<i32>(alloc, "2147483648", cause),
+        refuses::<i64>(alloc, "18446744073709551615", cause),
+    ];
+    assert_eq!(rt; are_refused, [true; 5]);
 }
 
 #[test]
-fn other_kinds_are_refused(rt: HostRuntime) -> Result<(), Fail> {
+fn other_kinds_are_refused(rt: HostRuntime) {
     let alloc = rt.alloc();
-    for (cause, name) in [
-        (cause::<bool>(alloc, "\"true\"")?, "bool"),
-        (cause::<u8>(alloc, "\"true\"")?, "u8"),
-        (cause::<()>(alloc, "\"true\"")?, "nothing"),
-        (cause::<Text>(alloc, "null")?, "text"),
-        (cause::<Listed<bool>>(alloc, "\"true\"")?, "list"),
-        (cause::<(bool, bool)>(alloc, "\"true\"")?, "pair"),
-        (cause::<(bool, Text)>(alloc, "[1,2]")?, "first of a pair"),
-        (cause::<Members<Text, bool>>(alloc, "\"true\"")?, "members"),
-        (
-            cause::<Members<Text, bool>>(alloc, "{\"1\":30}")?,
-            "a member",
-        ),
-        (cause::<Option<u8>>(alloc, "\"true\"")?, "some u8"),
-    ] {
-        assert_eq!(rt; cause, Some(ShapeError::WrongKind), "{name}");
+    let cause = ShapeError::WrongKind;
+    let are_refused = [
+        refuses::<bool>(alloc, "\"true\"", cause),
+        refuses::<u8>(alloc, "\"true\"", cause),
+        refuses::<()>(alloc, "\"true\"", cause),
+        refuses::<Text>(alloc, "null", cause),
+        refuses::<Listed<bool>>(alloc, "\"true\"", cause),
+        refuses::<(bool, bool)>(alloc, "\"true\"", cause),
+        refuses::<(bool, Text)>(alloc, "[1,2]", cause),
+        refuses::<Members<Text, bool>>(alloc, "\"true\"", cause),
+        refuses::<Members<Text, bool>>(alloc, "{\"1\":30}", cause),
+        refuses::<Option<u8>>(alloc, "\"true\"", cause),
+    ];
+    assert_eq!(rt; are_refused, [true; 10]);
+}
+
+fn has_text(alloc: Global, value: &Value, wanted: &str) -> bool {
+    match shown(alloc, value) {
+        Ok(text) => text.as_str() == wanted,
+        Err(_) => false,
     }
-    Ok(())
 }
 
 /// Whether the value that stands for a thing has this JSON text.
-fn gives<T: ToValue>(alloc: Global, thing: &T, wanted: &str) -> Result<bool, Fail> {
-    let value = to_value(alloc, thing)?;
-    Ok(shown(alloc, &value)?.as_str() == wanted)
+fn gives<T: ToValue>(alloc: Global, thing: &T, wanted: &str) -> bool {
+    match to_value(alloc, thing) {
+        Ok(value) => has_text(alloc, &value, wanted),
+        Err(_) => false,
+    }
+}
+
+/// The list of these bytes.
+fn bytes_of(alloc: Global, bytes: &[u8]) -> Result<Listed<u8>, AllocError> {
+    let mut list = Listed::new(alloc);
+    for byte in bytes {
+        list.push(*byte)?;
+    }
+    Ok(list)
 }
 
 #[test]
-fn lists_and_pairs_are_arrays(rt: HostRuntime) -> Result<(), Fail> {
+fn lists_and_pairs_are_arrays(rt: HostRuntime) -> Result<(), AllocError> {
     let alloc = rt.alloc();
-    assert!(rt; gives(alloc, &u64::MAX, "18446744073709551615")?);
-    assert!(rt; gives(alloc, &(false, ()), "[false,null]")?);
-    let mut list = Listed::new(alloc);
-    list.push(1u8)?;
-    list.push(2)?;
-    assert!(rt; gives(alloc, &list, "[1,2]")?);
-    assert!(rt; reads(alloc, "[1,2]", list)?);
-    let short = cause::<(u8, u8)>(alloc, "[1]")?;
-    assert_eq!(rt; short, Some(ShapeError::WrongLength));
+    assert!(rt; gives(alloc, &u64::MAX, "18446744073709551615"));
+    assert!(rt; gives(alloc, &(false, ()), "[false,null]"));
+    assert!(rt; refuses::<(u8, u8)>(alloc, "[1]", ShapeError::WrongLength));
+    assert!(rt; gives(alloc, &bytes_of(alloc, &[1, 2])?, "[1,2]"));
+    assert!(rt; reads(alloc, "[1,2]", bytes_of(alloc, &[1, 2])?));
     Ok(())
 }
 
 #[test]
-fn a_value_stands_for_itself(rt: HostRuntime) -> Result<(), Fail> {
-    let value = value(rt.alloc(), "[1,2]")?;
-    assert!(rt; gives(rt.alloc(), &value, "[1,2]")?);
+fn a_value_stands_for_itself(rt: HostRuntime) -> Result<(), Refused<ReadFault>> {
+    let value = from_str(rt.alloc(), "[1,2]")?;
+    assert!(rt; gives(rt.alloc(), &value, "[1,2]"));
     Ok(())
 }
 
@@ -123,33 +138,48 @@ fn reads_key<K: MapKey + PartialEq>(
     }
 }
 
+/// Texts that are read as keys without a sign, or refused.
+const UNSIGNED_KEYS: &[(&str, Result<u8, ShapeError>)] = &[
+    ("0", Ok(0)),
+    ("+7", Ok(7)),
+    ("007", Ok(7)),
+    ("255", Ok(255)),
+    ("256", Err(ShapeError::NumberTooLarge)),
+    ("99999999999999999999", Err(ShapeError::NumberTooLarge)),
+    ("99999999999999999999x", Err(ShapeError::WrongKind)),
+    ("-1", Err(ShapeError::WrongKind)),
+    ("", Err(ShapeError::WrongKind)),
+    ("+", Err(ShapeError::WrongKind)),
+    ("1.0", Err(ShapeError::WrongKind)),
+];
+
+/// The same of keys that may have one.
+const SIGNED_KEYS: &[(&str, Result<i8, ShapeError>)] = &[
+    ("-128", Ok(-128)),
+    ("-0", Ok(0)),
+    ("+127", Ok(127)),
+    ("-129", Err(ShapeError::NumberTooLarge)),
+    ("--1", Err(ShapeError::WrongKind)),
+    ("-", Err(ShapeError::WrongKind)),
+];
+
+/// The first of these texts that is neither read as the key beside it nor refused so.
+fn first_misread<'t, K: MapKey + PartialEq + Copy>(
+    alloc: Global,
+    rows: &[(&'t str, Result<K, ShapeError>)],
+) -> Option<&'t str> {
+    for (text, wanted) in rows {
+        if !reads_key(alloc, *text, *wanted) {
+            return Some(*text);
+        }
+    }
+    None
+}
+
 #[test]
 fn texts_are_read_as_whole_numbers(rt: HostRuntime) {
-    for (text, wanted) in [
-        ("0", Ok(0u8)),
-        ("+7", Ok(7)),
-        ("007", Ok(7)),
-        ("255", Ok(255)),
-        ("256", Err(ShapeError::NumberTooLarge)),
-        ("99999999999999999999", Err(ShapeError::NumberTooLarge)),
-        ("99999999999999999999x", Err(ShapeError::WrongKind)),
-        ("-1", Err(ShapeError::WrongKind)),
-        ("", Err(ShapeError::WrongKind)),
-        ("+", Err(ShapeError::WrongKind)),
-        ("1.0", Err(ShapeError::WrongKind)),
-    ] {
-        assert!(rt; reads_key(rt.alloc(), text, wanted), "{text}");
-    }
-    for (text, wanted) in [
-        ("-128", Ok(-128i8)),
-        ("-0", Ok(0)),
-        ("+127", Ok(127)),
-        ("-129", Err(ShapeError::NumberTooLarge)),
-        ("--1", Err(ShapeError::WrongKind)),
-        ("-", Err(ShapeError::WrongKind)),
-    ] {
-        assert!(rt; reads_key(rt.alloc(), text, wanted), "{text}");
-    }
+    assert_eq!(rt; first_misread(rt.alloc(), UNSIGNED_KEYS), None);
+    assert_eq!(rt; first_misread(rt.alloc(), SIGNED_KEYS), None);
 }
 
 /// Whether the text of the key is `wanted`.
@@ -170,25 +200,37 @@ fn keys_have_texts(rt: HostRuntime) {
     assert!(rt; reads_key::<bool>(alloc, "true", Err(ShapeError::KeyNotText)));
 }
 
-#[test]
-fn members_are_an_object(rt: HostRuntime) -> Result<(), Fail> {
-    let alloc = rt.alloc();
-    let mut pairs = Listed::new(alloc);
-    for pair in [(1u8, 10u8), (2, 20), (1, 30)] {
-        pairs.push(pair)?;
+/// The members of these pairs.
+fn members_of(alloc: Global, pairs: &[(u8, u8)]) -> Result<Members<u8, u8>, AllocError> {
+    let mut list = Listed::new(alloc);
+    for pair in pairs {
+        list.push(*pair)?;
     }
-    assert!(rt; gives(alloc, &Members { pairs }, "{\"1\":30,\"2\":20}")?);
-    let keyless = cause::<Members<bool, u8>>(alloc, "{\"1\":30}")?;
-    assert_eq!(rt; keyless, Some(ShapeError::KeyNotText));
-    Ok(())
+    Ok(Members { pairs: list })
 }
 
 #[test]
-fn an_object_is_read_as_members(rt: HostRuntime) -> Result<(), Fail> {
-    let object = value(rt.alloc(), "{\"1\":30,\"2\":20}")?;
-    let back: Members<i64, i64> = from_value(rt.alloc(), &object)?;
-    assert_eq!(rt; back.pairs.as_slice(), [(1, 30), (2, 20)].as_slice());
+fn members_are_an_object(rt: HostRuntime) -> Result<(), AllocError> {
+    let alloc = rt.alloc();
+    let cause = ShapeError::KeyNotText;
+    assert!(rt; refuses::<Members<bool, u8>>(alloc, "{\"1\":30}", cause));
+    let members = members_of(alloc, &[(1, 10), (2, 20), (1, 30)])?;
+    assert!(rt; gives(alloc, &members, "{\"1\":30,\"2\":20}"));
     Ok(())
+}
+
+/// Whether members were read, and have these pairs.
+fn has_pairs(members: Option<Members<i64, i64>>, wanted: &[(i64, i64)]) -> bool {
+    match members {
+        Some(members) => members.pairs.as_slice() == wanted,
+        None => false,
+    }
+}
+
+#[test]
+fn an_object_is_read_as_members(rt: HostRuntime) {
+    let back = read(rt.alloc(), "{\"1\":30,\"2\":20}");
+    assert!(rt; has_pairs(back, &[(1, 30), (2, 20)]));
 }
 
 /// The names of the tests' variants and fields.
@@ -206,18 +248,32 @@ fn variant(value: &Value, names: &Listed<Text>) -> Result<(usize, bool), ShapeEr
     Ok((place, content.is_some()))
 }
 
+/// Whether the value of a JSON text is this variant, or refused so.
+fn is_variant(
+    alloc: Global,
+    names: &Listed<Text>,
+    text: &str,
+    wanted: Result<(usize, bool), ShapeError>,
+) -> bool {
+    match from_str(alloc, text) {
+        Ok(value) => variant(&value, names) == wanted,
+        Err(_) => false,
+    }
+}
+
+const VARIANTS: &[(&str, Result<(usize, bool), ShapeError>)] = &[
+    ("\"C\"", Ok((1, false))),
+    ("{\"A\":5}", Ok((0, true))),
+    ("\"B\"", Err(ShapeError::UnknownVariant)),
+    ("{\"A\":5,\"C\":6}", Err(ShapeError::WrongLength)),
+    ("1", Err(ShapeError::WrongKind)),
+];
+
 #[test]
-fn variants_have_names(rt: HostRuntime) -> Result<(), Fail> {
+fn variants_have_names(rt: HostRuntime) -> Result<(), AllocError> {
     let names = names(rt.alloc())?;
-    for (text, wanted) in [
-        ("\"C\"", Ok((1, false))),
-        ("{\"A\":5}", Ok((0, true))),
-        ("\"B\"", Err(ShapeError::UnknownVariant)),
-        ("{\"A\":5,\"C\":6}", Err(ShapeError::WrongLength)),
-        ("1", Err(ShapeError::WrongKind)),
-    ] {
-        let value = value(rt.alloc(), text)?;
-        assert_eq!(rt; variant(&value, &names), wanted, "{text}");
+    for (text, wanted) in VARIANTS {
+        assert!(rt; is_variant(rt.alloc(), &names, text, *wanted), "{text}");
     }
     Ok(())
 }
@@ -227,29 +283,54 @@ fn count_members(value: &Value, known: &Listed<Text>) -> Result<usize, ShapeErro
     Ok(read_members(value, known)?.len())
 }
 
-#[test]
-fn fields_have_names(rt: HostRuntime) -> Result<(), Fail> {
-    let names = names(rt.alloc())?;
-    for (text, wanted) in [
-        ("{\"A\":5,\"C\":6}", Ok(2)),
-        ("{\"B\":5}", Err(ShapeError::UnknownField)),
-        ("\"C\"", Err(ShapeError::WrongKind)),
-    ] {
-        let value = value(rt.alloc(), text)?;
-        assert_eq!(rt; count_members(&value, &names), wanted, "{text}");
+/// Whether the value of a JSON text has so many members, or is refused so.
+fn has_members(
+    alloc: Global,
+    known: &Listed<Text>,
+    text: &str,
+    wanted: Result<usize, ShapeError>,
+) -> bool {
+    match from_str(alloc, text) {
+        Ok(value) => count_members(&value, known) == wanted,
+        Err(_) => false,
     }
-    let empty = Map::new(rt.alloc());
-    assert_eq!(rt; member(&empty, "a").err(), Some(ShapeError::MissingField));
+}
+
+/// Why an object has no such member.
+fn missing(members: &Map) -> Option<ShapeError> {
+    member(members, "a").err()
+}
+
+const FIELDS: &[(&str, Result<usize, ShapeError>)] = &[
+    ("{\"A\":5,\"C\":6}", Ok(2)),
+    ("{\"B\":5}", Err(ShapeError::UnknownField)),
+    ("\"C\"", Err(ShapeError::WrongKind)),
+];
+
+#[test]
+fn fields_have_names(rt: HostRuntime) -> Result<(), AllocError> {
+    let alloc = rt.alloc();
+    let refused = missing(&Map::new(alloc));
+    assert_eq!(rt; refused, Some(ShapeError::MissingField));
+    let names = names(alloc)?;
+    for (text, wanted) in FIELDS {
+        assert!(rt; has_members(alloc, &names, text, *wanted), "{text}");
+    }
     Ok(())
 }
 
-#[test]
-fn what_was_given_comes_back(rt: HostRuntime) -> Result<(), Fail> {
-    let alloc = rt.alloc();
-    assert_eq!(rt; laws::comes_back(alloc, &(true, -5i8))?, (true, -5));
+/// What comes back for the members of one pair.
+fn seven(alloc: Global) -> Result<Members<u64, Text>, Refused<ShapeError>> {
     let mut pairs = Listed::new(alloc);
     pairs.push((7u64, Text::from_str(alloc, "seven")?))?;
-    let back = laws::comes_back(alloc, &Members { pairs })?;
-    assert!(rt; gives(alloc, &back, "{\"7\":\"seven\"}")?);
+    laws::comes_back(alloc, &Members { pairs })
+}
+
+#[test]
+fn what_was_given_comes_back(rt: HostRuntime) -> Result<(), Refused<ShapeError>> {
+    let alloc = rt.alloc();
+    assert_eq!(rt; laws::comes_back(alloc, &(true, -5i8))?, (true, -5));
+    let members = seven(alloc)?;
+    assert!(rt; gives(alloc, &members, "{\"7\":\"seven\"}"));
     Ok(())
 }

@@ -1,23 +1,31 @@
 //! Sinks: what each takes and holds, and each call that fails.
 use jb_io::{MemorySink, Sink, SinkFault, SureSink, WriterSink};
 use jb_tree::Listed;
+use std::alloc::AllocError;
 use std::io;
 use std::io::{ErrorKind, Write};
-use std::test::Fail;
+
+/// What is written, and what a sink of five bytes then holds, and whether that is all.
+const SURE_WRITES: &[(&str, &str, bool)] = &[
+    ("abc", "abc", true),
+    ("", "abc", true),
+    ("de", "abcde", true),
+    ("f", "abcde", false),
+];
 
 #[test]
-fn a_sure_sink_holds_what_fits(rt: HostRuntime) -> Result<(), Fail> {
+fn a_sure_sink_holds_what_fits(rt: HostRuntime) -> Result<(), AllocError> {
     let mut sink = SureSink::new(rt.alloc(), 5)?;
-    for (bytes, held, is_whole) in [
-        ("abc", "abc", true),
-        ("", "abc", true),
-        ("de", "abcde", true),
-        ("f", "abcde", false),
-    ] {
+    for (bytes, held, is_whole) in SURE_WRITES {
         assert_eq!(rt; sink.write(bytes.as_bytes()), Ok(bytes.len()));
-        assert_eq!(rt; sink.is_whole(), is_whole);
+        assert_eq!(rt; sink.is_whole(), *is_whole);
         assert_eq!(rt; sink.written(), held.as_bytes());
     }
+    Ok(())
+}
+
+#[test]
+fn a_small_sure_sink_holds_the_first_bytes(rt: HostRuntime) -> Result<(), AllocError> {
     let mut small = SureSink::new(rt.alloc(), 2)?;
     assert_eq!(rt; small.write(b"abc"), Ok(3));
     assert!(rt; !small.is_whole());
@@ -25,15 +33,21 @@ fn a_sure_sink_holds_what_fits(rt: HostRuntime) -> Result<(), Fail> {
     Ok(())
 }
 
-#[test]
-fn a_writer_sink_hands_on_what_it_takes(rt: HostRuntime) -> Result<(), Fail> {
-    let mut held = Vec::new(rt.alloc());
-    let mut sink = WriterSink::new(&mut held);
-    for bytes in ["ab", "", "c"] {
-        assert_eq!(rt; sink.write(bytes.as_bytes()), Ok(bytes.len()));
+/// Whether each of these texts is taken whole.
+fn takes<S: Sink>(sink: &mut S, texts: &[&str]) -> bool {
+    for text in texts {
+        if sink.write(text.as_bytes()) != Ok(text.len()) {
+            return false;
+        }
     }
+    true
+}
+
+#[test]
+fn a_writer_sink_hands_on_what_it_takes(rt: HostRuntime) {
+    let mut held = Vec::new(rt.alloc());
+    assert!(rt; takes(&mut WriterSink::new(&mut held), &["ab", "", "c"]));
     assert_eq!(rt; held.as_slice(), b"abc".as_slice());
-    Ok(())
 }
 
 /// What a writer does at its writes, in turn, and at each flush.
@@ -69,6 +83,13 @@ impl Write for Scripted<'_> {
     }
 }
 
+const SCRIPTED_WRITES: &[(&str, Result<usize, SinkFault>)] = &[
+    ("abc", Ok(2)),
+    ("a broken pipe", Err(SinkFault)),
+    ("a write of nothing", Err(SinkFault)),
+    ("c", Ok(1)),
+];
+
 #[test]
 fn a_writer_sink_goes_on_past_what_fails(rt: HostRuntime) {
     let mut sink = WriterSink::new(Scripted {
@@ -76,13 +97,8 @@ fn a_writer_sink_goes_on_past_what_fails(rt: HostRuntime) {
         interrupts: 3,
         flushes: true,
     });
-    for (bytes, wanted) in [
-        ("abc", Ok(2)),
-        ("a broken pipe", Err(SinkFault)),
-        ("a write of nothing", Err(SinkFault)),
-        ("c", Ok(1)),
-    ] {
-        assert_eq!(rt; sink.write(bytes.as_bytes()), wanted, "{bytes}");
+    for (bytes, wanted) in SCRIPTED_WRITES {
+        assert_eq!(rt; sink.write(bytes.as_bytes()), *wanted, "{bytes}");
     }
     let mut full = WriterSink::new(Scripted {
         writes: &[Some(1)],
@@ -92,19 +108,21 @@ fn a_writer_sink_goes_on_past_what_fails(rt: HostRuntime) {
     assert_eq!(rt; full.write(b"c"), Err(SinkFault), "no flush");
 }
 
+const MEMORY_WRITES: &[(&str, Result<usize, SinkFault>)] = &[
+    ("abcd", Ok(3)),
+    ("d", Err(SinkFault)),
+    ("defg", Ok(2)),
+    ("", Ok(0)),
+    ("f", Err(SinkFault)),
+];
+
 #[test]
-fn listed_calls_fail_and_so_does_a_full_sink(rt: HostRuntime) -> Result<(), Fail> {
+fn listed_calls_fail_and_so_does_a_full_sink(rt: HostRuntime) -> Result<(), AllocError> {
     let mut fails = Listed::new(rt.alloc());
     fails.push(2)?;
     let mut sink = MemorySink::new(rt.alloc(), 5, 3, fails)?;
-    for (bytes, wanted) in [
-        ("abcd", Ok(3)),
-        ("d", Err(SinkFault)),
-        ("defg", Ok(2)),
-        ("", Ok(0)),
-        ("f", Err(SinkFault)),
-    ] {
-        assert_eq!(rt; sink.write(bytes.as_bytes()), wanted, "{bytes}");
+    for (bytes, wanted) in MEMORY_WRITES {
+        assert_eq!(rt; sink.write(bytes.as_bytes()), *wanted, "{bytes}");
     }
     assert_eq!(rt; sink.written(), b"abcde".as_slice());
     Ok(())

@@ -3,7 +3,6 @@ use bytes::Bytes;
 use jb_io::{INPUT_LIMIT, SureSink, SureSource, WriterSink};
 use jb_tool::{run, run_in_memory};
 use std::alloc::{AllocError, Global};
-use std::test::Fail;
 
 fn words_of(alloc: Global, words: &[&str]) -> Result<Vec<String>, AllocError> {
     let mut all = Vec::new(alloc);
@@ -27,40 +26,57 @@ fn ran(
     Ok((status, sink.written() == output.as_bytes()))
 }
 
+const USAGE: &str = "usage: jb_program compact | pretty\n";
+
+const NO_COMMANDS: &[&[&str]] = &[&[], &["compacts"], &["Pretty"], &["compact", "pretty"]];
+
 #[test]
-fn words_that_are_no_command_get_the_usage_line(rt: HostRuntime) -> Result<(), Fail> {
-    let usage = "usage: jb_program compact | pretty\n";
-    let rows: [&[&str]; 4] = [&[], &["compacts"], &["Pretty"], &["compact", "pretty"]];
-    for words in rows {
-        let answer = ran(rt.alloc(), words, Bytes::from_static(b"{}"), usage)?;
+fn words_that_are_no_command_get_the_usage_line(rt: HostRuntime) -> Result<(), AllocError> {
+    for words in NO_COMMANDS {
+        let answer = ran(rt.alloc(), words, Bytes::from_static(b"{}"), USAGE)?;
         assert_eq!(rt; answer, (2, true), "{words:?}");
     }
     Ok(())
 }
 
+/// A word, an input, and what a run over them ends with and writes.
+const RUNS: &[(&str, &str, u8, &str)] = &[
+    (
+        "compact",
+        " [1, {\"a\" : \"\\u0041/\"}] ",
+        0,
+        "[1,{\"a\":\"A/\"}]\n",
+    ),
+    (
+        "compact",
+        "{\"b\":1,\"a\":2,\"b\":3}",
+        0,
+        "{\"b\":3,\"a\":2}\n",
+    ),
+    (
+        "pretty",
+        "[[],{\"a\":null}]",
+        0,
+        "[\n  [],\n  {\n    \"a\": null\n  }\n]\n",
+    ),
+    ("compact", "[1,]", 1, "syntax at byte 3\n"),
+    ("pretty", "", 1, "syntax at byte 0\n"),
+    ("compact", "[1.5]", 1, "float at byte 1\n"),
+    (
+        "compact",
+        "[18446744073709551616]",
+        1,
+        "number range at byte 1\n",
+    ),
+    ("compact", "1 2", 1, "syntax at byte 2\n"),
+];
+
 #[test]
-fn texts_are_printed_or_refused(rt: HostRuntime) -> Result<(), Fail> {
-    let spelled = " [1, {\"a\" : \"\\u0041/\"}] ";
-    let twice = "{\"b\":1,\"a\":2,\"b\":3}";
-    let lines = "[\n  [],\n  {\n    \"a\": null\n  }\n]\n";
-    for (word, text, status, line) in [
-        ("compact", spelled, 0, "[1,{\"a\":\"A/\"}]\n"),
-        ("compact", twice, 0, "{\"b\":3,\"a\":2}\n"),
-        ("pretty", "[[],{\"a\":null}]", 0, lines),
-        ("compact", "[1,]", 1, "syntax at byte 3\n"),
-        ("pretty", "", 1, "syntax at byte 0\n"),
-        ("compact", "[1.5]", 1, "float at byte 1\n"),
-        (
-            "compact",
-            "[18446744073709551616]",
-            1,
-            "number range at byte 1\n",
-        ),
-        ("compact", "1 2", 1, "syntax at byte 2\n"),
-    ] {
+fn texts_are_printed_or_refused(rt: HostRuntime) -> Result<(), AllocError> {
+    for (word, text, status, line) in RUNS {
         let input = Bytes::copy_from_slice(rt.alloc(), text.as_bytes())?;
-        let answer = ran(rt.alloc(), &[word], input, line)?;
-        assert_eq!(rt; answer, (status, true), "{text}");
+        let answer = ran(rt.alloc(), &[*word], input, line)?;
+        assert_eq!(rt; answer, (*status, true), "{text}");
     }
     Ok(())
 }
@@ -71,7 +87,7 @@ fn filled(alloc: Global, byte: u8, count: usize) -> Result<Bytes, AllocError> {
 }
 
 #[test]
-fn input_has_limits(rt: HostRuntime) -> Result<(), Fail> {
+fn input_has_limits(rt: HostRuntime) -> Result<(), AllocError> {
     for (byte, count, status, line) in [
         (b'[', 128, 1, "depth at byte 127\n"),
         (b' ', INPUT_LIMIT + 1, 6, ""),
@@ -84,7 +100,7 @@ fn input_has_limits(rt: HostRuntime) -> Result<(), Fail> {
 }
 
 #[test]
-fn a_full_sink_has_its_own_status(rt: HostRuntime) -> Result<(), Fail> {
+fn a_full_sink_has_its_own_status(rt: HostRuntime) -> Result<(), AllocError> {
     let words = words_of(rt.alloc(), &["compact"])?;
     let mut room = [0; 5];
     for (asked, wanted) in [(words.as_slice(), b"[1,2,"), (&[], b"usage")] {

@@ -57,38 +57,82 @@ fn reversed(alloc: Global) -> Result<DiagnosticList, Memory> {
     Ok(list)
 }
 
+/// The same in their order.
+fn sorted(alloc: Global) -> Result<DiagnosticList, Memory> {
+    let mut list = reversed(alloc)?;
+    list.sort()?;
+    Ok(list)
+}
+
+/// The messages of the sorted list.
+fn sorted_messages(alloc: Global) -> Result<String, Memory> {
+    let list = sorted(alloc)?;
+    messages(alloc, &list)
+}
+
 #[test]
 fn sorting_goes_by_place_and_row_and_names(rt: HostRuntime) -> Result<(), Fail> {
-    let mut list = reversed(rt.alloc())?;
-    list.sort()?;
+    let messages = sorted_messages(rt.alloc())?;
     assert_eq!(rt;
-        messages(rt.alloc(), &list)?.as_str(),
+        messages.as_str(),
         "syntax error: nowhere;too deep;type `Query` does not have a field `g`;type `Query` does not have a field `h`;unused variable: `$a`;too much recursion;syntax error: later;syntax error: in another file;"
     );
     Ok(())
 }
 
-/// The message of what a walk gave, or `none`.
-fn given(alloc: Global, given: Option<Diagnostic<'_, DiagnosticData>>) -> Result<Text, Memory> {
+/// Adds the message of what a walk gave and a `;`, or `none`.
+fn add_given(
+    out: &mut String,
+    alloc: Global,
+    given: Option<Diagnostic<'_, DiagnosticData>>,
+) -> Result<(), Memory> {
     match given {
-        Some(diagnostic) => diagnostic.error.message(alloc),
-        None => Text::from_str(alloc, "none"),
+        Some(diagnostic) => out.push_str(diagnostic.error.message(alloc)?.as_str())?,
+        None => out.push_str("none")?,
     }
+    out.push_str(";")
+}
+
+/// The messages of the last of a list, the first and the second, as a walk gives them.
+fn walked(alloc: Global, list: &DiagnosticList) -> Result<String, Memory> {
+    let mut out = String::new(alloc);
+    let mut walk = list.iter();
+    add_given(&mut out, alloc, walk.next_back())?;
+    add_given(&mut out, alloc, walk.next())?;
+    add_given(&mut out, alloc, walk.next())?;
+    Ok(out)
+}
+
+/// How many files the third of a list comes with.
+fn files_of_third(list: &DiagnosticList) -> Option<usize> {
+    let mut walk = list.iter();
+    walk.next_back()?;
+    walk.next()?;
+    walk.next()?;
+    let third = walk.next()?;
+    Some(third.sources.len())
+}
+
+fn messages_walked(alloc: Global) -> Result<String, Memory> {
+    let list = reversed(alloc)?;
+    walked(alloc, &list)
+}
+
+/// The length of a list, whether it is empty, and how many files its third comes with.
+fn counts(alloc: Global) -> Result<(usize, bool, Option<usize>), Memory> {
+    let list = reversed(alloc)?;
+    Ok((list.len(), list.is_empty(), files_of_third(&list)))
 }
 
 #[test]
 fn a_list_is_gone_through_from_either_end(rt: HostRuntime) -> Result<(), Fail> {
-    let list = reversed(rt.alloc())?;
-    assert!(rt; list.len() == COUNT && !list.is_empty());
-    let mut walk = list.iter();
-    let last = given(rt.alloc(), walk.next_back())?;
-    assert_eq!(rt; last.as_str(), "syntax error: nowhere");
-    let first = given(rt.alloc(), walk.next())?;
-    assert_eq!(rt; first.as_str(), "syntax error: in another file");
-    let second = given(rt.alloc(), walk.next())?;
-    assert_eq!(rt; second.as_str(), "syntax error: later");
-    let third = walk.next().ok_or("no third")?;
-    assert_eq!(rt; third.sources.len(), 1);
+    let messages = messages_walked(rt.alloc())?;
+    assert_eq!(rt;
+        messages.as_str(),
+        "syntax error: nowhere;syntax error: in another file;syntax error: later;"
+    );
+    let counts = counts(rt.alloc())?;
+    assert_eq!(rt; counts, (COUNT, false, Some(1)));
     Ok(())
 }
 
@@ -111,29 +155,63 @@ fn path_of(list: &DiagnosticList, id: FileId) -> Option<&str> {
     Some(file.path())
 }
 
+/// How many files a list has, and its messages with the paths of the two files behind them.
+fn summary(alloc: Global, list: &DiagnosticList) -> Result<(usize, String), Memory> {
+    let mut out = messages(alloc, list)?;
+    out.push_str(path_of(list, FIRST).unwrap_or("-"))?;
+    out.push_str(";")?;
+    out.push_str(path_of(list, SECOND).unwrap_or("-"))?;
+    Ok((list.sources().len(), out))
+}
+
+/// The same of a list that took in another.
+fn merged(
+    alloc: Global,
+    own: DiagnosticList,
+    other: DiagnosticList,
+) -> Result<(usize, String), Memory> {
+    let mut list = own;
+    list.merge(other)?;
+    summary(alloc, &list)
+}
+
+/// The same of an empty list that took in one with a file.
+fn merged_into_none(alloc: Global) -> Result<(usize, String), Memory> {
+    let other = list_of(alloc, &[(FIRST, "p")], &[(at(0), "one")])?;
+    let own = list_of(alloc, &[], &[])?;
+    merged(alloc, own, other)
+}
+
+fn is_list_empty(alloc: Global) -> Result<bool, Memory> {
+    Ok(list_of(alloc, &[], &[])?.is_empty())
+}
+
 #[test]
 fn merging_into_an_empty_list_gives_the_other(rt: HostRuntime) -> Result<(), Fail> {
-    let mut list = list_of(rt.alloc(), &[], &[])?;
-    assert!(rt; list.is_empty());
-    list.merge(list_of(rt.alloc(), &[(FIRST, "p")], &[(at(0), "one")])?)?;
-    assert_eq!(rt; messages(rt.alloc(), &list)?.as_str(), "syntax error: one;");
-    assert_eq!(rt; list.sources().len(), 1);
+    assert!(rt; is_list_empty(rt.alloc())?);
+    let (files, told) = merged_into_none(rt.alloc())?;
+    assert_eq!(rt; (files, told.as_str()), (1, "syntax error: one;p;-"));
     Ok(())
+}
+
+/// The same of a list that took in another with an item at its own place and another text of its own file.
+fn merged_with_ties(alloc: Global) -> Result<(usize, String), Memory> {
+    let others = [(at(2), "c"), (at(1), "first")];
+    let other = list_of(alloc, &[(FIRST, "other"), (SECOND, "second")], &others)?;
+    let owns = [(at(2), "b"), (at(2), "a")];
+    let own = list_of(alloc, &[(FIRST, "own")], &owns)?;
+    merged(alloc, own, other)
 }
 
 #[test]
 fn merging_keeps_ties_and_own_files(rt: HostRuntime) -> Result<(), Fail> {
-    let own = [(at(2), "b"), (at(2), "a")];
-    let mut list = list_of(rt.alloc(), &[(FIRST, "own")], &own)?;
-    let others = [(at(2), "c"), (at(1), "first")];
-    let paths = [(FIRST, "other"), (SECOND, "second")];
-    list.merge(list_of(rt.alloc(), &paths, &others)?)?;
+    let (files, told) = merged_with_ties(rt.alloc())?;
     assert_eq!(rt;
-        messages(rt.alloc(), &list)?.as_str(),
-        "syntax error: first;syntax error: b;syntax error: a;syntax error: c;"
+        (files, told.as_str()),
+        (
+            2,
+            "syntax error: first;syntax error: b;syntax error: a;syntax error: c;own;second"
+        )
     );
-    assert_eq!(rt; list.sources().len(), 2);
-    assert_eq!(rt; path_of(&list, FIRST), Some("own"));
-    assert_eq!(rt; path_of(&list, SECOND), Some("second"));
     Ok(())
 }

@@ -8,12 +8,13 @@ use std::alloc::Global;
 /// Lines on the trees of one text, each with the name of a field and what the field holds.
 ///
 /// The place of a tree is told as the piece of the text that stands there. The lines of a tree's own fields stand two
-/// spaces further in.
+/// spaces further in. Whether there was memory for all lines is told when they are taken.
 #[derive(Drop)]
 pub(crate) struct Description<'t> {
     source: &'t str,
     lines: String,
     depth: usize,
+    added: Result<(), Memory>,
 }
 
 impl<'t> Description<'t> {
@@ -23,51 +24,54 @@ impl<'t> Description<'t> {
             source,
             lines: String::new(alloc),
             depth: 0,
+            added: Ok(()),
         }
     }
 
-    /// The lines.
-    pub(crate) fn into_lines(self) -> String {
+    /// The lines, if there was memory for all of them.
+    pub(crate) fn into_lines(self) -> Result<String, Memory> {
         let Description {
             source: _,
             lines,
             depth: _,
+            added,
         } = self;
-        lines
+        added?;
+        Ok(lines)
     }
 
     /// Adds to the line that is begun.
-    pub(crate) fn add(&mut self, piece: &str) -> Result<(), Memory> {
-        self.lines.push_str(piece)
+    pub(crate) fn add(&mut self, piece: &str) {
+        self.added = self.lines.push_str(piece).and(self.added);
     }
 
     /// Begins a line.
-    pub(crate) fn begin(&mut self, field: &str) -> Result<(), Memory> {
+    pub(crate) fn begin(&mut self, field: &str) {
         for _ in 0..self.depth {
-            self.add("  ")?;
+            self.add("  ");
         }
-        self.add(field)?;
-        self.add(" ")
+        self.add(field);
+        self.add(" ");
     }
 
     /// A line.
-    pub(crate) fn line(&mut self, field: &str, held: &str) -> Result<(), Memory> {
-        self.begin(field)?;
-        self.add(held)?;
-        self.add("\n")
+    pub(crate) fn line(&mut self, field: &str, held: &str) {
+        self.begin(field);
+        self.add(held);
+        self.add("\n");
     }
 
     /// The line of a tree, whose fields follow.
-    pub(crate) fn open(&mut self, field: &str, location: Option<SourceSpan>) -> Result<(), Memory> {
-        self.begin(field)?;
-        self.enter(location)
+    pub(crate) fn open(&mut self, field: &str, location: Option<SourceSpan>) {
+        self.begin(field);
+        self.enter(location);
     }
 
     /// Ends the line of a tree, whose fields follow.
-    pub(crate) fn enter(&mut self, location: Option<SourceSpan>) -> Result<(), Memory> {
-        self.add(self.piece(location))?;
+    pub(crate) fn enter(&mut self, location: Option<SourceSpan>) {
+        self.add(self.piece(location));
+        self.add("\n");
         self.depth = self.depth.wrapping_add(1);
-        self.add("\n")
     }
 
     /// No field of the tree follows any more.
@@ -76,36 +80,33 @@ impl<'t> Description<'t> {
     }
 
     /// The line of a name.
-    pub(crate) fn name(&mut self, field: &str, name: &Name) -> Result<(), Memory> {
-        self.begin(field)?;
-        self.add_name(name)?;
-        self.add("\n")
+    pub(crate) fn name(&mut self, field: &str, name: &Name) {
+        self.begin(field);
+        self.add_name(name);
+        self.add("\n");
     }
 
     /// Adds a name, and where it was read from if that is not where it stands.
-    pub(crate) fn add_name(&mut self, name: &Name) -> Result<(), Memory> {
-        self.add(name.as_str())?;
+    pub(crate) fn add_name(&mut self, name: &Name) {
+        self.add(name.as_str());
         let piece = self.piece(name.location());
-        if piece == name.as_str() {
-            return Ok(());
+        if piece != name.as_str() {
+            self.add(" from ");
+            self.add(piece);
         }
-        self.add(" from ")?;
-        self.add(piece)
     }
 
     /// The line of a name, where there is one.
-    pub(crate) fn name_opt(&mut self, field: &str, name: &Option<Name>) -> Result<(), Memory> {
-        match name {
-            Some(name) => self.name(field, name),
-            None => Ok(()),
+    pub(crate) fn name_opt(&mut self, field: &str, name: &Option<Name>) {
+        if let Some(name) = name {
+            self.name(field, name);
         }
     }
 
     /// The line of a description, where there is one.
-    pub(crate) fn description(&mut self, text: &Option<Text>) -> Result<(), Memory> {
-        match text {
-            Some(text) => self.line("description", text.as_str()),
-            None => Ok(()),
+    pub(crate) fn description(&mut self, text: &Option<Text>) {
+        if let Some(text) = text {
+            self.line("description", text.as_str());
         }
     }
 

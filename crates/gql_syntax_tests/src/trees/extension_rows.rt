@@ -1,6 +1,6 @@
 //! Extensions of schemas and types, and what they are.
 
-pub(crate) const EXTENSIONS: [(&str, &str); 6] = [
+pub(crate) const EXTENSIONS: &[(&str, &str)] = &[
     (
         "extend schema @d { mutation: M } extend schema { subscription: S } extend scalar T @e",
         r#"

@@ -1,6 +1,6 @@
 //! Operations, fragments and selections, and what they are.
 
-pub(crate) const OPERATIONS: [(&str, &str); 5] = [
+pub(crate) const OPERATIONS: &[(&str, &str)] = &[
     (
         "\u{FEFF}# before\n{ x ,} # behind\n,",
         r#"

@@ -7,57 +7,41 @@ use super::values::directives;
 use gql_ast::{
     DirectiveDefinition, DirectiveLocation, Name, OperationType, SchemaDefinition, SchemaExtension,
 };
-use jb_text::{Listed, Memory};
+use jb_text::Listed;
 
-pub(crate) fn schema_definition(
-    out: &mut Description<'_>,
-    schema: &SchemaDefinition,
-) -> Result<(), Memory> {
-    out.open("SchemaDefinition", schema.location)?;
-    out.description(&schema.description)?;
-    directives(out, &schema.directives)?;
-    root_operations(out, &schema.root_operations)?;
+pub(crate) fn schema_definition(out: &mut Description<'_>, schema: &SchemaDefinition) {
+    out.open("SchemaDefinition", schema.location);
+    out.description(&schema.description);
+    directives(out, &schema.directives);
+    root_operations(out, &schema.root_operations);
     out.close();
-    Ok(())
 }
 
-pub(crate) fn schema_extension(
-    out: &mut Description<'_>,
-    schema: &SchemaExtension,
-) -> Result<(), Memory> {
-    out.open("SchemaExtension", schema.location)?;
-    directives(out, &schema.directives)?;
-    root_operations(out, &schema.root_operations)?;
+pub(crate) fn schema_extension(out: &mut Description<'_>, schema: &SchemaExtension) {
+    out.open("SchemaExtension", schema.location);
+    directives(out, &schema.directives);
+    root_operations(out, &schema.root_operations);
     out.close();
-    Ok(())
 }
 
-fn root_operations(
-    out: &mut Description<'_>,
-    roots: &Listed<(OperationType, Name)>,
-) -> Result<(), Memory> {
+fn root_operations(out: &mut Description<'_>, roots: &Listed<(OperationType, Name)>) {
     for root in roots.as_slice() {
-        out.name(operation_word(root.0), &root.1)?;
+        out.name(operation_word(root.0), &root.1);
     }
-    Ok(())
 }
 
-pub(crate) fn directive_definition(
-    out: &mut Description<'_>,
-    directive: &DirectiveDefinition,
-) -> Result<(), Memory> {
-    out.open("DirectiveDefinition", directive.location)?;
-    out.description(&directive.description)?;
-    out.name("name", &directive.name)?;
-    input_values(out, "argument", &directive.arguments)?;
+pub(crate) fn directive_definition(out: &mut Description<'_>, directive: &DirectiveDefinition) {
+    out.open("DirectiveDefinition", directive.location);
+    out.description(&directive.description);
+    out.name("name", &directive.name);
+    input_values(out, "argument", &directive.arguments);
     if directive.repeatable {
-        out.line("repeatable", "true")?;
+        out.line("repeatable", "true");
     }
     for location in directive.locations.as_slice() {
-        out.line("location", location_word(*location))?;
+        out.line("location", location_word(*location));
     }
     out.close();
-    Ok(())
 }
 
 fn location_word(location: DirectiveLocation) -> &'static str {

@@ -1,6 +1,6 @@
 //! Definitions of schemas, directives and types, and what they are.
 
-pub(crate) const TYPES: [(&str, &str); 9] = [
+pub(crate) const TYPES: &[(&str, &str)] = &[
     (
         r#"# before
 "s" schema @d(x: 1) { query: A mutation: B subscription: C } # behind

@@ -1,6 +1,6 @@
 //! Values of each kind and references to types of each kind, and what they are.
 
-pub(crate) const VALUES: [(&str, &str); 3] = [
+pub(crate) const VALUES: &[(&str, &str)] = &[
     (
         r#"{ f(a: null, b: $v, c: -12, d: 1.5e3, e: "q\u0041", g: """h \""" i""", j: true, k: false, l: E) }"#,
         r#"

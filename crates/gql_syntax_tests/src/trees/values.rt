@@ -2,80 +2,67 @@
 
 use super::description::Description;
 use gql_ast::{Argument, Directive, Name, TypeRef, Value, ValueKind};
-use jb_text::{Listed, Memory};
+use jb_text::Listed;
 
 /// The line of a reference to a type.
-pub(crate) fn type_line(out: &mut Description<'_>, ty: &TypeRef) -> Result<(), Memory> {
-    out.begin("type")?;
-    add_type(out, ty)?;
-    out.add("\n")
+pub(crate) fn type_line(out: &mut Description<'_>, ty: &TypeRef) {
+    out.begin("type");
+    add_type(out, ty);
+    out.add("\n");
 }
 
-fn add_type(out: &mut Description<'_>, ty: &TypeRef) -> Result<(), Memory> {
+fn add_type(out: &mut Description<'_>, ty: &TypeRef) {
     match ty {
         TypeRef::Named(name) => out.add_name(name),
         TypeRef::NonNullNamed(name) => {
-            out.add_name(name)?;
-            out.add("!")
+            out.add_name(name);
+            out.add("!");
         }
         TypeRef::List(item) => {
-            out.add("[")?;
-            add_type(out, item.get())?;
-            out.add("]")
+            out.add("[");
+            add_type(out, item.get());
+            out.add("]");
         }
         TypeRef::NonNullList(item) => {
-            out.add("[")?;
-            add_type(out, item.get())?;
-            out.add("]!")
+            out.add("[");
+            add_type(out, item.get());
+            out.add("]!");
         }
     }
 }
 
-pub(crate) fn directives(
-    out: &mut Description<'_>,
-    directives: &Listed<Directive>,
-) -> Result<(), Memory> {
+pub(crate) fn directives(out: &mut Description<'_>, directives: &Listed<Directive>) {
     for directive in directives.as_slice() {
-        out.open("directive", directive.location)?;
-        out.name("name", &directive.name)?;
-        arguments(out, &directive.arguments)?;
+        out.open("directive", directive.location);
+        out.name("name", &directive.name);
+        arguments(out, &directive.arguments);
         out.close();
     }
-    Ok(())
 }
 
-pub(crate) fn arguments(
-    out: &mut Description<'_>,
-    arguments: &Listed<Argument>,
-) -> Result<(), Memory> {
+pub(crate) fn arguments(out: &mut Description<'_>, arguments: &Listed<Argument>) {
     for argument in arguments.as_slice() {
-        out.open("argument", argument.location)?;
-        out.name("name", &argument.name)?;
-        value(out, "value", &argument.value)?;
+        out.open("argument", argument.location);
+        out.name("name", &argument.name);
+        value(out, "value", &argument.value);
         out.close();
     }
-    Ok(())
 }
 
 /// The lines of a default value, where there is one.
-pub(crate) fn default_value(
-    out: &mut Description<'_>,
-    default_value: &Option<Value>,
-) -> Result<(), Memory> {
-    match default_value {
-        Some(default_value) => value(out, "default_value", default_value),
-        None => Ok(()),
+pub(crate) fn default_value(out: &mut Description<'_>, default_value: &Option<Value>) {
+    if let Some(default_value) = default_value {
+        value(out, "default_value", default_value);
     }
 }
 
 #[cycle(value)]
-fn value(out: &mut Description<'_>, field: &str, value: &Value) -> Result<(), Memory> {
-    out.begin(field)?;
-    out.add(kind_of(&value.kind))?;
-    out.enter(value.location)?;
-    content(out, &value.kind)?;
+fn value(out: &mut Description<'_>, field: &str, value: &Value) {
+    out.begin(field);
+    out.add(kind_of(&value.kind));
+    out.enter(value.location);
+    content(out, &value.kind);
     out.close();
-    Ok(())
 }
 
 fn kind_of(kind: &ValueKind) -> &'static str {
@@ -93,9 +80,9 @@ fn kind_of(kind: &ValueKind) -> &'static str {
 }
 
 #[cycle(value)]
-fn content(out: &mut Description<'_>, kind: &ValueKind) -> Result<(), Memory> {
+fn content(out: &mut Description<'_>, kind: &ValueKind) {
     match kind {
-        ValueKind::Null => Ok(()),
+        ValueKind::Null => {}
         ValueKind::Variable(name) => out.name("name", name),
         ValueKind::Int(text) => out.line("text", text.as_str()),
         ValueKind::Float(text) => out.line("text", text.as_str()),
@@ -109,18 +96,16 @@ fn content(out: &mut Description<'_>, kind: &ValueKind) -> Result<(), Memory> {
 }
 
 #[cycle(value)]
-fn list(out: &mut Description<'_>, items: &Listed<Value>) -> Result<(), Memory> {
+fn list(out: &mut Description<'_>, items: &Listed<Value>) {
     for item in items.as_slice() {
-        value(out, "item", item)?;
+        value(out, "item", item);
     }
-    Ok(())
 }
 
 #[cycle(value)]
-fn object(out: &mut Description<'_>, members: &Listed<(Name, Value)>) -> Result<(), Memory> {
+fn object(out: &mut Description<'_>, members: &Listed<(Name, Value)>) {
     for member in members.as_slice() {
-        out.name("name", &member.0)?;
-        value(out, "value", &member.1)?;
+        out.name("name", &member.0);
+        value(out, "value", &member.1);
     }
-    Ok(())
 }
