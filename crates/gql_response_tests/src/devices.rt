@@ -1,4 +1,5 @@
 //! Requests over devices that fail at each of their calls, and requests that are cut at each of their bytes.
+use crate::fixtures::words_of;
 use bytes::Bytes;
 use gql_engine::run;
 use jb_io::{MemorySink, MemorySource};
@@ -30,8 +31,7 @@ fn status_over(
     source_fails: u64,
     sink: &mut MemorySink,
 ) -> Result<u8, Fail> {
-    let mut words = Vec::new(alloc);
-    words.push(String::from_str(alloc, "answer")?)?;
+    let words = words_of(alloc, &["answer"])?;
     let calls = only(alloc, source_fails)?;
     let mut source = MemorySource::new(Bytes::from_static(request), 1, calls);
     Ok(run(alloc, words.as_slice(), &mut source, sink))

@@ -5,9 +5,10 @@ mod told;
 
 ghost use Rattle.std.specs.Prelude.{◌<◌, ◌^◌};
 
-use gql_diag::{Details, DiagnosticData, Rule, RuleFault};
+use crate::fixtures::broken_rule;
+use gql_diag::{Details, DiagnosticData, Rule};
 use gql_source::{FileId, SourceFile, SourceMap, SourceSpan};
-use jb_text::{Listed, Memory, Text};
+use jb_text::{Memory, Text};
 use std::alloc::Global;
 
 pub(crate) const FIRST: FileId = FileId { number: 3 };
@@ -32,15 +33,8 @@ pub(crate) fn files(alloc: Global, paths: &[(FileId, &str)]) -> Result<SourceMap
 
 /// A broken rule of documents.
 pub(crate) fn broken(alloc: Global, rule: Rule, names: &[&str]) -> Result<Details, Memory> {
-    let mut texts = Listed::new(alloc);
-    for name in names {
-        texts.push(Text::from_str(alloc, name)?)?;
-    }
-    Ok(Details::CompilerDiagnostic(RuleFault {
-        rule,
-        names: texts,
-        other: at(0),
-    }))
+    let fault = broken_rule(alloc, rule, names, at(0))?;
+    Ok(Details::CompilerDiagnostic(fault))
 }
 
 /// A text that is no sentence, with these words.

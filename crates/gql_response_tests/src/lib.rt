@@ -11,6 +11,8 @@ mod diagnostics;
 #[cfg(test)]
 mod execution;
 #[cfg(test)]
+mod fixtures;
+#[cfg(test)]
 mod guards;
 #[cfg(test)]
 mod plain;

@@ -1,5 +1,6 @@
 //! The program over words and over streams that fail.
 
+use crate::fixtures::words_of;
 use bytes::Bytes;
 use gql_engine::{run, run_in_memory};
 use jb_io::{INPUT_LIMIT, ReaderSource, SureSink, SureSource, WriterSink, read_to_end};
@@ -7,14 +8,6 @@ use std::alloc::Global;
 use std::io;
 use std::io::{ErrorKind, Read};
 use std::test::Fail;
-
-fn words_of(alloc: Global, words: &[&str]) -> Result<Vec<String>, Fail> {
-    let mut all = Vec::new(alloc);
-    for word in words {
-        all.push(String::from_str(alloc, word)?)?;
-    }
-    Ok(all)
-}
 
 /// The status for these words, what was written, and how many bytes the source has left.
 fn outcome(

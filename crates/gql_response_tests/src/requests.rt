@@ -1,4 +1,5 @@
 //! Worked requests, from bytes to bytes.
+use crate::fixtures::words_of;
 use bytes::Bytes;
 use gql_engine::{AnswerError, DataObject, UnbuiltPart, VariablesFault, answer, run_in_memory};
 use jb_io::{SureSink, SureSource, from_bytes_whole};
@@ -16,8 +17,7 @@ fn reply(alloc: Global, request: &'static str) -> Result<(u8, Vec<u8>), Fail> {
 
 /// The status of the program over a source and a sink.
 fn status_of(alloc: Global, source: &mut SureSource, sink: &mut SureSink) -> Result<u8, Fail> {
-    let mut words = Vec::new(alloc);
-    words.push(String::from_str(alloc, "answer")?)?;
+    let words = words_of(alloc, &["answer"])?;
     Ok(run_in_memory(alloc, words.as_slice(), source, sink))
 }
 

@@ -4,33 +4,16 @@ mod build_rules;
 mod document_rules;
 mod shared_rules;
 
-use gql_diag_rules::{Details, DiagnosticData, Rule, RuleFault};
+use crate::fixtures::broken_rule;
+use gql_diag_rules::{Details, DiagnosticData, Rule};
 use gql_source::{FileId, SourceSpan};
-use jb_text::{Listed, Memory, Text};
+use jb_text::{Memory, Text};
 use std::alloc::Global;
 use std::test::Fail;
 
-/// A rule that is broken, by these names.
-fn broken(
-    alloc: Global,
-    rule: Rule,
-    names: &[&str],
-    other: Option<SourceSpan>,
-) -> Result<RuleFault, Memory> {
-    let mut texts = Listed::new(alloc);
-    for name in names {
-        texts.push(Text::from_str(alloc, name)?)?;
-    }
-    Ok(RuleFault {
-        rule,
-        names: texts,
-        other,
-    })
-}
-
 /// The diagnostic of a rule that is broken, by these names.
 fn diagnostic(alloc: Global, rule: Rule, names: &[&str]) -> Result<DiagnosticData, Memory> {
-    let fault = broken(alloc, rule, names, None)?;
+    let fault = broken_rule(alloc, rule, names, None)?;
     Ok(DiagnosticData {
         location: None,
         details: Details::CompilerDiagnostic(fault),
@@ -213,19 +196,19 @@ fn what_breaks_no_rule_is_told_too(rt: HostRuntime) -> Result<(), Fail> {
 
 /// What is told of a rule that is broken in a document.
 fn told_in_document(alloc: Global, rule: Rule, names: &[&str]) -> Result<String, Memory> {
-    let fault = broken(alloc, rule, names, None)?;
+    let fault = broken_rule(alloc, rule, names, None)?;
     told(alloc, Details::ExecutableBuildError(fault))
 }
 
 /// What is told of a rule that is broken in a schema.
 fn told_in_schema(alloc: Global, rule: Rule, names: &[&str]) -> Result<String, Memory> {
-    let fault = broken(alloc, rule, names, None)?;
+    let fault = broken_rule(alloc, rule, names, None)?;
     told(alloc, Details::SchemaBuildError(fault))
 }
 
 /// The other place of a rule that is broken in a document, where it has this one.
 fn other_place(alloc: Global, other: SourceSpan) -> Result<Option<SourceSpan>, Memory> {
-    let fault = broken(alloc, Rule::UndefinedRootOperation, &[], Some(other))?;
+    let fault = broken_rule(alloc, Rule::UndefinedRootOperation, &[], Some(other))?;
     Ok(Details::ExecutableBuildError(fault).other())
 }
 

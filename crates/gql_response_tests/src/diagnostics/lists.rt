@@ -113,6 +113,7 @@ fn files_of_third(list: &DiagnosticList) -> Option<usize> {
     Some(third.sources.len())
 }
 
+/// The same of the list with the last one first.
 fn messages_walked(alloc: Global) -> Result<String, Memory> {
     let list = reversed(alloc)?;
     walked(alloc, &list)
@@ -182,6 +183,7 @@ fn merged_into_none(alloc: Global) -> Result<(usize, String), Memory> {
     merged(alloc, own, other)
 }
 
+/// Whether a list of nothing is empty.
 fn is_list_empty(alloc: Global) -> Result<bool, Memory> {
     Ok(list_of(alloc, &[], &[])?.is_empty())
 }
