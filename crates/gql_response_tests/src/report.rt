@@ -27,7 +27,8 @@ fn sources(alloc: Global) -> Result<SourceMap, AllocError> {
 }
 
 fn filled(alloc: Global, sources: &SourceMap) -> Result<CliReport<'_>, AllocError> {
-    let mut report = CliReport::builder(alloc, sources, None);
+    let start = Some(SourceSpan::new(FILE, 0, 4));
+    let mut report = CliReport::builder(alloc, sources, start);
     fill(&mut report)?;
     Ok(report)
 }
@@ -48,8 +49,7 @@ fn a_report_is_its_lines(rt: HostRuntime) -> Result<(), Fail> {
 #[test]
 fn an_empty_report_has_an_empty_message(rt: HostRuntime) -> Result<(), Fail> {
     let sources = sources(rt.alloc())?;
-    let start = Some(SourceSpan::new(FILE, 0, 4));
-    let empty = CliReport::builder(rt.alloc(), &sources, start);
+    let empty = CliReport::builder(rt.alloc(), &sources, None);
     assert_eq!(rt; empty.into_string(rt.alloc())?.as_str(), "Error: \n");
     Ok(())
 }

@@ -103,14 +103,13 @@ fn walked(alloc: Global, list: &DiagnosticList) -> Result<String, Memory> {
     Ok(out)
 }
 
-/// How many files the third of a list comes with.
-fn files_of_third(list: &DiagnosticList) -> Option<usize> {
+/// How many files the second of a list comes with, where the last was taken before.
+fn files_of_second(list: &DiagnosticList) -> Option<usize> {
     let mut walk = list.iter();
     walk.next_back()?;
     walk.next()?;
-    walk.next()?;
-    let third = walk.next()?;
-    Some(third.sources.len())
+    let second = walk.next()?;
+    Some(second.sources.len())
 }
 
 /// The same of the list with the last one first.
@@ -119,10 +118,10 @@ fn messages_walked(alloc: Global) -> Result<String, Memory> {
     walked(alloc, &list)
 }
 
-/// The length of a list, whether it is empty, and how many files its third comes with.
+/// The length of a list, whether it is empty, and how many files its second comes with.
 fn counts(alloc: Global) -> Result<(usize, bool, Option<usize>), Memory> {
     let list = reversed(alloc)?;
-    Ok((list.len(), list.is_empty(), files_of_third(&list)))
+    Ok((list.len(), list.is_empty(), files_of_second(&list)))
 }
 
 #[test]
