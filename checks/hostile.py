@@ -105,7 +105,7 @@ def syntax_cases():
 def main():
     step = 1 if sys.argv[1:] == ["all"] or built("gql_program") else STEP
     passed = failed = 0
-    programs = [("gql_program", "answer", list(engine_cases(step))), ("gql_syntax", "document", list(syntax_cases()))]
+    programs = [("gql_program", "answer", list(engine_cases(step))), ("gql_syntax_program", "document", list(syntax_cases()))]
     for program, word, cases in programs:
         found, _as_wanted = try_cases(program, word, [(name, text, None) for name, text, _statuses in cases])
         for name, _text, wanted in cases:

@@ -174,7 +174,7 @@ def run_cases(word, cases):
         (f"case{number}", text.encode(), None if wanted == SENTENCE else wanted)
         for number, (text, wanted) in enumerate(cases)
     ]
-    statuses, as_wanted = try_cases("gql_syntax", word, named)
+    statuses, as_wanted = try_cases("gql_syntax_program", word, named)
     for name, text, wanted in named:
         status = statuses.get(name)
         fits = status == 0 if wanted is None else status == 1 and name in as_wanted
@@ -184,7 +184,7 @@ def run_cases(word, cases):
 
 def main():
     passed = failed = sentences = 0
-    tries_all = sys.argv[1:] == ["all"] or built("gql_syntax")
+    tries_all = sys.argv[1:] == ["all"] or built("gql_syntax_program")
     for word in ("type", "selection_set", "document"):
         cases = [case for group in GROUPS if group[0] == word for case in cases_of(group)]
         if not tries_all:

@@ -8,12 +8,12 @@ use Rattle.gql_cst.specs.Forest.{Forest, Plain}
 use Rattle.gql_cst_grammar.specs.declared.syntax_kind.SyntaxKind.TheVariants as kind
 use Rattle.gql_ast.specs.declared.definition.Definition.{Definition}
 use Rattle.gql_ast.specs.declared.definition.Definition.TheVariants as definition
-use Rattle.gql_ast_convert.specs.Kinds.{is_kind}
-use Rattle.gql_ast_system.specs.Definitions.{scalar_of, object_of, interface_of, union_of, enum_of, input_object_of}
-use Rattle.gql_ast_system.specs.Extensions.{schema_extension_of, scalar_extension_of, object_extension_of, interface_extension_of, union_extension_of, enum_extension_of, input_object_extension_of}
-use Rattle.gql_ast_operation.specs.Operations.{operation_of, fragment_of}
-use Rattle.gql_ast_system.specs.Schemas.{directive_definition_of, schema_of}
-use Rattle.gql_ast_convert.specs.Parts.{Text, or_else, gather, first}
+use Rattle.gql_ast_base.specs.Kinds.{is_kind}
+use Rattle.gql_ast_definitions.specs.Definitions.{scalar_of, object_of, interface_of, union_of, enum_of, input_object_of}
+use Rattle.gql_ast_definitions.specs.Extensions.{schema_extension_of, scalar_extension_of, object_extension_of, interface_extension_of, union_extension_of, enum_extension_of, input_object_extension_of}
+use Rattle.gql_ast_operations.specs.Operations.{operation_of, fragment_of}
+use Rattle.gql_ast_definitions.specs.Schemas.{directive_definition_of, schema_of}
+use Rattle.gql_ast_base.specs.Parts.{Text, or_else, gather, first}
 
 -- the text of the file with the number
 abbrev pub file_text : Option File → Text

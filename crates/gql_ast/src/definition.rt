@@ -2,12 +2,12 @@
 
 ghost use Rattle.std.specs.Prelude.{◌≡◌, IfOk};
 ghost use Rattle.gql_cst.specs.Forest.{plain, forest};
-ghost use Rattle.gql_ast_convert.specs.Parts as parts;
+ghost use Rattle.gql_ast_base.specs.Parts as parts;
 ghost use Rattle.gql_ast.specs.Documents as spec;
 
-use gql_ast_convert::{Convert, Copying, is_of};
-use gql_ast_operation::{FragmentDefinition, OperationDefinition};
-use gql_ast_system::{
+use gql_ast_base::{Convert, Copying, is_of};
+use gql_ast_operations::{FragmentDefinition, OperationDefinition};
+use gql_ast_definitions::{
     DirectiveDefinition, EnumTypeDefinition, EnumTypeExtension, InputObjectTypeDefinition,
     InputObjectTypeExtension, InterfaceTypeDefinition, InterfaceTypeExtension,
     ObjectTypeDefinition, ObjectTypeExtension, ScalarTypeDefinition, ScalarTypeExtension,

@@ -7,7 +7,7 @@ ghost use Rattle.gql_cst.specs.Forest.{plain};
 ghost use Rattle.gql_ast.specs.Documents as spec;
 
 use crate::definition::Definition;
-use gql_ast_convert::gather;
+use gql_ast_base::gather;
 use gql_cst::Tree;
 use gql_source::{FileId, SourceMap};
 use jb_text::{Listed, Memory};

@@ -16,17 +16,17 @@ mod document;
 
 pub use definition::Definition;
 pub use document::Document;
-pub use gql_ast_convert::{Convert, Copying, Name, NameFault, OperationType};
-pub use gql_ast_operation::{
+pub use gql_ast_base::{Convert, Copying, Name, NameFault, OperationType};
+pub use gql_ast_operations::{
     Field, FragmentDefinition, FragmentSpread, InlineFragment, OperationDefinition, Selection,
     VariableDefinition,
 };
 pub use gql_ast_print::{print_type, print_value};
-pub use gql_ast_system::{
+pub use gql_ast_definitions::{
     DirectiveDefinition, DirectiveLocation, EnumTypeDefinition, EnumTypeExtension,
     EnumValueDefinition, FieldDefinition, InputObjectTypeDefinition, InputObjectTypeExtension,
     InputValueDefinition, InterfaceTypeDefinition, InterfaceTypeExtension, ObjectTypeDefinition,
     ObjectTypeExtension, ScalarTypeDefinition, ScalarTypeExtension, SchemaDefinition,
     SchemaExtension, UnionTypeDefinition, UnionTypeExtension,
 };
-pub use gql_ast_value::{Argument, Boxed, Directive, TypeRef, Value, ValueKind};
+pub use gql_ast_values::{Argument, Boxed, Directive, TypeRef, Value, ValueKind};

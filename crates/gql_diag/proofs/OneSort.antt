@@ -6,7 +6,7 @@ use Rattle.std.specs.List.Sorted.{IsSortedBy, ties}
 use Rattle.std.specs.Ordering.{is_lt}
 use Rattle.std.specs.declared.cmp.Ordering.{Ordering}
 use Rattle.std.proofs.lemmas.List.Sorted.{sorted_far, ranks_by}
-use Rattle.gql_diag_rules.specs.declared.diagnostic_data.DiagnosticData.{DiagnosticData}
+use Rattle.gql_diag_messages.specs.declared.diagnostic_data.DiagnosticData.{DiagnosticData}
 use Rattle.gql_diag.specs.List.{IsStableSort}
 
 -- what holds of each of a list

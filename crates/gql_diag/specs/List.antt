@@ -3,7 +3,7 @@ use Rattle.std.specs.Prelude.{List}
 use Rattle.std.specs.declared.cmp.Ordering.{Ordering}
 use Rattle.std.specs.List.Sorted.{IsPermutation, IsSorted, IsStable}
 use Rattle.gql_source.specs.File.{Files}
-use Rattle.gql_diag_rules.specs.declared.diagnostic_data.DiagnosticData.{DiagnosticData}
+use Rattle.gql_diag_messages.specs.declared.diagnostic_data.DiagnosticData.{DiagnosticData}
 
 -- diagnostics, and the files that they are of
 pub record Diagnostics : Type 0 where

@@ -1,7 +1,7 @@
 -- What going through a list of diagnostics shows: each diagnostic with the files.
 use Rattle.std.specs.Prelude.{List, map}
 use Rattle.gql_source.specs.File.{Files}
-use Rattle.gql_diag_rules.specs.declared.diagnostic_data.DiagnosticData.{DiagnosticData}
+use Rattle.gql_diag_messages.specs.declared.diagnostic_data.DiagnosticData.{DiagnosticData}
 use Rattle.gql_diag.specs.declared.diagnostic.Diagnostic.{Diagnostic}
 use Rattle.gql_diag.specs.declared.diagnostics.Diagnostics.{Diagnostics}
 

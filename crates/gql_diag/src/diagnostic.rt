@@ -5,8 +5,8 @@ ghost use Rattle.gql_response.specs.ErrorAt.{error_at};
 ghost use Rattle.gql_diag.specs.Reported.{compat_or_message, message_alone, range_in};
 
 use crate::to_cli_report::ToCliReport;
-use gql_diag_report::CliReport;
-use gql_diag_rules::DiagnosticData;
+use gql_diag_reports::CliReport;
+use gql_diag_messages::DiagnosticData;
 use gql_response::GraphQLError;
 use gql_source::{LineColumn, SourceMap};
 use std::alloc::{AllocError, Global};

@@ -8,7 +8,7 @@ ghost use Rattle.gql_diag.specs.Walk.{left_of};
 
 use crate::diagnostics::Diagnostics;
 use crate::order::{sort_by_place, sort_in_order};
-use gql_diag_rules::DiagnosticData;
+use gql_diag_messages::DiagnosticData;
 use gql_source::SourceMap;
 use std::alloc::{AllocError, Global};
 use std::marker::Model;

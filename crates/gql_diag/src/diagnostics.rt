@@ -5,7 +5,7 @@ ghost use Rattle.std.specs.Iterator.{YieldsFirstBy, YieldsLastBy, item_count};
 ghost use Rattle.gql_diag.specs.Walk.{shown, left_of};
 
 use crate::diagnostic::Diagnostic;
-use gql_diag_rules::DiagnosticData;
+use gql_diag_messages::DiagnosticData;
 use gql_source::SourceMap;
 
 /// The diagnostics of a list, from either end.

@@ -1,7 +1,7 @@
 //! A law of the definitions alone: a stable sort is one.
 
 ghost use Rattle.std.specs.Prelude.{◌≡◌, List};
-ghost use Rattle.gql_diag_rules.specs.declared.diagnostic_data.DiagnosticData.{DiagnosticData as Item};
+ghost use Rattle.gql_diag_messages.specs.declared.diagnostic_data.DiagnosticData.{DiagnosticData as Item};
 ghost use Rattle.gql_diag.specs.Order.{by_place, list_order};
 ghost use Rattle.gql_diag.specs.List.{IsStableSort};
 

@@ -6,7 +6,7 @@ ghost use Rattle.std.specs.Ordering.{nat_cmp};
 ghost use Rattle.gql_diag.specs.Order.{place_order, row_of, names_of, other_of, details_order, by_place, list_order};
 ghost use Rattle.gql_diag.specs.List.{IsStableSort};
 
-use gql_diag_rules::{Details, DiagnosticData};
+use gql_diag_messages::{Details, DiagnosticData};
 use gql_source::SourceSpan;
 use jb_text::Text;
 use std::alloc::AllocError;

@@ -2,7 +2,7 @@
 use Rattle.std.specs.Prelude.{ℕ, Bool, nat_eq, List, [], ◌∷◌, ◌++◌, take, Option, Some, None}
 use Rattle.std.specs.List.{list_any}
 use Rattle.std.specs.Cmp.Lexicographic.{pointwise}
-use Rattle.gql_ast_convert.specs.Names.{Named}
+use Rattle.gql_ast_base.specs.Names.{Named}
 
 -- the names that are open, the first one first, and at how many no other opens
 pub record Stack : Type 0 where

@@ -4,7 +4,7 @@ ghost use Rattle.std.specs.Prelude.{◌≡◌};
 
 use crate::depth::{DepthCounter, DepthGuard};
 use crate::recursion::{RecursionGuard, RecursionStack};
-use gql_ast_convert::Name;
+use gql_ast_base::Name;
 
 /// A step of a counter that is taken and whose guard is dropped leaves the outer guard as it was.
 pub fn level_is_undone(outer: &mut DepthGuard<'_>)

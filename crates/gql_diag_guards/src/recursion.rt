@@ -6,7 +6,7 @@ ghost use Rattle.jb_text.specs.declared.refused.Refused.TheVariants as refused_v
 ghost use Rattle.gql_diag_guards.specs.Stack.{popped, with_name};
 
 use crate::depth::{DEFAULT_LIMIT, RecursionLimitError};
-use gql_ast_convert::{Copying, Name};
+use gql_ast_base::{Copying, Name};
 use jb_text::Refused;
 use std::alloc::{AllocError, Global};
 use std::marker::Model;

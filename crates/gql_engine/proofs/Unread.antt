@@ -18,7 +18,7 @@ use Rattle.gql_cst.specs.Sentences.{shown}
 use Rattle.gql_ast.specs.declared.definition.Definition.{Definition}
 use Rattle.gql_exec.specs.declared.schema.Schema.{Schema}
 use Rattle.gql_exec.specs.declared.schema.ObjectType.{ObjectType}
-use Rattle.gql_meaning.specs.Meant.{IsDocumentOf}
+use Rattle.gql_ast_laws.specs.Meant.{IsDocumentOf}
 use Rattle.gql_exec.specs.declared.selection.Field.{Field}
 use Rattle.gql_plain.specs.declared.not_plain.NotPlain.{NotPlain}
 use Rattle.gql_plain.specs.NotPlain.{Gives, GivesSet}

@@ -9,7 +9,7 @@ use Rattle.gql_cst_grammar.specs.declared.rule.Rule.TheVariants.{Document}
 use Rattle.gql_cst_grammar.specs.declared.syntax_kind.SyntaxKind.TheVariants as kind
 use Rattle.gql_cst.specs.Forest.{Forest}
 use Rattle.gql_cst.specs.Nesting.{nesting}
-use Rattle.gql_cst_bare.specs.TreeOf.{IsTreeOf}
+use Rattle.gql_cst_laws.specs.TreeOf.{IsTreeOf}
 use Rattle.gql_ast.specs.declared.definition.Definition.{Definition}
 use Rattle.gql_ast.specs.Documents.{definitions}
 use Rattle.gql_exec.specs.declared.schema.Schema.{Schema}

@@ -8,7 +8,7 @@ ghost use Rattle.gql_engine.specs.AnswerError.{AsksPlainly, HasCause, IsOfTexts,
 use crate::texts;
 use bytes::Bytes;
 use gql_exec::{ObjectValue, execute};
-use gql_meaning::laws::texts_have_one_document;
+use gql_ast_laws::laws::texts_have_one_document;
 use gql_plain::NotPlain;
 use jb_read::laws::each_text_has_one_answer;
 use jb_read::{ReadFault, from_bytes_whole};

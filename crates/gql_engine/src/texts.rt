@@ -10,9 +10,9 @@ ghost use Rattle.gql_engine.specs.Meant.{file, IsUnread, IsUnmeantSchema, IsUnme
 
 use gql_ast::{Definition, Document};
 use gql_cst::{Limits, Tree, parse_document};
-use gql_cst_bare::laws::parses_are_trees;
+use gql_cst_laws::laws::parses_are_trees;
 use gql_exec::{ObjectType, Schema, SelectionSet};
-use gql_meaning::laws::texts_have_one_document;
+use gql_ast_laws::laws::texts_have_one_document;
 use gql_plain::{NotPlain, plain_query, plain_schema};
 use gql_source::{FileId, SourceFile, SourceMap};
 use jb_tree::{Listed, Refused};

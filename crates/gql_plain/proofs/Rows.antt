@@ -4,9 +4,9 @@ use Rattle.std.specs.Str.{bytes_eq}
 use Rattle.std.specs.Map.{lookup, keys_of}
 use Rattle.std.specs.Option.{option_map, option_and_then}
 use Rattle.gql_source.specs.declared.line_column.LineColumn.{LineColumn}
-use Rattle.gql_ast_operation.specs.declared.selection.Field as ast
-use Rattle.gql_ast_operation.specs.declared.selection.Selection.{Selection, the_lemmas}
-use Rattle.gql_ast_operation.specs.declared.selection.Selection.TheVariants.{Field as a_field}
+use Rattle.gql_ast_operations.specs.declared.selection.Field as ast
+use Rattle.gql_ast_operations.specs.declared.selection.Selection.{Selection, the_lemmas}
+use Rattle.gql_ast_operations.specs.declared.selection.Selection.TheVariants.{Field as a_field}
 use Rattle.jb_text.specs.declared.refused.Refused.{Refused}
 use Rattle.gql_exec.specs.declared.schema.ObjectType.{ObjectType}
 use Rattle.gql_exec.specs.declared.schema.Schema.{Schema}

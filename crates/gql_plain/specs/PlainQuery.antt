@@ -3,9 +3,9 @@ use Rattle.std.specs.Prelude.{ℕ, Bool, true, false, ◌&&◌, not, List, [], �
 use Rattle.std.specs.Option.{option_and_then}
 use Rattle.gql_ast.specs.declared.definition.Definition.{Definition}
 use Rattle.gql_ast.specs.declared.definition.Definition.TheVariants as definition
-use Rattle.gql_ast_operation.specs.declared.operation.OperationDefinition.{OperationDefinition}
-use Rattle.gql_ast_convert.specs.declared.operation_type.OperationType.{OperationType}
-use Rattle.gql_ast_convert.specs.declared.operation_type.OperationType.TheVariants.{Query, Mutation, Subscription}
+use Rattle.gql_ast_operations.specs.declared.operation.OperationDefinition.{OperationDefinition}
+use Rattle.gql_ast_base.specs.declared.operation_type.OperationType.{OperationType}
+use Rattle.gql_ast_base.specs.declared.operation_type.OperationType.TheVariants.{Query, Mutation, Subscription}
 use Rattle.gql_exec.specs.declared.schema.ObjectType.{ObjectType}
 use Rattle.gql_exec.specs.declared.schema.Schema.{Schema}
 use Rattle.gql_exec.specs.Selections.{Selections}

@@ -6,11 +6,11 @@ use Rattle.std.specs.Map.{values_of}
 use Rattle.std.specs.Str.{bytes_eq}
 use Rattle.gql_ast.specs.declared.definition.Definition.{Definition}
 use Rattle.gql_ast.specs.declared.definition.Definition.TheVariants as definition
-use Rattle.gql_ast_system.specs.declared.field_definition.FieldDefinition.{FieldDefinition}
-use Rattle.gql_ast_system.specs.declared.type_definition.ObjectTypeDefinition.{ObjectTypeDefinition}
-use Rattle.gql_ast_value.specs.declared.type_ref.TypeRef as written
-use Rattle.gql_ast_value.specs.declared.type_ref.TypeRef.{fold-TypeRef}
-use Rattle.gql_ast_value.specs.declared.type_ref.TypeRef.TheOpen.{TypeRef-F}
+use Rattle.gql_ast_definitions.specs.declared.field_definition.FieldDefinition.{FieldDefinition}
+use Rattle.gql_ast_definitions.specs.declared.type_definition.ObjectTypeDefinition.{ObjectTypeDefinition}
+use Rattle.gql_ast_values.specs.declared.type_ref.TypeRef as written
+use Rattle.gql_ast_values.specs.declared.type_ref.TypeRef.{fold-TypeRef}
+use Rattle.gql_ast_values.specs.declared.type_ref.TypeRef.TheOpen.{TypeRef-F}
 use Rattle.gql_exec.specs.declared.schema.ObjectType.{ObjectType}
 use Rattle.gql_exec.specs.declared.schema.Schema.{Schema}
 use Rattle.gql_exec.specs.declared.schema.TypeRef.{TypeRef}

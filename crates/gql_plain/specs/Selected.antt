@@ -1,9 +1,9 @@
 -- Selections as trees, as far as plain queries go.
 use Rattle.std.specs.Prelude.{ℕ, Bool, ◌&&◌, List, [], ◌∷◌, map, Option, Some, None, is_none, if◌then◌else◌}
 use Rattle.gql_source.specs.Span.{Span}
-use Rattle.gql_ast_operation.specs.declared.selection.Field.{Field}
-use Rattle.gql_ast_operation.specs.declared.selection.Selection.{Selection, fold-Selection}
-use Rattle.gql_ast_operation.specs.declared.selection.Selection.TheOpen.{Selection-F, Field-F, InlineFragment-F}
+use Rattle.gql_ast_operations.specs.declared.selection.Field.{Field}
+use Rattle.gql_ast_operations.specs.declared.selection.Selection.{Selection, fold-Selection}
+use Rattle.gql_ast_operations.specs.declared.selection.Selection.TheOpen.{Selection-F, Field-F, InlineFragment-F}
 use Rattle.gql_plain.specs.PlainSchema.{is_empty}
 
 -- a row of selections: each is a bare field, by its name, its place and what is selected below it, or something else

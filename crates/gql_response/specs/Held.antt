@@ -2,7 +2,7 @@
 use Rattle.std.specs.Prelude.{◌≡◌, ℕ, ◌-◌, ◌^◌, ◌≤◌, true, map, Option, None}
 use Rattle.jb_shape.specs.Faithful.{AllOf}
 use Rattle.gql_source.specs.declared.line_column.LineColumn.{LineColumn}
-use Rattle.gql_ast_convert.specs.Names.{is_name}
+use Rattle.gql_ast_base.specs.Names.{is_name}
 use Rattle.gql_response.specs.declared.graphql_error.GraphQLError.{GraphQLError}
 use Rattle.gql_response.specs.declared.path.ResponseDataPathSegment.{ResponseDataPathSegment}
 use Rattle.gql_response.specs.declared.path.ResponseDataPathSegment.TheVariants.{Field, ListIndex}

@@ -15,7 +15,7 @@ use Rattle.jb_shape.specs.Scalars.{of_kind, read_unsigned, read_text}
 use Rattle.jb_shape.specs.Lists.{read_list}
 use Rattle.jb_shape.specs.Variants.{present}
 use Rattle.gql_source.specs.declared.line_column.LineColumn.{LineColumn}
-use Rattle.gql_ast_convert.specs.Names.{Named, is_name}
+use Rattle.gql_ast_base.specs.Names.{Named, is_name}
 use Rattle.gql_response.specs.declared.graphql_error.GraphQLError.{GraphQLError}
 use Rattle.gql_response.specs.declared.path.ResponseDataPathSegment.{ResponseDataPathSegment}
 use Rattle.gql_response.specs.declared.path.ResponseDataPathSegment.TheVariants.{Field, ListIndex}

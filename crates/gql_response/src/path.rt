@@ -7,7 +7,7 @@ ghost use Rattle.gql_response.specs.Response.{segment_value};
 ghost use Rattle.gql_response.specs.Reading.{named, read_segment};
 
 use crate::printed::{Printed, append_whole};
-use gql_ast_convert::Name;
+use gql_ast_base::Name;
 use jb_print::append_string;
 use jb_shape::{FromValue, ShapeError};
 use jb_text::Refused;

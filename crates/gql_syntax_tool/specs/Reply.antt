@@ -15,7 +15,7 @@ use Rattle.gql_syntax_tool.specs.Start.{rule_of}
 
 -- what is written where the words are no command
 abbrev pub usage : List ℕ
-usage = line (codes "usage: gql_syntax document | selection_set | type")
+usage = line (codes "usage: gql_syntax_program document | selection_set | type")
 
 -- nesting up to 500, and any number of tokens
 abbrev pub limits : Limits

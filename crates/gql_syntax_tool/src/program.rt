@@ -12,7 +12,7 @@ use jb_serve::serve;
 pub use jb_serve::{ANSWERED, MISUSED, NO_MEMORY, REFUSED, SINK_FAILED, SOURCE_FAILED, TOO_LONG};
 use std::alloc::Global;
 
-const USAGE: &str = "usage: gql_syntax document | selection_set | type\n";
+const USAGE: &str = "usage: gql_syntax_program document | selection_set | type\n";
 
 /// Runs the program over `words`, its arguments without its own name, and gives its exit status, from [`ANSWERED`]
 /// to [`TOO_LONG`].

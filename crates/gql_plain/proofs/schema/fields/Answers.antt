@@ -1,6 +1,6 @@
 use Rattle.std.proofs.Common.{◌≡◌, ℕ, List, true, None, Some, refl, sym, ◌∙◌, ap, arith}
 use Rattle.std.specs.Option.{option_map}
-use Rattle.gql_ast_system.specs.declared.field_definition.FieldDefinition.{FieldDefinition}
+use Rattle.gql_ast_definitions.specs.declared.field_definition.FieldDefinition.{FieldDefinition}
 use Rattle.gql_exec.specs.declared.schema.TypeRef.{TypeRef}
 use Rattle.gql_plain.specs.Distinct.{distinct_by, has_name}
 use Rattle.gql_plain.specs.PlainSchema.{field_of, type_of_field}

@@ -1,0 +1,162 @@
+//! The tokens of concrete trees.
+
+ghost use Rattle.std.specs.Prelude.{◌≡◌, IfOk, None};
+ghost use Rattle.std.specs.Option.{option_map, option_copied};
+ghost use Rattle.gql_cst.specs.Forest.{plain, forest};
+ghost use Rattle.gql_ast_base.specs.Parts as parts;
+
+use crate::name::Name;
+use crate::node::{is_of, location};
+use gql_cst::{SyntaxKind, Tree};
+use gql_source::{FileId, SourceSpan};
+use jb_text::{Memory, Refused};
+use std::alloc::{AllocError, Global};
+
+/// Whether the place lies between two characters, or at an end of the text.
+fn is_boundary(text: &str, at: usize) -> bool
+    ensures { result ≡ parts.is_boundary text.now at }
+{
+    let bytes = text.as_bytes();
+    at == bytes.len() || (at < bytes.len() && (bytes[at] < 128 || 192 <= bytes[at]))
+}
+
+/// The part of the text between two places that lie between characters.
+#[tactic(auto, unfolding(crate::specs::Parts::piece))]
+fn piece(text: &str, start: usize, end: usize) -> Option<&str>
+    ensures { option_copied result ≡ parts.piece text.now start end }
+{
+    if start <= end && is_boundary(text, start) && is_boundary(text, end) {
+        Some(&text[start..end])
+    } else {
+        None
+    }
+}
+
+/// The text of a token.
+#[must_use]
+#[tactic(auto, unfolding(crate::specs::Parts::token_text))]
+pub fn token_text<'a>(text: &'a str, tree: &Tree) -> Option<&'a str>
+    ensures { option_copied result ≡ parts.token_text text.now (plain tree.now) }
+{
+    if is_of(tree, SyntaxKind::Token) {
+        piece(text, tree.range().start, tree.range().end)
+    } else {
+        None
+    }
+}
+
+/// The text of a token that is a name.
+#[must_use]
+#[tactic(auto, unfolding(crate::specs::Parts::word))]
+pub fn word<'a>(text: &'a str, tree: &Tree) -> Option<&'a str>
+    ensures { option_copied result ≡ parts.word text.now (plain tree.now) }
+{
+    match token_text(text, tree) {
+        Some(found) if Name::is_valid_syntax(found) => Some(found),
+        _ => None,
+    }
+}
+
+/// A name without a place, with this one.
+fn placed(name: Name, location: Option<SourceSpan>) -> Name
+    requires { name.location ≡ None }
+    ensures { result ≡ record { text = name.text; location = location } }
+{
+    match location {
+        Some(location) => name.with_location(location),
+        None => name,
+    }
+}
+
+/// The name that a token is.
+#[tactic(auto, unfolding(crate::specs::Parts::name_of, crate::specs::Parts::word))]
+pub(crate) fn name_of(
+    alloc: Global,
+    tree: &Tree,
+    text: &str,
+    file_id: FileId,
+) -> Result<Option<Name>, Memory>
+    ensures { IfOk result (λ made. made ≡ parts.name_of text.now file_id (plain tree.now)) }
+{
+    let Some(found) = token_text(text, tree) else {
+        return Ok(None);
+    };
+    match Name::new(alloc, found) {
+        Ok(name) => Ok(Some(placed(name, location(file_id, tree)))),
+        Err(Refused::Fault(_)) => Ok(None),
+        Err(Refused::Memory) => Err(AllocError),
+    }
+}
+
+/// The nth name among the trees, counted from 0.
+pub(crate) fn nth_word<'a>(nodes: &'a [Tree], text: &str, n: usize) -> Option<&'a Tree>
+    ensures { option_map (λ tree. plain tree.now) result ≡ parts.nth_word text.now n (forest nodes.now) }
+{
+    let mut left = n;
+    for node in nodes {
+        if word(text, node).is_some() {
+            if left == 0 {
+                return Some(node);
+            }
+            left -= 1;
+        }
+    }
+    None
+}
+
+/// The text of the nth name among the trees.
+#[must_use]
+pub fn nth_text<'a>(nodes: &[Tree], text: &'a str, n: usize) -> Option<&'a str>
+    ensures { option_copied result ≡ parts.nth_text text.now n (forest nodes.now) }
+{
+    match nth_word(nodes, text, n) {
+        Some(tree) => word(text, tree),
+        None => None,
+    }
+}
+
+/// The nth name among the trees.
+#[tactic(auto, unfolding(crate::specs::Parts::nth_name))]
+pub fn nth_name(
+    alloc: Global,
+    nodes: &[Tree],
+    text: &str,
+    file_id: FileId,
+    n: usize,
+) -> Result<Option<Name>, Memory>
+    ensures { IfOk result (λ made. made ≡ parts.nth_name text.now file_id n (forest nodes.now)) }
+{
+    let Some(tree) = nth_word(nodes, text, n) else {
+        return Ok(None);
+    };
+    let name = name_of(alloc, tree, text, file_id)?;
+    Ok(name)
+}
+
+/// Whether the nth name among the trees is the word.
+#[must_use]
+pub fn is_word(nodes: &[Tree], text: &str, n: usize, word: &str) -> bool
+    ensures { result ≡ parts.is_word (parts.nth_text text.now n (forest nodes.now)) word.now }
+{
+    match nth_text(nodes, text, n) {
+        Some(found) => found == word,
+        None => false,
+    }
+}
+
+/// The trees behind the nth name among them.
+#[must_use]
+pub fn behind<'a>(nodes: &'a [Tree], text: &str, n: usize) -> &'a [Tree]
+    ensures { forest result.now ≡ parts.behind text.now n (forest nodes.now) }
+{
+    let mut left = n;
+    for (index, node) in nodes.iter().enumerate() {
+        if word(text, node).is_some() {
+            if left == 0 {
+                return &nodes[index + 1..];
+            }
+            left -= 1;
+        }
+    }
+    &[]
+}

@@ -1,7 +1,0 @@
-use Rattle.std.proofs.Common.{arith}
-use Rattle.gql_ast_convert.proofs.Rows.{size-item}
-use Rattle.gql_ast_convert.proofs.node.+start_of.Goals as goal
-
-pub start_of-tree_start-requires : goal.start_of-tree_start-requires
-start_of-tree_start-requires t c =
-    (omega (arith, size-item c.args.nodes.now c.loop-node.node-index c.node-item.result (omega arith) c.node-item.is), tt)

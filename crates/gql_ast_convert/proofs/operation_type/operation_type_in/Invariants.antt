@@ -1,8 +1,0 @@
-use Rattle.std.proofs.Common.{◌≡◌, drop}
-use Rattle.gql_cst.specs.Forest.{forest}
-use Rattle.gql_ast_convert.specs.Parts.{first}
-use Rattle.gql_ast_convert.specs.OperationTypes.{operation_type_of}
-use Rattle.gql_ast_convert.proofs.operation_type.operation_type_in.Given as goal
-
-abbrev pub invariant-loop-node : goal.invariant-loop-node
-invariant-loop-node l = first (operation_type_of l.text) (forest (drop l.node-index l.nodes)) ≡ first (operation_type_of l.text) (forest l.nodes)

@@ -1,0 +1,281 @@
+//! Definitions of fields, arguments and enum values.
+
+ghost use Rattle.std.specs.Prelude.{◌≡◌, IfOk};
+ghost use Rattle.gql_cst.specs.Forest.{forest};
+ghost use Rattle.gql_ast_definitions.specs.Fields as spec;
+
+use gql_ast_base::{
+    Convert, Copying, Name, all_three, both, description, first, gather, inside, is_of, location,
+    nth_name,
+};
+use gql_ast_values::{Directive, TypeRef, Value, default_value, directives};
+use gql_cst::{SyntaxKind, Tree};
+use gql_source::{FileId, SourceSpan};
+use jb_text::{Listed, Memory, Text};
+use std::alloc::Global;
+
+/// A field of an object type or an interface type (GraphQL October 2021, section 3.6).
+#[derive(Drop)]
+pub struct FieldDefinition {
+    pub description: Option<Text>,
+    pub name: Name,
+    pub arguments: Listed<InputValueDefinition>,
+    pub ty: TypeRef,
+    pub directives: Listed<Directive>,
+    pub location: Option<SourceSpan>,
+}
+
+/// An argument of a field or a directive (section 3.6.1), or a field of an input object type (section 3.10).
+#[derive(Drop)]
+pub struct InputValueDefinition {
+    pub description: Option<Text>,
+    pub name: Name,
+    pub ty: TypeRef,
+    pub default_value: Option<Value>,
+    pub directives: Listed<Directive>,
+    pub location: Option<SourceSpan>,
+}
+
+/// A value of an enum type (section 3.9).
+#[derive(Drop)]
+pub struct EnumValueDefinition {
+    pub description: Option<Text>,
+    pub value: Name,
+    pub directives: Listed<Directive>,
+    pub location: Option<SourceSpan>,
+}
+
+impl Copying for FieldDefinition {
+    fn copy(&self, alloc: Global) -> Result<FieldDefinition, Memory> {
+        let (description, name, directives) = all_three(
+            self.description.copy(alloc),
+            self.name.copy(alloc),
+            self.directives.copy(alloc),
+        )?;
+        let (arguments, ty) = both(self.arguments.copy(alloc), self.ty.copy(alloc))?;
+        Ok(FieldDefinition {
+            description,
+            name,
+            arguments,
+            ty,
+            directives,
+            location: self.location,
+        })
+    }
+}
+
+impl Copying for InputValueDefinition {
+    fn copy(&self, alloc: Global) -> Result<InputValueDefinition, Memory> {
+        let (description, name, directives) = all_three(
+            self.description.copy(alloc),
+            self.name.copy(alloc),
+            self.directives.copy(alloc),
+        )?;
+        let (ty, default_value) = both(self.ty.copy(alloc), self.default_value.copy(alloc))?;
+        Ok(InputValueDefinition {
+            description,
+            name,
+            ty,
+            default_value,
+            directives,
+            location: self.location,
+        })
+    }
+}
+
+impl Copying for EnumValueDefinition {
+    fn copy(&self, alloc: Global) -> Result<EnumValueDefinition, Memory> {
+        let (description, value, directives) = all_three(
+            self.description.copy(alloc),
+            self.value.copy(alloc),
+            self.directives.copy(alloc),
+        )?;
+        Ok(EnumValueDefinition {
+            description,
+            value,
+            directives,
+            location: self.location,
+        })
+    }
+}
+
+impl Convert for InputValueDefinition {
+    ghost meaning = { spec.input_value_of };
+
+    #[tactic(auto, unfolding(crate::specs::Fields::input_value_of))]
+    fn convert(
+        alloc: Global,
+        tree: &Tree,
+        text: &str,
+        file_id: FileId,
+    ) -> Result<Option<InputValueDefinition>, Memory> {
+        if !is_of(tree, SyntaxKind::InputValueDefinition) {
+            return Ok(None);
+        }
+        let nodes = tree.children().as_slice();
+        let (name, ty) = both(
+            nth_name(alloc, nodes, text, file_id, 0),
+            first(alloc, nodes, text, file_id),
+        )?;
+        let Some((name, ty)) = name.zip(ty) else {
+            return Ok(None);
+        };
+        let (description, default_value, directives) = all_three(
+            description(alloc, nodes, text, file_id),
+            default_value(alloc, nodes, text, file_id),
+            directives(alloc, nodes, text, file_id),
+        )?;
+        Ok(Some(InputValueDefinition {
+            description,
+            name,
+            ty,
+            default_value,
+            directives,
+            location: location(file_id, tree),
+        }))
+    }
+}
+
+impl Convert for FieldDefinition {
+    ghost meaning = { spec.field_of };
+
+    #[tactic(auto, unfolding(crate::specs::Fields::field_of))]
+    fn convert(
+        alloc: Global,
+        tree: &Tree,
+        text: &str,
+        file_id: FileId,
+    ) -> Result<Option<FieldDefinition>, Memory> {
+        if !is_of(tree, SyntaxKind::FieldDefinition) {
+            return Ok(None);
+        }
+        let nodes = tree.children().as_slice();
+        let (name, ty) = both(
+            nth_name(alloc, nodes, text, file_id, 0),
+            first(alloc, nodes, text, file_id),
+        )?;
+        let Some((name, ty)) = name.zip(ty) else {
+            return Ok(None);
+        };
+        let (description, arguments, directives) = all_three(
+            description(alloc, nodes, text, file_id),
+            argument_definitions(alloc, nodes, text, file_id),
+            directives(alloc, nodes, text, file_id),
+        )?;
+        Ok(Some(FieldDefinition {
+            description,
+            name,
+            arguments,
+            ty,
+            directives,
+            location: location(file_id, tree),
+        }))
+    }
+}
+
+impl Convert for EnumValueDefinition {
+    ghost meaning = { spec.enum_value_of };
+
+    #[tactic(auto, unfolding(crate::specs::Fields::enum_value_of))]
+    fn convert(
+        alloc: Global,
+        tree: &Tree,
+        text: &str,
+        file_id: FileId,
+    ) -> Result<Option<EnumValueDefinition>, Memory> {
+        if !is_of(tree, SyntaxKind::EnumValueDefinition) {
+            return Ok(None);
+        }
+        let nodes = tree.children().as_slice();
+        let names = inside(nodes, SyntaxKind::EnumValue);
+        let Some(value) = nth_name(alloc, names, text, file_id, 0)? else {
+            return Ok(None);
+        };
+        let (description, directives) = both(
+            description(alloc, nodes, text, file_id),
+            directives(alloc, nodes, text, file_id),
+        )?;
+        Ok(Some(EnumValueDefinition {
+            description,
+            value,
+            directives,
+            location: location(file_id, tree),
+        }))
+    }
+}
+
+/// The arguments among the parts of a definition.
+#[tactic(auto, unfolding(crate::specs::Fields::argument_definitions))]
+pub(crate) fn argument_definitions(
+    alloc: Global,
+    nodes: &[Tree],
+    text: &str,
+    file_id: FileId,
+) -> Result<Listed<InputValueDefinition>, Memory>
+    ensures { IfOk result (λ made. made ≡ spec.argument_definitions text.now file_id (forest nodes.now)) }
+{
+    let list = gather(
+        alloc,
+        inside(nodes, SyntaxKind::ArgumentsDefinition),
+        text,
+        file_id,
+    )?;
+    Ok(list)
+}
+
+/// The fields among the parts of an input object type.
+#[tactic(auto, unfolding(crate::specs::Fields::input_fields))]
+pub(crate) fn input_fields(
+    alloc: Global,
+    nodes: &[Tree],
+    text: &str,
+    file_id: FileId,
+) -> Result<Listed<InputValueDefinition>, Memory>
+    ensures { IfOk result (λ made. made ≡ spec.input_fields text.now file_id (forest nodes.now)) }
+{
+    let list = gather(
+        alloc,
+        inside(nodes, SyntaxKind::InputFieldsDefinition),
+        text,
+        file_id,
+    )?;
+    Ok(list)
+}
+
+/// The fields among the parts of an object type or an interface type.
+#[tactic(auto, unfolding(crate::specs::Fields::fields))]
+pub(crate) fn fields(
+    alloc: Global,
+    nodes: &[Tree],
+    text: &str,
+    file_id: FileId,
+) -> Result<Listed<FieldDefinition>, Memory>
+    ensures { IfOk result (λ made. made ≡ spec.fields text.now file_id (forest nodes.now)) }
+{
+    let list = gather(
+        alloc,
+        inside(nodes, SyntaxKind::FieldsDefinition),
+        text,
+        file_id,
+    )?;
+    Ok(list)
+}
+
+/// The values among the parts of an enum type.
+#[tactic(auto, unfolding(crate::specs::Fields::enum_values))]
+pub(crate) fn enum_values(
+    alloc: Global,
+    nodes: &[Tree],
+    text: &str,
+    file_id: FileId,
+) -> Result<Listed<EnumValueDefinition>, Memory>
+    ensures { IfOk result (λ made. made ≡ spec.enum_values text.now file_id (forest nodes.now)) }
+{
+    let list = gather(
+        alloc,
+        inside(nodes, SyntaxKind::EnumValuesDefinition),
+        text,
+        file_id,
+    )?;
+    Ok(list)
+}

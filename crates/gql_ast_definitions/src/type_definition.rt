@@ -1,0 +1,313 @@
+//! Definitions of types.
+
+ghost use Rattle.std.specs.Prelude.{◌≡◌, IfOk};
+ghost use Rattle.gql_cst.specs.Forest.{forest};
+ghost use Rattle.gql_ast_definitions.specs.Definitions as spec;
+
+use crate::field_definition::{
+    EnumValueDefinition, FieldDefinition, InputValueDefinition, enum_values, fields, input_fields,
+};
+use gql_ast_base::{
+    Convert, Name, all_four, all_three, both, description, inside, is_of, location, named_types,
+    nth_name,
+};
+use gql_ast_values::{Directive, directives};
+use gql_cst::{SyntaxKind, Tree};
+use gql_source::{FileId, SourceSpan};
+use jb_text::{Listed, Memory, Text};
+use std::alloc::Global;
+
+mod copying;
+
+/// A scalar type (GraphQL October 2021, section 3.5).
+#[derive(Drop)]
+pub struct ScalarTypeDefinition {
+    pub description: Option<Text>,
+    pub name: Name,
+    pub directives: Listed<Directive>,
+    pub location: Option<SourceSpan>,
+}
+
+/// An object type (section 3.6).
+#[derive(Drop)]
+pub struct ObjectTypeDefinition {
+    pub description: Option<Text>,
+    pub name: Name,
+    pub implements_interfaces: Listed<Name>,
+    pub directives: Listed<Directive>,
+    pub fields: Listed<FieldDefinition>,
+    pub location: Option<SourceSpan>,
+}
+
+/// An interface type (section 3.7).
+#[derive(Drop)]
+pub struct InterfaceTypeDefinition {
+    pub description: Option<Text>,
+    pub name: Name,
+    pub implements_interfaces: Listed<Name>,
+    pub directives: Listed<Directive>,
+    pub fields: Listed<FieldDefinition>,
+    pub location: Option<SourceSpan>,
+}
+
+/// A union type (section 3.8).
+#[derive(Drop)]
+pub struct UnionTypeDefinition {
+    pub description: Option<Text>,
+    pub name: Name,
+    pub directives: Listed<Directive>,
+    pub members: Listed<Name>,
+    pub location: Option<SourceSpan>,
+}
+
+/// An enum type (section 3.9).
+#[derive(Drop)]
+pub struct EnumTypeDefinition {
+    pub description: Option<Text>,
+    pub name: Name,
+    pub directives: Listed<Directive>,
+    pub values: Listed<EnumValueDefinition>,
+    pub location: Option<SourceSpan>,
+}
+
+/// An input object type (section 3.10).
+#[derive(Drop)]
+pub struct InputObjectTypeDefinition {
+    pub description: Option<Text>,
+    pub name: Name,
+    pub directives: Listed<Directive>,
+    pub fields: Listed<InputValueDefinition>,
+    pub location: Option<SourceSpan>,
+}
+
+/// The interfaces among the parts of an object type or an interface type.
+#[tactic(auto, unfolding(crate::specs::Definitions::interfaces))]
+pub(crate) fn interfaces(
+    alloc: Global,
+    nodes: &[Tree],
+    text: &str,
+    file_id: FileId,
+) -> Result<Listed<Name>, Memory>
+    ensures { IfOk result (λ made. made ≡ spec.interfaces text.now file_id (forest nodes.now)) }
+{
+    let list = named_types(
+        alloc,
+        inside(nodes, SyntaxKind::ImplementsInterfaces),
+        text,
+        file_id,
+    )?;
+    Ok(list)
+}
+
+/// The members among the parts of a union type.
+#[tactic(auto, unfolding(crate::specs::Definitions::members))]
+pub(crate) fn members(
+    alloc: Global,
+    nodes: &[Tree],
+    text: &str,
+    file_id: FileId,
+) -> Result<Listed<Name>, Memory>
+    ensures { IfOk result (λ made. made ≡ spec.members text.now file_id (forest nodes.now)) }
+{
+    let list = named_types(
+        alloc,
+        inside(nodes, SyntaxKind::UnionMemberTypes),
+        text,
+        file_id,
+    )?;
+    Ok(list)
+}
+
+impl Convert for ScalarTypeDefinition {
+    ghost meaning = { spec.scalar_of };
+
+    #[tactic(auto, unfolding(crate::specs::Definitions::scalar_of))]
+    fn convert(
+        alloc: Global,
+        tree: &Tree,
+        text: &str,
+        file_id: FileId,
+    ) -> Result<Option<ScalarTypeDefinition>, Memory> {
+        if !is_of(tree, SyntaxKind::ScalarTypeDefinition) {
+            return Ok(None);
+        }
+        let nodes = tree.children().as_slice();
+        let Some(name) = nth_name(alloc, nodes, text, file_id, 1)? else {
+            return Ok(None);
+        };
+        let (description, directives) = both(
+            description(alloc, nodes, text, file_id),
+            directives(alloc, nodes, text, file_id),
+        )?;
+        Ok(Some(ScalarTypeDefinition {
+            description,
+            name,
+            directives,
+            location: location(file_id, tree),
+        }))
+    }
+}
+
+impl Convert for ObjectTypeDefinition {
+    ghost meaning = { spec.object_of };
+
+    #[tactic(auto, unfolding(crate::specs::Definitions::object_of))]
+    fn convert(
+        alloc: Global,
+        tree: &Tree,
+        text: &str,
+        file_id: FileId,
+    ) -> Result<Option<ObjectTypeDefinition>, Memory> {
+        if !is_of(tree, SyntaxKind::ObjectTypeDefinition) {
+            return Ok(None);
+        }
+        let nodes = tree.children().as_slice();
+        let Some(name) = nth_name(alloc, nodes, text, file_id, 1)? else {
+            return Ok(None);
+        };
+        let (description, implements_interfaces, directives, fields) = all_four(
+            description(alloc, nodes, text, file_id),
+            interfaces(alloc, nodes, text, file_id),
+            directives(alloc, nodes, text, file_id),
+            fields(alloc, nodes, text, file_id),
+        )?;
+        Ok(Some(ObjectTypeDefinition {
+            description,
+            name,
+            implements_interfaces,
+            directives,
+            fields,
+            location: location(file_id, tree),
+        }))
+    }
+}
+
+impl Convert for InterfaceTypeDefinition {
+    ghost meaning = { spec.interface_of };
+
+    #[tactic(auto, unfolding(crate::specs::Definitions::interface_of))]
+    fn convert(
+        alloc: Global,
+        tree: &Tree,
+        text: &str,
+        file_id: FileId,
+    ) -> Result<Option<InterfaceTypeDefinition>, Memory> {
+        if !is_of(tree, SyntaxKind::InterfaceTypeDefinition) {
+            return Ok(None);
+        }
+        let nodes = tree.children().as_slice();
+        let Some(name) = nth_name(alloc, nodes, text, file_id, 1)? else {
+            return Ok(None);
+        };
+        let (description, implements_interfaces, directives, fields) = all_four(
+            description(alloc, nodes, text, file_id),
+            interfaces(alloc, nodes, text, file_id),
+            directives(alloc, nodes, text, file_id),
+            fields(alloc, nodes, text, file_id),
+        )?;
+        Ok(Some(InterfaceTypeDefinition {
+            description,
+            name,
+            implements_interfaces,
+            directives,
+            fields,
+            location: location(file_id, tree),
+        }))
+    }
+}
+
+impl Convert for UnionTypeDefinition {
+    ghost meaning = { spec.union_of };
+
+    #[tactic(auto, unfolding(crate::specs::Definitions::union_of))]
+    fn convert(
+        alloc: Global,
+        tree: &Tree,
+        text: &str,
+        file_id: FileId,
+    ) -> Result<Option<UnionTypeDefinition>, Memory> {
+        if !is_of(tree, SyntaxKind::UnionTypeDefinition) {
+            return Ok(None);
+        }
+        let nodes = tree.children().as_slice();
+        let Some(name) = nth_name(alloc, nodes, text, file_id, 1)? else {
+            return Ok(None);
+        };
+        let (description, directives, members) = all_three(
+            description(alloc, nodes, text, file_id),
+            directives(alloc, nodes, text, file_id),
+            members(alloc, nodes, text, file_id),
+        )?;
+        Ok(Some(UnionTypeDefinition {
+            description,
+            name,
+            directives,
+            members,
+            location: location(file_id, tree),
+        }))
+    }
+}
+
+impl Convert for EnumTypeDefinition {
+    ghost meaning = { spec.enum_of };
+
+    #[tactic(auto, unfolding(crate::specs::Definitions::enum_of))]
+    fn convert(
+        alloc: Global,
+        tree: &Tree,
+        text: &str,
+        file_id: FileId,
+    ) -> Result<Option<EnumTypeDefinition>, Memory> {
+        if !is_of(tree, SyntaxKind::EnumTypeDefinition) {
+            return Ok(None);
+        }
+        let nodes = tree.children().as_slice();
+        let Some(name) = nth_name(alloc, nodes, text, file_id, 1)? else {
+            return Ok(None);
+        };
+        let (description, directives, values) = all_three(
+            description(alloc, nodes, text, file_id),
+            directives(alloc, nodes, text, file_id),
+            enum_values(alloc, nodes, text, file_id),
+        )?;
+        Ok(Some(EnumTypeDefinition {
+            description,
+            name,
+            directives,
+            values,
+            location: location(file_id, tree),
+        }))
+    }
+}
+
+impl Convert for InputObjectTypeDefinition {
+    ghost meaning = { spec.input_object_of };
+
+    #[tactic(auto, unfolding(crate::specs::Definitions::input_object_of))]
+    fn convert(
+        alloc: Global,
+        tree: &Tree,
+        text: &str,
+        file_id: FileId,
+    ) -> Result<Option<InputObjectTypeDefinition>, Memory> {
+        if !is_of(tree, SyntaxKind::InputObjectTypeDefinition) {
+            return Ok(None);
+        }
+        let nodes = tree.children().as_slice();
+        let Some(name) = nth_name(alloc, nodes, text, file_id, 1)? else {
+            return Ok(None);
+        };
+        let (description, directives, fields) = all_three(
+            description(alloc, nodes, text, file_id),
+            directives(alloc, nodes, text, file_id),
+            input_fields(alloc, nodes, text, file_id),
+        )?;
+        Ok(Some(InputObjectTypeDefinition {
+            description,
+            name,
+            directives,
+            fields,
+            location: location(file_id, tree),
+        }))
+    }
+}

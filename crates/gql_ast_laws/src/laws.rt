@@ -1,0 +1,72 @@
+//! Laws of the definitions alone: what a text stands for is one, whichever tree of it is taken.
+
+ghost use Rattle.std.specs.Prelude.{◌≡◌, ◌++◌, ℕ, List, None, Some};
+ghost use Rattle.gql_source.specs.declared.file_id.FileId.{FileId};
+ghost use Rattle.gql_cst_grammar.specs.declared.rule.Rule.TheVariants.{Document, FieldSet, TypeReference};
+ghost use Rattle.gql_cst_grammar.specs.declared.syntax_kind.SyntaxKind.TheVariants as kind;
+ghost use Rattle.gql_cst.specs.declared.limits.Limits.{Limits};
+ghost use Rattle.gql_cst.specs.declared.limits.Parsed.{Parsed};
+ghost use Rattle.gql_cst.specs.Forest.{Forest, Plain, plain};
+ghost use Rattle.gql_cst.specs.Parses.{IsParse};
+ghost use Rattle.gql_cst_laws.specs.TreeOf.{IsTreeOf};
+ghost use Rattle.gql_ast.specs.declared.definition.Definition.{Definition};
+ghost use Rattle.gql_ast_operations.specs.declared.selection.Selection.{Selection};
+ghost use Rattle.gql_ast_values.specs.declared.type_ref.TypeRef.{TypeRef};
+ghost use Rattle.gql_ast.specs.Documents.{definitions};
+ghost use Rattle.gql_ast_operations.specs.Selections.{selections, selected};
+ghost use Rattle.gql_ast_values.specs.Types.{type_of};
+ghost use Rattle.gql_ast_laws.specs.Meant.{IsDocumentOf, AreSelectionsOf, IsTypeOf};
+
+use gql_cst_laws::laws::{parses_are_trees, texts_have_one_tree};
+
+/// A text is one document at most: all its trees have the same definitions, locations included (section 2.2 of GraphQL
+/// October 2021).
+pub fn texts_have_one_document()
+    ensures trees { (text : List ℕ) (file : FileId) (one other : Plain)
+        → IsTreeOf Document text one.children → IsTreeOf Document text other.children
+        → definitions text file one ≡ definitions text file other }
+    ensures document { (text : List ℕ) (file : FileId) (one other : List Definition)
+        → IsDocumentOf text file one → IsDocumentOf text file other → one ≡ other }
+{
+    texts_have_one_tree();
+}
+
+/// A text is one list of selections at most, with braces around it or without (section 2.4 of GraphQL October 2021).
+pub fn texts_have_one_selection_set()
+    ensures trees { (text : List ℕ) (file : FileId) (one other : Forest)
+        → IsTreeOf FieldSet text one → IsTreeOf FieldSet text other
+        → selections text file one ≡ selections text file other }
+    ensures within { (text : List ℕ) (file : FileId) (one other : Forest)
+        → IsTreeOf FieldSet text one → IsTreeOf FieldSet text other
+        → selected text file one ≡ selected text file other }
+    ensures selections { (text : List ℕ) (file : FileId) (one other : List Selection)
+        → AreSelectionsOf text file one → AreSelectionsOf text file other → one ≡ other }
+{
+    texts_have_one_tree();
+}
+
+/// A text is one reference to a type at most (section 2.11 of GraphQL October 2021).
+pub fn texts_have_one_type()
+    ensures trees { (text : List ℕ) (file : FileId) (one other : Plain) → one.kind ≡ kind.TypeReference → other.kind ≡ kind.TypeReference
+        → IsTreeOf TypeReference text one.children → IsTreeOf TypeReference text other.children
+        → type_of text file one ≡ type_of text file other }
+    ensures ty { (text : List ℕ) (file : FileId) (one other : TypeRef)
+        → IsTypeOf text file one → IsTypeOf text file other → one ≡ other }
+{
+    texts_have_one_tree();
+}
+
+/// What the tree of a parse without an error stands for is what the text stands for.
+pub fn parses_mean_their_text()
+    ensures document { (text : List ℕ) (file : FileId) (limits : Limits) (parsed : Parsed)
+        → IsParse Document text limits parsed → parsed.error ≡ None
+        → IsDocumentOf text file (definitions text file (plain parsed.tree)) }
+    ensures selections { (text : List ℕ) (file : FileId) (limits : Limits) (parsed : Parsed)
+        → IsParse FieldSet text limits parsed → parsed.error ≡ None
+        → AreSelectionsOf text file (selected text file (plain parsed.tree).children ++ selections text file (plain parsed.tree).children) }
+    ensures ty { (text : List ℕ) (file : FileId) (limits : Limits) (parsed : Parsed) (ty : TypeRef)
+        → IsParse TypeReference text limits parsed → parsed.error ≡ None
+        → type_of text file (plain parsed.tree) ≡ Some ty → IsTypeOf text file ty }
+{
+    parses_are_trees();
+}

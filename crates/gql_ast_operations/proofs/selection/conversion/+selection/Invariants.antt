@@ -1,0 +1,19 @@
+use Rattle.std.proofs.Common.{◌≡◌, ◌++◌, drop}
+use Rattle.gql_cst.specs.Forest.{plain, forest}
+use Rattle.gql_ast_base.specs.Parts.{size, head}
+use Rattle.gql_ast_operations.specs.Selections.{selections, choices}
+use Rattle.gql_ast_operations.proofs.selection.conversion.+selection.Given as goal
+
+-- nothing is added yet, and the first choice is still to come
+abbrev pub invariant-add_selection-loop-node : goal.invariant-add_selection-loop-node
+invariant-add_selection-loop-node l =
+    (l.list ≡ l.fn.list) × (head (choices l.text l.file_id (forest (drop l.node-index l.parts))) ≡ head (choices l.text l.file_id (forest l.parts)))
+
+abbrev pub invariant-selected-loop-node : goal.invariant-selected-loop-node
+invariant-selected-loop-node l = l.list ++ selections l.text l.file_id (forest (drop l.node-index l.set)) ≡ selections l.text l.file_id (forest l.set)
+
+abbrev pub decreases-selected : goal.decreases-selected
+decreases-selected l = size (forest l.nodes.now)
+
+abbrev pub decreases-add_selection : goal.decreases-add_selection
+decreases-add_selection l = size (plain l.tree.now).children

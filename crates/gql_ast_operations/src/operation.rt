@@ -1,0 +1,227 @@
+//! Operations and fragments.
+
+ghost use Rattle.std.specs.Prelude.{◌≡◌, IfOk};
+ghost use Rattle.gql_cst.specs.Forest.{forest};
+ghost use Rattle.gql_ast_operations.specs.Operations as spec;
+
+use crate::selection::{Selection, type_condition};
+use gql_ast_base::{
+    Convert, Copying, Name, OperationType, all_four, both, child, first, gather, inside, is_of,
+    location, nth_name, operation_type_in,
+};
+use gql_ast_values::{Directive, TypeRef, Value, default_value, directives};
+use gql_cst::{SyntaxKind, Tree};
+use gql_source::{FileId, SourceSpan};
+use jb_text::{Listed, Memory};
+use std::alloc::Global;
+
+/// An operation (section 2.3).
+#[derive(Drop)]
+pub struct OperationDefinition {
+    pub operation_type: OperationType,
+    pub name: Option<Name>,
+    pub variables: Listed<VariableDefinition>,
+    pub directives: Listed<Directive>,
+    pub selection_set: Listed<Selection>,
+    pub location: Option<SourceSpan>,
+}
+
+/// A variable that an operation takes (section 2.10).
+#[derive(Drop)]
+pub struct VariableDefinition {
+    pub name: Name,
+    pub ty: TypeRef,
+    pub default_value: Option<Value>,
+    pub directives: Listed<Directive>,
+    pub location: Option<SourceSpan>,
+}
+
+/// A fragment with a name (section 2.8).
+#[derive(Drop)]
+pub struct FragmentDefinition {
+    pub name: Name,
+    pub type_condition: Name,
+    pub directives: Listed<Directive>,
+    pub selection_set: Listed<Selection>,
+    pub location: Option<SourceSpan>,
+}
+
+impl Copying for OperationDefinition {
+    fn copy(&self, alloc: Global) -> Result<OperationDefinition, Memory> {
+        let (name, variables, directives, selection_set) = all_four(
+            self.name.copy(alloc),
+            self.variables.copy(alloc),
+            self.directives.copy(alloc),
+            self.selection_set.copy(alloc),
+        )?;
+        Ok(OperationDefinition {
+            operation_type: self.operation_type,
+            name,
+            variables,
+            directives,
+            selection_set,
+            location: self.location,
+        })
+    }
+}
+
+impl Copying for VariableDefinition {
+    fn copy(&self, alloc: Global) -> Result<VariableDefinition, Memory> {
+        let (name, ty, default_value, directives) = all_four(
+            self.name.copy(alloc),
+            self.ty.copy(alloc),
+            self.default_value.copy(alloc),
+            self.directives.copy(alloc),
+        )?;
+        Ok(VariableDefinition {
+            name,
+            ty,
+            default_value,
+            directives,
+            location: self.location,
+        })
+    }
+}
+
+impl Copying for FragmentDefinition {
+    fn copy(&self, alloc: Global) -> Result<FragmentDefinition, Memory> {
+        let (name, type_condition, directives, selection_set) = all_four(
+            self.name.copy(alloc),
+            self.type_condition.copy(alloc),
+            self.directives.copy(alloc),
+            self.selection_set.copy(alloc),
+        )?;
+        Ok(FragmentDefinition {
+            name,
+            type_condition,
+            directives,
+            selection_set,
+            location: self.location,
+        })
+    }
+}
+
+/// The variables among the parts of an operation.
+#[tactic(auto, unfolding(crate::specs::Operations::variables))]
+fn variables(
+    alloc: Global,
+    nodes: &[Tree],
+    text: &str,
+    file_id: FileId,
+) -> Result<Listed<VariableDefinition>, Memory>
+    ensures { IfOk result (λ made. made ≡ spec.variables text.now file_id (forest nodes.now)) }
+{
+    let list = gather(
+        alloc,
+        inside(nodes, SyntaxKind::VariableDefinitions),
+        text,
+        file_id,
+    )?;
+    Ok(list)
+}
+
+impl Convert for VariableDefinition {
+    ghost meaning = { spec.variable_of };
+
+    #[tactic(auto, unfolding(crate::specs::Operations::variable_of))]
+    fn convert(
+        alloc: Global,
+        tree: &Tree,
+        text: &str,
+        file_id: FileId,
+    ) -> Result<Option<VariableDefinition>, Memory> {
+        if !is_of(tree, SyntaxKind::VariableDefinition) {
+            return Ok(None);
+        }
+        let nodes = tree.children().as_slice();
+        let names = inside(nodes, SyntaxKind::Variable);
+        let (name, ty, default_value, directives) = all_four(
+            nth_name(alloc, names, text, file_id, 0),
+            first(alloc, nodes, text, file_id),
+            default_value(alloc, nodes, text, file_id),
+            directives(alloc, nodes, text, file_id),
+        )?;
+        let Some((name, ty)) = name.zip(ty) else {
+            return Ok(None);
+        };
+        Ok(Some(VariableDefinition {
+            name,
+            ty,
+            default_value,
+            directives,
+            location: location(file_id, tree),
+        }))
+    }
+}
+
+impl Convert for OperationDefinition {
+    ghost meaning = { spec.operation_of };
+
+    #[tactic(auto, unfolding(crate::specs::Operations::operation_of))]
+    fn convert(
+        alloc: Global,
+        tree: &Tree,
+        text: &str,
+        file_id: FileId,
+    ) -> Result<Option<OperationDefinition>, Memory> {
+        if !is_of(tree, SyntaxKind::OperationDefinition) {
+            return Ok(None);
+        }
+        let nodes = tree.children().as_slice();
+        let Some(set) = child(nodes, SyntaxKind::SelectionSet) else {
+            return Ok(None);
+        };
+        let operation_type = operation_type_in(nodes, text).unwrap_or(OperationType::Query);
+        let (name, variables, directives, selection_set) = all_four(
+            nth_name(alloc, nodes, text, file_id, 0),
+            variables(alloc, nodes, text, file_id),
+            directives(alloc, nodes, text, file_id),
+            gather(alloc, set.children().as_slice(), text, file_id),
+        )?;
+        Ok(Some(OperationDefinition {
+            operation_type,
+            name,
+            variables,
+            directives,
+            selection_set,
+            location: location(file_id, tree),
+        }))
+    }
+}
+
+impl Convert for FragmentDefinition {
+    ghost meaning = { spec.fragment_of };
+
+    #[tactic(auto, unfolding(crate::specs::Operations::fragment_of))]
+    fn convert(
+        alloc: Global,
+        tree: &Tree,
+        text: &str,
+        file_id: FileId,
+    ) -> Result<Option<FragmentDefinition>, Memory> {
+        if !is_of(tree, SyntaxKind::FragmentDefinition) {
+            return Ok(None);
+        }
+        let nodes = tree.children().as_slice();
+        let Some(set) = child(nodes, SyntaxKind::SelectionSet) else {
+            return Ok(None);
+        };
+        let names = inside(nodes, SyntaxKind::FragmentName);
+        let (name, type_condition, directives, selection_set) = all_four(
+            nth_name(alloc, names, text, file_id, 0),
+            type_condition(alloc, nodes, text, file_id),
+            directives(alloc, nodes, text, file_id),
+            gather(alloc, set.children().as_slice(), text, file_id),
+        )?;
+        let Some((name, type_condition)) = name.zip(type_condition) else {
+            return Ok(None);
+        };
+        Ok(Some(FragmentDefinition {
+            name,
+            type_condition,
+            directives,
+            selection_set,
+            location: location(file_id, tree),
+        }))
+    }
+}

@@ -1,0 +1,133 @@
+//! Directives and arguments where they are used.
+
+ghost use Rattle.std.specs.Prelude.{◌≡◌, IfOk};
+ghost use Rattle.gql_cst.specs.Forest.{forest};
+ghost use Rattle.gql_ast_values.specs.Directives as spec;
+
+use crate::value::Value;
+use gql_ast_base::{
+    Convert, Copying, Name, both, first, gather, inside, is_of, location, nth_name,
+};
+use gql_cst::{SyntaxKind, Tree};
+use gql_source::{FileId, SourceSpan};
+use jb_text::{Listed, Memory};
+use std::alloc::Global;
+
+/// A directive on something (GraphQL October 2021, section 2.12).
+#[derive(Drop)]
+pub struct Directive {
+    pub name: Name,
+    pub arguments: Listed<Argument>,
+    pub location: Option<SourceSpan>,
+}
+
+/// An argument of a field or a directive (section 2.6).
+#[derive(Drop)]
+pub struct Argument {
+    pub name: Name,
+    pub value: Value,
+    pub location: Option<SourceSpan>,
+}
+
+impl Copying for Directive {
+    fn copy(&self, alloc: Global) -> Result<Directive, Memory> {
+        let (name, arguments) = both(self.name.copy(alloc), self.arguments.copy(alloc))?;
+        Ok(Directive {
+            name,
+            arguments,
+            location: self.location,
+        })
+    }
+}
+
+impl Copying for Argument {
+    fn copy(&self, alloc: Global) -> Result<Argument, Memory> {
+        let (name, value) = both(self.name.copy(alloc), self.value.copy(alloc))?;
+        Ok(Argument {
+            name,
+            value,
+            location: self.location,
+        })
+    }
+}
+
+impl Convert for Argument {
+    ghost meaning = { spec.argument_of };
+
+    #[tactic(auto, unfolding(crate::specs::Directives::argument_of))]
+    fn convert(
+        alloc: Global,
+        tree: &Tree,
+        text: &str,
+        file_id: FileId,
+    ) -> Result<Option<Argument>, Memory> {
+        if !is_of(tree, SyntaxKind::Argument) {
+            return Ok(None);
+        }
+        let nodes = tree.children().as_slice();
+        let Some(name) = nth_name(alloc, nodes, text, file_id, 0)? else {
+            return Ok(None);
+        };
+        let Some(value) = first(alloc, nodes, text, file_id)? else {
+            return Ok(None);
+        };
+        Ok(Some(Argument {
+            name,
+            value,
+            location: location(file_id, tree),
+        }))
+    }
+}
+
+impl Convert for Directive {
+    ghost meaning = { spec.directive_of };
+
+    #[tactic(auto, unfolding(crate::specs::Directives::directive_of))]
+    fn convert(
+        alloc: Global,
+        tree: &Tree,
+        text: &str,
+        file_id: FileId,
+    ) -> Result<Option<Directive>, Memory> {
+        if !is_of(tree, SyntaxKind::Directive) {
+            return Ok(None);
+        }
+        let nodes = tree.children().as_slice();
+        let Some(name) = nth_name(alloc, nodes, text, file_id, 0)? else {
+            return Ok(None);
+        };
+        Ok(Some(Directive {
+            name,
+            arguments: arguments(alloc, nodes, text, file_id)?,
+            location: location(file_id, tree),
+        }))
+    }
+}
+
+/// The arguments among the parts of a field or a directive.
+#[tactic(auto, unfolding(crate::specs::Directives::arguments))]
+pub fn arguments(
+    alloc: Global,
+    nodes: &[Tree],
+    text: &str,
+    file_id: FileId,
+) -> Result<Listed<Argument>, Memory>
+    ensures { IfOk result (λ made. made ≡ spec.arguments text.now file_id (forest nodes.now)) }
+{
+    let list = gather(alloc, inside(nodes, SyntaxKind::Arguments), text, file_id)?;
+    Ok(list)
+}
+
+/// The directives among the parts of something.
+#[tactic(auto, unfolding(crate::specs::Directives::directives))]
+pub fn directives(
+    alloc: Global,
+    nodes: &[Tree],
+    text: &str,
+    file_id: FileId,
+) -> Result<Listed<Directive>, Memory>
+    ensures { IfOk result (λ made. made ≡ spec.directives text.now file_id (forest nodes.now)) }
+{
+    let list = gather(alloc, inside(nodes, SyntaxKind::Directives), text, file_id)?;
+    Ok(list)
+}

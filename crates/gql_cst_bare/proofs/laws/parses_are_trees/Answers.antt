@@ -1,8 +1,0 @@
-use Rattle.gql_cst_bare.proofs.Parsing.{parse_tree}
-use Rattle.gql_cst_bare.proofs.laws.parses_are_trees.Goals as goal
-
-pub returns : goal.returns
-returns c = record {
-  children = λ start text limits parsed p none. parse_tree start text limits parsed p none;
-  kind = λ start text limits parsed p. p.2.tree_kind;
-}

@@ -1,0 +1,165 @@
+//! What a diagnostic is about, and what is said of it.
+
+ghost use Rattle.std.specs.Prelude.{◌≡◌, ◌++◌, IfOk};
+ghost use Rattle.std.specs.Option.{option_copied};
+ghost use Rattle.gql_diag_messages.specs.Details.{fault_message, fault_compat, fault_label, label_pattern, fault_of, label_of, other_of, message_of, compat_of, error_name};
+
+use crate::filled::filled;
+use crate::rule::Rule;
+use gql_source::SourceSpan;
+use jb_text::{Listed, Text};
+use std::alloc::{AllocError, Global};
+
+/// A broken rule, with the names that its messages tell and, where there is an earlier definition or another field,
+/// that one's place.
+///
+/// There are as many names as the two messages of the rule ask for. A name that is lacking, as that of an unnamed
+/// operation, is the empty text.
+#[derive(Debug, Drop)]
+pub struct RuleFault {
+    pub rule: Rule,
+    pub names: Listed<Text>,
+    pub other: Option<SourceSpan>,
+}
+
+impl RuleFault {
+    /// The message of the rule with the names in their places. `Err` only for want of memory.
+    pub fn message(&self, alloc: Global) -> Result<Text, AllocError>
+        ensures { IfOk result (λ message. message ≡ fault_message self.now) }
+    {
+        filled(alloc, self.rule.message_pattern(), self.names.as_slice())
+    }
+
+    /// The same in the words of the reference implementation, where it has any. `Err` only for want of memory.
+    pub fn compat_message(&self, alloc: Global) -> Result<Option<Text>, AllocError>
+        ensures { IfOk result (λ message. message ≡ fault_compat self.now) }
+    {
+        let names = self.names.as_slice();
+        match self.rule.compat_pattern(names) {
+            Some(pattern) => Ok(Some(filled(alloc, pattern, names)?)),
+            None => Ok(None),
+        }
+    }
+
+    /// What a report says at the place. `Err` only for want of memory.
+    pub fn label(&self, alloc: Global) -> Result<Text, AllocError>
+        ensures { IfOk result (λ label. label ≡ fault_label self.now) }
+    {
+        filled(alloc, label_pattern(self.rule), self.names.as_slice())
+    }
+}
+
+/// What a report says at the place of a broken rule, with places for names.
+fn label_pattern(rule: Rule) -> &'static str
+    ensures { result.now ≡ label_pattern rule }
+{
+    match rule {
+        Rule::UndefinedRootOperation => {
+            "`{0}` is not defined in the schema and is therefore not supported"
+        }
+        _ => "here",
+    }
+}
+
+/// What a diagnostic is about.
+#[derive(Debug, Drop)]
+pub enum Details {
+    /// A limit of the parser was passed.
+    ParserLimit { message: Text },
+    /// A text is no sentence of the grammar.
+    SyntaxError { message: Text },
+    /// A schema can't be built of its definitions.
+    SchemaBuildError(RuleFault),
+    /// A document can't be built of its definitions.
+    ExecutableBuildError(RuleFault),
+    /// A rule of schemas or documents is broken.
+    CompilerDiagnostic(RuleFault),
+    /// A chain of names is too long.
+    RecursionLimitError,
+}
+
+impl Details {
+    /// What is said to people. `Err` only for want of memory.
+    pub fn message(&self, alloc: Global) -> Result<Text, AllocError>
+        ensures { IfOk result (λ message. message ≡ message_of self.now) }
+    {
+        match self {
+            Details::ParserLimit { message } => message.copy(alloc),
+            Details::SyntaxError { message } => prefixed(alloc, "syntax error: ", message.as_str()),
+            Details::SchemaBuildError(fault)
+            | Details::ExecutableBuildError(fault)
+            | Details::CompilerDiagnostic(fault) => fault.message(alloc),
+            Details::RecursionLimitError => Text::from_str(alloc, "too much recursion"),
+        }
+    }
+
+    /// The same in the words of the reference implementation, where it has any. `Err` only for want of memory.
+    pub fn compat_message(&self, alloc: Global) -> Result<Option<Text>, AllocError>
+        ensures { IfOk result (λ message. message ≡ compat_of self.now) }
+    {
+        match self {
+            Details::ExecutableBuildError(fault) | Details::CompilerDiagnostic(fault) => {
+                fault.compat_message(alloc)
+            }
+            _ => Ok(None),
+        }
+    }
+
+    /// The broken rule, where there is one.
+    #[must_use]
+    pub fn fault(&self) -> Option<&RuleFault>
+        ensures { option_copied result ≡ fault_of self.now }
+    {
+        match self {
+            Details::SchemaBuildError(fault)
+            | Details::ExecutableBuildError(fault)
+            | Details::CompilerDiagnostic(fault) => Some(fault),
+            _ => None,
+        }
+    }
+
+    /// What a report says at the place. `Err` only for want of memory.
+    pub fn label(&self, alloc: Global) -> Result<Text, AllocError>
+        ensures { IfOk result (λ label. label ≡ label_of (fault_of self.now)) }
+    {
+        match self.fault() {
+            Some(fault) => fault.label(alloc),
+            None => Text::from_str(alloc, "here"),
+        }
+    }
+
+    /// The place of the other definition or field, where there is one.
+    #[must_use]
+    pub fn other(&self) -> Option<SourceSpan>
+        ensures { result ≡ other_of (fault_of self.now) }
+    {
+        match self.fault() {
+            Some(fault) => fault.other,
+            None => None,
+        }
+    }
+
+    /// The name of the broken rule, or `RecursionLimitError`. `None` for a text that is no sentence or passes a limit
+    /// of the parser, and for a schema that can't be built.
+    #[must_use]
+    pub fn error_name(&self) -> Option<&str>
+        ensures { option_copied result ≡ error_name self.now }
+    {
+        match self {
+            Details::ExecutableBuildError(fault) | Details::CompilerDiagnostic(fault) => {
+                Some(fault.rule.name())
+            }
+            Details::RecursionLimitError => Some("RecursionLimitError"),
+            _ => None,
+        }
+    }
+}
+
+/// A text behind another.
+fn prefixed(alloc: Global, prefix: &str, text: &str) -> Result<Text, AllocError>
+    ensures { IfOk result (λ both. both ≡ prefix.now ++ text.now) }
+{
+    let mut both = String::from_str(alloc, prefix)?;
+    both.push_str(text)?;
+    Ok(Text::from_string(both))
+}
