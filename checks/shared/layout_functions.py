@@ -1,0 +1,38 @@
+"""How long functions are, how many a crate has, and that their names say something alone."""
+import re
+
+from shared.sources import crates, files_of, functions_of, shown
+
+MOST_LINES = 40
+MOST_FUNCTIONS = 120
+SAYS_NOTHING = {"keep", "behind", "settle", "set", "note", "given", "form"}
+
+CONSTANT = re.compile(r"(?m)^[ \t]*(?:const|static) \w+:[^;]*?=(?:\[[^\]]*\]|[^;])*;[ \t]*\n?")
+LENGTH_OF_ARRAY = re.compile(r";\s*\w+\]")
+
+
+def faults():
+    for crate in crates():
+        count = 0
+        for file in files_of(crate, "src", ".rt"):
+            for function in functions_of(file.read_text()):
+                count += 1
+                where = f"{shown(file)}:{function.line}"
+                if function.name in SAYS_NOTHING:
+                    yield f"{where}: a function named just `{function.name}`, which says nothing alone"
+                lines = lines_of(function.body or "")
+                if lines > MOST_LINES and not is_table(function.body):
+                    yield f"{where}: the body of `{function.name}` has {lines} lines, at most {MOST_LINES}"
+        if count > MOST_FUNCTIONS:
+            yield f"{shown(crate)}: {count} functions, at most {MOST_FUNCTIONS}"
+
+
+def lines_of(body):
+    """The lines between a body's braces, constants left out."""
+    return CONSTANT.sub("", body).strip().count("\n") + 1
+
+
+def is_table(body):
+    """A body that only chooses a value: no loop, and no statement but one before the value."""
+    statements = LENGTH_OF_ARRAY.sub("]", CONSTANT.sub("", body))
+    return not re.search(r"\b(?:for|while|loop)\b", statements) and statements.count(";") <= 1
