@@ -33,6 +33,8 @@ def lines_of(body):
 
 
 def is_table(body):
-    """A body that only chooses a value: no loop, and no statement but one before the value."""
+    """A body that only chooses a value: no loop, and no statement but one before the value. Rows may stand in a macro's call."""
     statements = LENGTH_OF_ARRAY.sub("]", CONSTANT.sub("", body))
+    if re.fullmatch(r"\s*\w+! \{[^{].*\}\s*", statements, re.DOTALL):
+        return not re.search(r"\b(?:for|while|loop|let)\b", statements)
     return not re.search(r"\b(?:for|while|loop)\b", statements) and statements.count(";") <= 1
