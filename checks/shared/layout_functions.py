@@ -5,6 +5,7 @@ from shared.sources import crates, files_of, functions_of, shown
 
 MOST_LINES = 40
 MOST_FUNCTIONS = 120
+LINES_AN_ARM = 4
 SAYS_NOTHING = {"keep", "behind", "settle", "set", "note", "given", "form"}
 
 CONSTANT = re.compile(r"(?m)^[ \t]*(?:const|static) \w+:[^;]*?=(?:\[[^\]]*\]|[^;])*;[ \t]*\n?")
@@ -33,8 +34,12 @@ def lines_of(body):
 
 
 def is_table(body):
-    """A body that only chooses a value: no loop, and no statement but one before the value. Rows may stand in a macro's call."""
-    statements = LENGTH_OF_ARRAY.sub("]", CONSTANT.sub("", body))
-    if re.fullmatch(r"\s*\w+! \{[^{].*\}\s*", statements, re.DOTALL):
-        return not re.search(r"\b(?:for|while|loop|let)\b", statements)
-    return not re.search(r"\b(?:for|while|loop)\b", statements) and statements.count(";") <= 1
+    """A body that only chooses: a value, with no loop and at most one statement before it; the rows of one macro's call; or one
+    `match` of short arms that choose nothing themselves."""
+    code = LENGTH_OF_ARRAY.sub("]", CONSTANT.sub("", body)).strip()
+    if re.fullmatch(r"\w+! \{[^{].*\}", code, re.DOTALL):
+        return not re.search(r"\b(?:for|while|loop|let)\b", code)
+    if re.search(r"\b(?:for|while|loop)\b", code):
+        return False
+    is_dispatch = code.startswith("match ") and not re.search(r"\b(?:if|match)\b", code[5:])
+    return code.count(";") <= 1 or (is_dispatch and lines_of(code) <= LINES_AN_ARM * code.count("=>"))
