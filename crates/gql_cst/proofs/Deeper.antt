@@ -20,7 +20,7 @@ use Rattle.gql_cst.specs.Machine.{State, node_of, ended}
 use Rattle.gql_cst.specs.Nesting.{within_node, nesting as depth_of}
 use Rattle.gql_cst.specs.Sentences.{row_then, shown, shown_of, root_kind, Stood}
 use Rattle.gql_cst.specs.Sound.{makes_node, IsSound}
-use Rattle.gql_cst.proofs.Verdicts.{shown_of-append, shown_of-node}
+use Rattle.gql_cst.proofs.Shown.{shown_of-append, shown_of-node}
 use Rattle.gql_cst.proofs.Ways.{both}
 
 -- the row, once the nodes that are open have ended
@@ -115,7 +115,7 @@ ended-deep text k (Optional r ∷ stack) trees rows h e = ended-deep text k stac
 ended-deep text k (Eager r ∷ stack) trees rows h e = ended-deep text k stack trees rows h e
 ended-deep text k (Repeated r ∷ stack) trees rows h e = ended-deep text k stack trees rows h e
 
-length-map : (text : List ℕ) (rows : List (List Plain)) → length (map (shown_of text) rows ++ (row.nothing ∷ [])) ≡ length rows + 1
+pub length-map : (text : List ℕ) (rows : List (List Plain)) → length (map (shown_of text) rows ++ (row.nothing ∷ [])) ≡ length rows + 1
 length-map text [] = omega arith
 length-map text (r ∷ rows) = omega (arith, length-map text rows)
 

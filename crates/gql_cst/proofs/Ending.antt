@@ -25,9 +25,9 @@ use Rattle.gql_cst.specs.Progress.{IsRead, IsUnderway, HasStopped, SameText, wor
 use Rattle.std.proofs.lemmas.List.{map-append}
 use Rattle.gql_cst.proofs.Rows.{nesting_of-append}
 use Rattle.gql_cst.proofs.Sounds.{Keeps, state_of, along, judges_keep, grown_keeps}
-use Rattle.gql_cst.proofs.Held.{held, tiles-then, held-keeps, held-ignored, held-grown, depth-held}
+use Rattle.gql_cst.proofs.Held.{held, tiles-then, held-keeps, held-ignored, held-grown}
 
-state_of-told : (t : Turn) (s : State) → state_of (told t s) ≡ s
+pub state_of-told : (t : Turn) (s : State) → state_of (told t s) ≡ s
 state_of-told turn.Again s = refl
 state_of-told turn.Taken s = refl
 state_of-told turn.Refused s = refl
@@ -37,21 +37,21 @@ pub keeps_told : (start : Rule) (next : Option Word) (begun : Bool) (t : Turn) (
 keeps_told start next begun t s new h j = along s new _ (sym (state_of-told t new)) (judges_keep start next begun s (told t new) h j)
 
 pub limit_stops : (p : Parser) (range : Range ℕ) → IsUnderway p range.start → IsLeaf p.text.now range.start (word_leaf range)
-    → p.limits.recursion < p.machine.deepest → HasStopped p range.start (Some (RecursionLimit range))
-limit_stops p range h l past = record {
+    → HasStopped p range.start (Some (RecursionLimit range))
+limit_stops p range h l = record {
   tiles = h.tiles;
   sound = h.sound;
   flat = h.flat;
-  stops = (omega (arith, past, depth-held (state p.machine) (map plain p.ignored.items) h.sound h.flat), inr (l, h.counted), h.within);
+  stops = (inr (l, h.counted), h.within);
 }
 
-pub limit_ends : (p : Parser) → IsRead p (length p.text.now) → p.limits.recursion < p.machine.deepest
+pub limit_ends : (p : Parser) → IsRead p (length p.text.now)
     → HasStopped p (length p.text.now) (Some (RecursionLimit (record { start = length p.text.now; end = length p.text.now })))
-limit_ends p h past = record {
+limit_ends p h = record {
   tiles = h.tiles;
   sound = h.sound;
   flat = h.flat;
-  stops = (omega (arith, past, depth-held (state p.machine) (map plain p.ignored.items) h.sound h.flat), inl ((refl, refl, refl), h.counted), h.within);
+  stops = (inl ((refl, refl, refl), h.counted), h.within);
 }
 
 -- a word was judged
@@ -69,13 +69,13 @@ judged_end p m b t place h j =
     let e = held-keeps (state p.machine) (state m) (map plain p.ignored.items) k in
     record { tiles = rw e h.tiles; counted = rw e h.counted; within = h.within; sound = k.sound; flat = h.flat }
 
-pub bad_stops : (p : Parser) (range : Range ℕ) → IsUnderway p range.start → IsLeaf p.text.now range.start (word_leaf range) → p.machine.deepest ≤ p.limits.recursion
+pub bad_stops : (p : Parser) (range : Range ℕ) → IsUnderway p range.start → IsLeaf p.text.now range.start (word_leaf range)
     → HasStopped p range.start (Some (Syntax BadToken range))
-bad_stops p range h l low = record {
+bad_stops p range h l = record {
   tiles = h.tiles;
   sound = h.sound;
   flat = h.flat;
-  stops = ((l, h.counted, omega (arith, low, depth-held (state p.machine) (map plain p.ignored.items) h.sound h.flat)), h.within);
+  stops = ((l, h.counted), h.within);
 }
 
 length-one : (ls : List Leaf) (l : Leaf) → length (ls ++ (l ∷ [])) ≡ length ls + 1
@@ -145,29 +145,28 @@ still_settles s _ (refuses_it e) = ap (λ t. (state_of t).deepest) (sym e) ∙ s
 still_settles s _ (finishes e) = ap (λ t. (state_of t).deepest) (sym e) ∙ still_at s.stack s
 still_settles s end (later {new = new} e more) = still_settles new end more ∙ ap (λ t. (state_of t).deepest) (sym e) ∙ still_at s.stack s
 
-still_judges : (start : Rule) (begun : Bool) (s : State) (end : Turned) → Judges start None begun s end → (state_of end).deepest ≡ s.deepest
+pub still_judges : (start : Rule) (begun : Bool) (s : State) (end : Turned) → Judges start None begun s end → (state_of end).deepest ≡ s.deepest
 still_judges start true s end j = still_settles s end j
 still_judges start false s end j = ap (λ t. (state_of t).deepest) j
 
 -- the end of the text was judged
-pub ends_at : (p : Parser) (m : Machine) (b : Bool) (t : Turn) → IsRead p (length p.text.now) → p.machine.deepest ≤ p.limits.recursion
+pub ends_at : (p : Parser) (m : Machine) (b : Bool) (t : Turn) → IsRead p (length p.text.now)
     → Judges p.start None p.begun (state p.machine) (told t (state m)) → HasStopped (record p { machine = m; begun = b }) (length p.text.now) None
-ends_at p m b t h low j =
+ends_at p m b t h j =
     let r = judged_end p m b t (length p.text.now) h j in
-    let d : m.deepest ≡ p.machine.deepest = ap (λ s. s.deepest) (sym (state_of-told t (state m))) ∙ still_judges p.start p.begun (state p.machine) (told t (state m)) j in
     record {
       tiles = r.tiles;
       sound = r.sound;
       flat = r.flat;
-      stops = (refl, r.counted, omega (arith, low, d, depth-held (state m) (map plain p.ignored.items) r.sound r.flat), r.within);
+      stops = (refl, r.counted, r.within);
     }
 
-pub cut_at : (p : Parser) (m : Machine) (b : Bool) (t : Turn) → IsRead p (length p.text.now) → p.machine.deepest ≤ p.limits.recursion
+pub cut_at : (p : Parser) (m : Machine) (b : Bool) (t : Turn) → IsRead p (length p.text.now)
     → Judges p.start None p.begun (state p.machine) (told t (state m))
     → HasStopped (record p { machine = m; begun = b }) (length p.text.now) (Some (Syntax EndOfText (record { start = length p.text.now; end = length p.text.now })))
-cut_at p m b t h low j =
-    let e = ends_at p m b t h low j in
-    record { tiles = e.tiles; sound = e.sound; flat = e.flat; stops = (((refl, refl, refl), e.stops.1, e.stops.2), e.stops.3) }
+cut_at p m b t h j =
+    let e = ends_at p m b t h j in
+    record { tiles = e.tiles; sound = e.sound; flat = e.flat; stops = (((refl, refl, refl), e.stops.1), e.stops.2) }
 
 -- what changed is the machine, and whether the rule of the whole text has begun
 abbrev pub Moved : Parser → Parser → Type 0
@@ -176,16 +175,16 @@ Moved p q = q ≡ record p { machine = q.machine; begun = q.begun }
 pub same_text : (p q : Parser) → Moved p q → SameText p q
 same_text p q e = record { text = ap (λ r. r.text) e; limits = ap (λ r. r.limits) e; start = ap (λ r. r.start) e }
 
-pub moved_end : (p q : Parser) (t : Turn) → Moved p q → IsRead p (length p.text.now) → p.machine.deepest ≤ p.limits.recursion
+pub moved_end : (p q : Parser) (t : Turn) → Moved p q → IsRead p (length p.text.now)
     → Judges p.start None p.begun (state p.machine) (told t (state q.machine)) → HasStopped q (length q.text.now) None
-moved_end p q t e h low j = subst (λ (r : Parser). HasStopped r (length r.text.now) None) (sym e) (ends_at p q.machine q.begun t h low j)
+moved_end p q t e h j = subst (λ (r : Parser). HasStopped r (length r.text.now) None) (sym e) (ends_at p q.machine q.begun t h j)
 
-pub moved_cut : (p q : Parser) (t : Turn) → Moved p q → IsRead p (length p.text.now) → p.machine.deepest ≤ p.limits.recursion
+pub moved_cut : (p q : Parser) (t : Turn) → Moved p q → IsRead p (length p.text.now)
     → Judges p.start None p.begun (state p.machine) (told t (state q.machine))
     → HasStopped q (length q.text.now) (Some (Syntax EndOfText (record { start = length p.text.now; end = length p.text.now })))
-moved_cut p q t e h low j =
+moved_cut p q t e h j =
     let error : Option CstError = Some (Syntax EndOfText (record { start = length p.text.now; end = length p.text.now })) in
-    subst (λ (r : Parser). HasStopped r (length r.text.now) error) (sym e) (cut_at p q.machine q.begun t h low j)
+    subst (λ (r : Parser). HasStopped r (length r.text.now) error) (sym e) (cut_at p q.machine q.begun t h j)
 
 pub moved_underway : (p q : Parser) (t : Turn) (next : Option Word) (place : ℕ) → Moved p q → IsUnderway p place
     → Judges p.start next p.begun (state p.machine) (told t (state q.machine)) → IsUnderway q place

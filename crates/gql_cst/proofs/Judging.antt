@@ -36,7 +36,8 @@ use Rattle.gql_cst.proofs.Ending.{Moved, keeps_told}
 use Rattle.gql_cst.proofs.Held.{held, held-keeps, held-ignored, held-grown}
 use Rattle.gql_cst.proofs.Begun.{Closed, judges_closed}
 use Rattle.gql_cst.proofs.Deeper.{deeper}
-use Rattle.gql_cst.proofs.Verdicts.{shown_of-append, Verdict, judges_verdict}
+use Rattle.gql_cst.proofs.Shown.{shown_of-append}
+use Rattle.gql_cst.proofs.Verdicts.{Verdict, judges_verdict}
 
 -- ---- words
 
@@ -139,14 +140,11 @@ closed_at turn.Refused s d end not c = c
 closed_at turn.Finished s d end not c = c
 
 -- it opened no level
-pub bad_low : (p q : Parser) (t : Turn) (w : Word) → Moved p q → p.machine.deepest ≤ p.limits.recursion → (t ≡ turn.Taken → ⊥)
-    → Judges p.start (Some w) p.begun (state p.machine) (told t (state q.machine)) → q.machine.deepest ≤ q.limits.recursion
-bad_low p q t w e low not j =
+pub same_deepest : (p q : Parser) (t : Turn) (w : Word) → (t ≡ turn.Taken → ⊥)
+    → Judges p.start (Some w) p.begun (state p.machine) (told t (state q.machine)) → q.machine.deepest ≡ p.machine.deepest
+same_deepest p q t w not j =
     let end = told t (state q.machine) in
-    let same : q.machine.deepest ≡ p.machine.deepest =
-    closed_at t (state q.machine) p.machine.deepest (judges_end p.start (Some w) p.begun (state p.machine) end j) not (judges_closed p.start w p.begun (state p.machine) end j) in
-    let limit : q.limits.recursion ≡ p.limits.recursion = ap (λ r. r.limits.recursion) e in
-    omega arith
+    closed_at t (state q.machine) p.machine.deepest (judges_end p.start (Some w) p.begun (state p.machine) end j) not (judges_closed p.start w p.begun (state p.machine) end j)
 
 -- ---- a taken word
 
@@ -169,7 +167,7 @@ took_at p s m tree w range sound h is j leaf g before b =
     let v3 = subst (λ (ws : List Word). BetweenIn p.start (root_kind p.start) ws s.stack (shown_of text (s.row ++ (ignored ++ (plain tree ∷ [])))) (map (shown_of text) s.rows)) (sym b) v2 in
     subst (λ (x : State). Stood p.start text true x before) (sym g) v3
 
-words-grown : (p q : Parser) (m : Machine) (tree : Tree) (w : Word) (range : Range ℕ) (s : State) → IsSound (state p.machine) → w ≡ word_in p.text.now range
+pub words-grown : (p q : Parser) (m : Machine) (tree : Tree) (w : Word) (range : Range ℕ) (s : State) → IsSound (state p.machine) → w ≡ word_in p.text.now range
     → Judges p.start (Some w) p.begun (state p.machine) (taken s) → plain tree ≡ record { kind = kind.Token; start = range.start; end = range.end; children = nothing }
     → (mm : Machine) → state mm ≡ s → state q.machine ≡ grown (map plain p.ignored.items ++ (plain tree ∷ [])) s → q.ignored.items ≡ []
     → words p.text.now (held (state q.machine) (map plain q.ignored.items)) ≡ words_of p ++ (w ∷ [])
@@ -208,6 +206,16 @@ took_stands p q r t tree w range e is_taken begun sound h is j leaf g none =
 
 -- ---- an ignored token
 
+pub words-ignored : (p q : Parser) (tree : Tree) (range : Range ℕ)
+    → plain tree ≡ record { kind = kind.Ignored; start = range.start; end = range.end; children = nothing } → q.ignored.items ≡ p.ignored.items ++ (tree ∷ [])
+    → words p.text.now (held (state p.machine) (map plain q.ignored.items)) ≡ words_of p
+words-ignored p q tree range leaf more =
+    let text = p.text.now in
+    let old = map plain p.ignored.items in
+    let m : map plain q.ignored.items ≡ old ++ (plain tree ∷ []) = ap (λ i. map plain i) more ∙ map-append plain p.ignored.items (tree ∷ []) in
+    ap (λ i. words text (held (state p.machine) i)) m ∙ ap (λ ls. words text ls) (held-ignored (state p.machine) old (plain tree))
+    ∙ words-append text (held (state p.machine) old) (leaves_of (plain tree ∷ [])) ∙ ap (λ t. words_of p ++ words text (leaves_of (t ∷ []))) leaf ∙ nil (words_of p)
+
 pub ignored_stands : (p q : Parser) (tree : Tree) (range : Range ℕ) (n : ℕ) → IsStood p
     → plain tree ≡ record { kind = kind.Ignored; start = range.start; end = range.end; children = nothing } → q.ignored.items ≡ p.ignored.items ++ (tree ∷ [])
     → IsStood (record p { ignored = q.ignored; tokens = n })
@@ -216,9 +224,7 @@ ignored_stands p q tree range n h leaf more =
     let old = map plain p.ignored.items in
     let m : map plain q.ignored.items ≡ old ++ (plain tree ∷ []) = ap (λ i. map plain i) more ∙ map-append plain p.ignored.items (tree ∷ []) in
     let hidden = ap (shown_of text) m ∙ shown_of-append text old (plain tree ∷ []) ∙ ap (λ x. joined x (shown_of text (plain tree ∷ []))) h.hidden ∙ ap (λ t. shown_of text (t ∷ [])) leaf in
-    let f : words_of p ≡ words text (held (state p.machine) (map plain q.ignored.items)) =
-    sym (ap (λ i. words text (held (state p.machine) i)) m ∙ ap (λ ls. words text ls) (held-ignored (state p.machine) old (plain tree))
-    ∙ words-append text (held (state p.machine) old) (leaves_of (plain tree ∷ [])) ∙ ap (λ t. words_of p ++ words text (leaves_of (t ∷ []))) leaf ∙ nil (words_of p)) in
+    let f : words_of p ≡ words text (held (state p.machine) (map plain q.ignored.items)) = sym (words-ignored p q tree range leaf more) in
     record {
       starts = h.starts;
       hidden = hidden;

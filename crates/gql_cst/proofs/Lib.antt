@@ -1,5 +1,7 @@
 pub mod Ways
 pub mod Rows
+pub mod Shown
+pub mod Levels
 pub mod Sounds
 pub mod Held
 pub mod Ending
@@ -8,4 +10,7 @@ pub mod Verdicts
 pub mod Judging
 pub mod Begun
 pub mod Deeper
+pub mod Fronts
+pub mod Rises
+pub mod Nested
 pub mod Whole

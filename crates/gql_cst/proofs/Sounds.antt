@@ -17,12 +17,14 @@ use Rattle.gql_cst.specs.Leaves.{part_of, leaves_of}
 use Rattle.gql_cst.specs.Nesting.{nesting_of}
 use Rattle.gql_cst.specs.Machine.{State, Turned, again, taken, refused, finished, node_of, opened, pushed, entered, wrapped, closed_in, enter, takes_at, turned_at, turned, Settles, takes_it, refuses_it, finishes, later, Begins, Judges, ended, all_ended, grown}
 use Rattle.gql_cst.specs.Sound.{is_node, depth, IsSound}
+use Rattle.gql_cst.proofs.Levels.{around, around-alike, around-opened, around-wrapped}
 use Rattle.gql_cst.proofs.Ways.{is_loose, both, makes, kind_node, way_loose}
 use Rattle.gql_cst.proofs.Rows.{leaves_of-append, nesting_of-append, leaves_of-node, nesting_of-node, ended-loose, leaves_of-ended, nesting_of-ended, depth-loose, makes_node-loose, join, append_nil}
 
 pub record Keeps (s new : State) : Type 0 where
   pub sound : IsSound new
   pub leaves : leaves_of (all_ended new) ≡ leaves_of (all_ended s)
+  pub levels : (text : List ℕ) → around text (all_ended new) ≡ around text (all_ended s)
 
 abbrev pub state_of : Turned → State
 state_of (again s) = s
@@ -31,10 +33,10 @@ state_of (refused s) = s
 state_of (finished s) = s
 
 then_keeps : (a b c : State) → Keeps a b → Keeps b c → Keeps a c
-then_keeps a b c p q = record { sound = q.sound; leaves = q.leaves ∙ p.leaves }
+then_keeps a b c p q = record { sound = q.sound; leaves = q.leaves ∙ p.leaves; levels = λ text. q.levels text ∙ p.levels text }
 
 stays : (s : State) → IsSound s → Keeps s s
-stays s h = record { sound = h; leaves = refl }
+stays s h = record { sound = h; leaves = refl; levels = λ text. refl }
 
 pub pushed_keeps : (way : List Symbol) (s : State) → list_all is_loose way ≡ true → IsSound s → Keeps s (pushed way s)
 pushed_keeps way s loose h =
@@ -46,6 +48,7 @@ pushed_keeps way s loose h =
         deepest = h.deepest ∙ ap nesting_of (sym e);
       };
       leaves = ap leaves_of e;
+      levels = λ text. ap (around text) e;
     }
 
 opened_keeps : (kind : SyntaxKind) (s : State) → is_node (part_of kind) ≡ true → IsSound s → Keeps s (opened kind s)
@@ -59,6 +62,7 @@ opened_keeps kind s node h =
         deepest = omega (arith, h.level, h.deepest, nesting_of-ended s.stack row s.rows h.nodes, nesting_of-ended s.stack s.row s.rows h.nodes, nesting_of-append s.row (node_of kind [] ∷ []), nesting_of-node kind [] node);
       };
       leaves = leaves_of-ended s.stack row s.rows h.nodes ∙ ap (λ z. leaves_of (ended s.stack [] s.rows) ++ z) e ∙ sym (leaves_of-ended s.stack s.row s.rows h.nodes);
+      levels = λ text. around-alike text s.stack row s.row s.rows h.nodes (around-opened text kind s.row node);
     }
 
 entered_keeps : (kind : Option SyntaxKind) (way : List Symbol) (s : State) → makes kind ≡ true → list_all is_loose way ≡ true → IsSound s → Keeps s (entered kind way s)
@@ -80,11 +84,12 @@ way_at_loose r None = tt
 way_at_loose r (Some w) = of_way (way r w) (way_loose r w)
 
 enter_keeps : (w : Option (List Symbol)) (kind : Option SyntaxKind) (s from : State) (otherwise : Turned) → AllLoose w → makes kind ≡ true
-    → IsSound s → leaves_of (all_ended s) ≡ leaves_of (all_ended from) → Keeps from (state_of otherwise) → Keeps from (state_of (enter w kind s otherwise))
-enter_keeps None kind s from otherwise loose node h e p = p
-enter_keeps (Some way) kind s from otherwise loose node h e p =
+    → IsSound s → leaves_of (all_ended s) ≡ leaves_of (all_ended from)
+    → ((text : List ℕ) → around text (all_ended s) ≡ around text (all_ended from)) → Keeps from (state_of otherwise) → Keeps from (state_of (enter w kind s otherwise))
+enter_keeps None kind s from otherwise loose node h e f p = p
+enter_keeps (Some way) kind s from otherwise loose node h e f p =
     let q = entered_keeps kind way s node loose h in
-    record { sound = q.sound; leaves = q.leaves ∙ e }
+    record { sound = q.sound; leaves = q.leaves ∙ e; levels = λ text. q.levels text ∙ f text }
 
 abbrev pub made : List Symbol → List Plain → List (List Plain) → ℕ → ℕ → State
 made stack row rows level deepest = record { stack = stack; row = row; rows = rows; level = level; deepest = deepest }
@@ -101,6 +106,7 @@ popped : (symbol : Symbol) (stack : List Symbol) (row : List Plain) (rows : List
 popped symbol stack row rows l d e f h = record {
   sound = record { nodes = (both _ _ h.nodes).1; level = h.level ∙ e; deepest = h.deepest ∙ ap nesting_of f };
   leaves = ap leaves_of (sym f);
+  levels = λ text. ap (around text) (sym f);
 }
 
 wrapped_keeps : (kind : SyntaxKind) (s : State) → is_node (part_of kind) ≡ true → level kind ≡ 0 → IsSound s → Keeps s (wrapped kind s)
@@ -112,6 +118,7 @@ wrapped_keeps kind s node flat h = record {
   };
   leaves = leaves_of-ended s.stack (node_of kind s.row ∷ []) s.rows h.nodes ∙ ap (λ z. leaves_of (ended s.stack [] s.rows) ++ z) (leaves_of-node kind s.row node)
       ∙ sym (leaves_of-ended s.stack s.row s.rows h.nodes);
+  levels = λ text. around-alike text s.stack (node_of kind s.row ∷ []) s.row s.rows h.nodes (around-wrapped text kind s.row node flat);
 }
 
 closed_keeps : (kind : SyntaxKind) (stack : List Symbol) (row : List Plain) (rows : List (List Plain)) (l d : ℕ) → IsSound (made (Close kind ∷ stack) row rows l d)
@@ -119,10 +126,12 @@ closed_keeps : (kind : SyntaxKind) (stack : List Symbol) (row : List Plain) (row
 closed_keeps kind stack row [] l d h = record {
   sound = record { nodes = (both _ _ h.nodes).1; level = omega (arith, h.level); deepest = h.deepest };
   leaves = refl;
+  levels = λ text. refl;
 }
 closed_keeps kind stack row (outer ∷ rows) l d h = record {
   sound = record { nodes = (both _ _ h.nodes).1; level = omega (arith, h.level); deepest = h.deepest };
   leaves = refl;
+  levels = λ text. refl;
 }
 
 at_keeps : (next : Option Word) (stack : List Symbol) (row : List Plain) (rows : List (List Plain)) (l d : ℕ) → IsSound (made stack row rows l d)
@@ -132,16 +141,16 @@ at_keeps next (Token t ∷ stack) row rows l d h =
     along _ _ _ (at_token (takes_at t next) (made stack row rows l d)) (popped (Token t) stack row rows l d refl refl h)
 at_keeps next (One r ∷ stack) row rows l d h =
     let p = popped (One r) stack row rows l d refl refl h in
-    enter_keeps (way_at r next) (kind_of r) (made stack row rows l d) (made (One r ∷ stack) row rows l d) (refused (made stack row rows l d)) (way_at_loose r next) (kind_node r) p.sound p.leaves p
+    enter_keeps (way_at r next) (kind_of r) (made stack row rows l d) (made (One r ∷ stack) row rows l d) (refused (made stack row rows l d)) (way_at_loose r next) (kind_node r) p.sound p.leaves p.levels p
 at_keeps next (Optional r ∷ stack) row rows l d h =
     let p = popped (Optional r) stack row rows l d refl refl h in
-    enter_keeps (way_at r next) (kind_of r) (made stack row rows l d) (made (Optional r ∷ stack) row rows l d) (again (made stack row rows l d)) (way_at_loose r next) (kind_node r) p.sound p.leaves p
+    enter_keeps (way_at r next) (kind_of r) (made stack row rows l d) (made (Optional r ∷ stack) row rows l d) (again (made stack row rows l d)) (way_at_loose r next) (kind_node r) p.sound p.leaves p.levels p
 at_keeps next (Eager r ∷ stack) row rows l d h =
     let p = popped (Eager r) stack row rows l d refl refl h in
-    enter_keeps (way_at r next) (kind_of r) (made stack row rows l d) (made (Eager r ∷ stack) row rows l d) (again (made stack row rows l d)) (way_at_loose r next) (kind_node r) p.sound p.leaves p
+    enter_keeps (way_at r next) (kind_of r) (made stack row rows l d) (made (Eager r ∷ stack) row rows l d) (again (made stack row rows l d)) (way_at_loose r next) (kind_node r) p.sound p.leaves p.levels p
 at_keeps next (Repeated r ∷ stack) row rows l d h =
     let p = popped (Repeated r) stack row rows l d refl refl h in
-    enter_keeps (way_at r next) (kind_of r) (made (Repeated r ∷ stack) row rows l d) (made (Repeated r ∷ stack) row rows l d) (again (made stack row rows l d)) (way_at_loose r next) (kind_node r) h refl p
+    enter_keeps (way_at r next) (kind_of r) (made (Repeated r ∷ stack) row rows l d) (made (Repeated r ∷ stack) row rows l d) (again (made stack row rows l d)) (way_at_loose r next) (kind_node r) h refl (λ text. refl) p
 at_keeps next (Wrap kind ∷ stack) row rows l d h =
     let p = popped (Wrap kind) stack row rows l d refl refl h in
     let k = both _ _ (both _ _ h.nodes).0 in

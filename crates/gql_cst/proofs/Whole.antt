@@ -17,7 +17,6 @@ use Rattle.gql_cst.specs.declared.limits.Parsed.{Parsed}
 use Rattle.gql_cst.specs.Forest.{Forest}
 use Rattle.gql_cst.specs.Judged.{Judged, Spoken, word_in}
 use Rattle.gql_cst.specs.Leaves.{Part, Leaf, leaves, part_of_token, IsLeaf, Tiles}
-use Rattle.gql_cst.specs.Nesting.{nesting as depth_of}
 use Rattle.gql_cst.specs.Outcome.{IsWithin, Passes, Reached, FaultAt, Stops}
 use Rattle.gql_cst.specs.Parses.{Parses, Accepts}
 use Rattle.gql_cst.specs.Sentences.{words, shown, root_kind}
@@ -84,25 +83,25 @@ too_many (Some limit) n m h p w = omega (arith, h, p, w)
 
 refuted : (start : Rule) (text : List ℕ) (limits : Limits) (place read : ℕ) (before rest : List Leaf) (tree shown : Row) (error : CstError)
     → Tiles text place rest (length text) → Sentence start (words text (before ++ rest)) tree → row.nesting tree ≤ limits.recursion → IsWithin limits.tokens (length (before ++ rest))
-    → (depth : ℕ) → Stops limits (record { text = text; tokens = length before; depth = depth; place = place; read = read }) (Some error)
+    → Stops limits (record { text = text; tokens = length before; place = place; read = read }) (Some error)
     → Judged (record { start = start; text = text; words = words text before; row = shown; recursion = limits.recursion }) (Some error) → ⊥
-refuted start text limits place read before rest tree shown (Syntax EndOfText range) t s low within depth stops judged =
+refuted start text limits place read before rest tree shown (Syntax EndOfText range) t s low within stops judged =
     let none = no_more text place rest stops.0.0.0 t in
     judged tree (subst (λ (ls : List Leaf). Sentence start (words text ls) tree) (ap (λ r. before ++ r) none ∙ nil before) s)
-refuted start text limits place read before rest tree shown (Syntax BadToken range) t s low within depth stops judged =
+refuted start text limits place read before rest tree shown (Syntax BadToken range) t s low within stops judged =
     let p = some_leaf text place _ rest t stops.0.0 in
     let w = word_in text range in
     let e : words text (before ++ rest) ≡ (words text before ++ (w ∷ [])) ++ words text p.0 =
     words-append text before rest ∙ ap (λ r. words text before ++ words text r) p.1 ∙ sym (append_assoc (words text before) (w ∷ []) (words text p.0)) in
     judged (words text p.0, tree, subst (λ (ws : List Word). Sentence start ws tree) e s)
-refuted start text limits place read before rest tree shown (Syntax BadCharacter range) t s low within depth stops judged = no_fault text BadCharacter _ range rest refl t stops.0
-refuted start text limits place read before rest tree shown (Syntax OpenString range) t s low within depth stops judged = no_fault text OpenString _ range rest refl t stops.0
-refuted start text limits place read before rest tree shown (Syntax BadEscape range) t s low within depth stops judged = no_fault text BadEscape _ range rest refl t stops.0
-refuted start text limits place read before rest tree shown (Syntax BadNumber range) t s low within depth stops judged = no_fault text BadNumber _ range rest refl t stops.0
-refuted start text limits place read before rest tree shown (RecursionLimit range) t s low within depth stops judged =
+refuted start text limits place read before rest tree shown (Syntax BadCharacter range) t s low within stops judged = no_fault text BadCharacter _ range rest refl t stops.0
+refuted start text limits place read before rest tree shown (Syntax OpenString range) t s low within stops judged = no_fault text OpenString _ range rest refl t stops.0
+refuted start text limits place read before rest tree shown (Syntax BadEscape range) t s low within stops judged = no_fault text BadEscape _ range rest refl t stops.0
+refuted start text limits place read before rest tree shown (Syntax BadNumber range) t s low within stops judged = no_fault text BadNumber _ range rest refl t stops.0
+refuted start text limits place read before rest tree shown (RecursionLimit range) t s low within stops judged =
     let past = judged (words text rest) tree (subst (λ (ws : List Word). Sentence start ws tree) (words-append text before rest) s) in
     omega (arith, past, low)
-refuted start text limits place read before rest tree shown (TokenLimit range) t s low within depth stops judged =
+refuted start text limits place read before rest tree shown (TokenLimit range) t s low within stops judged =
     let p = some_leaf text place _ rest t stops.0.1 in
     let longer : length before + 1 ≤ length (before ++ rest) = omega (arith, length-append before rest, ap length p.1) in
     let count : read ≡ length before + 1 = stops.1 in
@@ -117,10 +116,10 @@ accepts start text limits parsed place children h tokens tree tiles sentence low
     let p = along text 0 tokens (leaves children) place tiles h.tiles in
     let all = p.1.all_same in
     let shown_row : Row = row.node (root_kind start) (shown text children) row.nothing in
-    let r : Reached = record { text = text; tokens = length (leaves children); depth = depth_of children; place = place; read = parsed.tokens_reached } in
+    let r : Reached = record { text = text; tokens = length (leaves children); place = place; read = parsed.tokens_reached } in
     let s : Spoken = record { start = start; text = text; words = words text (leaves children); row = shown_row; recursion = limits.recursion } in
     none_of parsed.error (λ e is.
     refuted start text limits place parsed.tokens_reached (leaves children) p.0 tree shown_row e p.1.tiles
     (subst (λ (ls : List Leaf). Sentence start (words text ls) tree) all sentence) low
-    (subst (λ (ls : List Leaf). IsWithin limits.tokens (length ls)) all within) (depth_of children)
+    (subst (λ (ls : List Leaf). IsWithin limits.tokens (length ls)) all within)
     (subst (λ (x : Option CstError). Stops limits r x) is h.stops) (subst (λ (x : Option CstError). Judged s x) is h.judged))

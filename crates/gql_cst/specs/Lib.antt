@@ -11,9 +11,11 @@ pub mod Machine
 pub mod Words
 pub mod Leaves
 pub mod Nesting
+pub mod Levels
 pub mod Sound
 pub mod Outcome
 pub mod Progress
 pub mod Parses
 pub mod Sentences
 pub mod Judged
+pub mod Nested

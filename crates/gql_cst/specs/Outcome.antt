@@ -18,12 +18,11 @@ abbrev pub Passes : Option ℕ → ℕ → Type 0
 Passes None count = ⊥
 Passes (Some limit) count = limit < count
 
--- Where a reading stands in a text: how many tokens its tree has, how deep the greatest nesting is, at which place it
--- stands, and how many tokens were read, one that is refused included.
+-- Where a reading stands in a text: how many tokens its tree has, at which place it stands, and how many tokens were
+-- read, one that is refused included.
 pub record Reached : Type 0 where
   pub text : List ℕ
   pub tokens : ℕ
-  pub depth : ℕ
   pub place : ℕ
   pub read : ℕ
 
@@ -48,24 +47,23 @@ pub record FaultAt (fault : SyntaxFault) (r : Reached) (range : Range ℕ) : Typ
   pub read : r.read ≡ r.tokens
 
 -- what the fault is, and where
-abbrev pub Faults : SyntaxFault → Limits → Reached → Range ℕ → Type 0
-Faults EndOfText limits r range = EndAt r range × (r.read ≡ r.tokens) × (r.depth ≤ limits.recursion)
-Faults BadToken limits r range = WordAt r range × (r.read ≡ r.tokens + 1) × (r.depth ≤ limits.recursion)
-Faults BadCharacter limits r range = FaultAt BadCharacter r range
-Faults OpenString limits r range = FaultAt OpenString r range
-Faults BadEscape limits r range = FaultAt BadEscape r range
-Faults BadNumber limits r range = FaultAt BadNumber r range
+abbrev pub Faults : SyntaxFault → Reached → Range ℕ → Type 0
+Faults EndOfText r range = EndAt r range × (r.read ≡ r.tokens)
+Faults BadToken r range = WordAt r range × (r.read ≡ r.tokens + 1)
+Faults BadCharacter r range = FaultAt BadCharacter r range
+Faults OpenString r range = FaultAt OpenString r range
+Faults BadEscape r range = FaultAt BadEscape r range
+Faults BadNumber r range = FaultAt BadNumber r range
 
 -- The reading ends there by the error. The limit on levels is told at the next token that is not ignored, or at the
 -- end, and the limit on tokens at the first token that passes it.
 abbrev pub StopsBy : Limits → Reached → CstError → Type 0
-StopsBy limits r (Syntax fault range) = Faults fault limits r range × IsWithin limits.tokens r.read
+StopsBy limits r (Syntax fault range) = Faults fault r range × IsWithin limits.tokens r.read
 StopsBy limits r (RecursionLimit range) =
-    (limits.recursion < r.depth) × ((EndAt r range × (r.read ≡ r.tokens)) ⊎ (WordAt r range × (r.read ≡ r.tokens + 1)))
-    × IsWithin limits.tokens r.read
+    ((EndAt r range × (r.read ≡ r.tokens)) ⊎ (WordAt r range × (r.read ≡ r.tokens + 1))) × IsWithin limits.tokens r.read
 StopsBy limits r (TokenLimit range) = TokenAt r range × (r.read ≡ r.tokens + 1) × IsWithin limits.tokens r.tokens × Passes limits.tokens r.read
 
 -- the reading ends there, with an error or with the text
 abbrev pub Stops : Limits → Reached → Option CstError → Type 0
-Stops limits r None = (r.place ≡ length r.text) × (r.read ≡ r.tokens) × (r.depth ≤ limits.recursion) × IsWithin limits.tokens r.read
+Stops limits r None = (r.place ≡ length r.text) × (r.read ≡ r.tokens) × IsWithin limits.tokens r.read
 Stops limits r (Some error) = StopsBy limits r error

@@ -9,10 +9,11 @@ use Rattle.gql_cst.specs.declared.limits.Limits.{Limits}
 use Rattle.gql_cst.specs.declared.limits.Parsed.{Parsed}
 use Rattle.gql_cst.specs.declared.parser.Parser.{Parser}
 use Rattle.gql_cst.specs.Forest.{Forest, plain}
-use Rattle.gql_cst.specs.Judged.{Judged}
+use Rattle.gql_cst.specs.Judged.{Judged, Spoken}
 use Rattle.gql_cst.specs.Leaves.{Leaf, leaves, Tiles}
+use Rattle.gql_cst.specs.Levels.{levels, greatest, AreLevels, NestsTo}
 use Rattle.gql_cst.specs.Nesting.{nesting}
-use Rattle.gql_cst.specs.Outcome.{IsWithin, Stops}
+use Rattle.gql_cst.specs.Outcome.{IsWithin, Reached, Stops}
 use Rattle.gql_cst.specs.Progress.{HasStopped}
 use Rattle.gql_cst.specs.Sentences.{root_kind, words, shown}
 
@@ -20,17 +21,38 @@ use Rattle.gql_cst.specs.Sentences.{root_kind, words, shown}
 abbrev pub Ended : Parser → Option CstError → Type 0
 Ended p error = (place : ℕ) × HasStopped p place error
 
+abbrev pub reached_at : List ℕ → Forest → ℕ → Parsed → Reached
+reached_at text children place parsed = record {
+  text = text;
+  tokens = length (leaves children);
+  place = place;
+  read = parsed.tokens_reached;
+}
+
+abbrev pub spoken_of : Rule → List ℕ → Limits → Forest → Spoken
+spoken_of start text limits children = record {
+  start = start;
+  text = text;
+  words = words text (leaves children);
+  row = row.node (root_kind start) (shown text children) row.nothing;
+  recursion = limits.recursion;
+}
+
 -- The tree is a tree of the text up to the place: its tokens follow each other from the text's beginning to there. The
--- counts are those of the tree, and of the token that was refused. The words of the tree begin a sentence of the start.
--- The error, or that there is none, tells where the reading stopped, and what that says of sentences.
+-- counts are those of the tree, and of the token that was refused. The words of the tree begin a sentence of the start,
+-- and stand in as many levels as in each sentence that they begin. The error, or that there is none, tells where the
+-- reading stopped, how far the words are nested there, and what that says of sentences.
 pub record Parses (start : Rule) (text : List ℕ) (limits : Limits) (parsed : Parsed) (place : ℕ) (children : Forest) : Type 0 where
   pub tree_kind : (plain parsed.tree).kind ≡ root_kind start
   pub tree_children : (plain parsed.tree).children ≡ children
   pub tiles : Tiles text 0 (leaves children) place
   pub recursion_reached : parsed.recursion_reached ≡ nesting children
-  pub stops : Stops limits (record { text = text; tokens = length (leaves children); depth = nesting children; place = place; read = parsed.tokens_reached }) parsed.error
+  pub stops : Stops limits (reached_at text children place parsed) parsed.error
+  pub levels_reached : parsed.recursion_reached ≡ greatest (levels (shown text children))
+  pub around : AreLevels start (words text (leaves children)) (levels (shown text children))
+  pub nests : NestsTo limits.recursion (levels (shown text children)) parsed.error
   pub begins : IsBeginning start (words text (leaves children))
-  pub judged : Judged (record { start = start; text = text; words = words text (leaves children); row = row.node (root_kind start) (shown text children) row.nothing; recursion = limits.recursion }) parsed.error
+  pub judged : Judged (spoken_of start text limits children) parsed.error
 
 -- A text whose tokens are the words of a sentence, within both limits, has no error.
 abbrev pub Accepts : Rule → List ℕ → Limits → Parsed → Type 0

@@ -31,7 +31,6 @@ abbrev pub reached : Parser → ℕ → Reached
 reached p place = record {
   text = p.text.now;
   tokens = length (tokens_of p);
-  depth = nesting_of (trees p);
   place = place;
   read = p.tokens;
 }

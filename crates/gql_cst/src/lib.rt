@@ -32,6 +32,6 @@ pub use gql_cst_lexer::{
     CstError, Lexer, SyntaxFault, Token, TokenKind, block_string_value, is_block_string,
     string_value,
 };
-pub use limits::{Limits, Parsed};
+pub use limits::{Limits, Memory, Parsed};
 pub use parse::{parse_document, parse_selection_set, parse_type};
 pub use tree::{Nodes, Tree};

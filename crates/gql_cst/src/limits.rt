@@ -1,6 +1,10 @@
 //! What a parse is given and what it gives.
 
 use crate::{CstError, Tree};
+use std::alloc::AllocError;
+
+/// Want of memory, the one error of the calls that allocate.
+pub type Memory = AllocError;
 
 /// How much of a text a parse reads.
 #[derive(Clone, Copy, Debug)]

@@ -9,9 +9,9 @@ ghost use Rattle.gql_cst.specs.Machine as spec;
 
 use crate::count::raised;
 use crate::turn::{Turn, token_turn, way_at};
-use crate::{Nodes, SyntaxKind, Tree};
+use crate::{Memory, Nodes, SyntaxKind, Tree};
 use gql_cst_grammar::{Rule, Symbol, Word};
-use std::alloc::{AllocError, Global};
+use std::alloc::Global;
 use std::mem;
 
 /// The symbols that are to come, and the rows of trees that are there.
@@ -24,20 +24,24 @@ pub(crate) struct Machine {
     done: Nodes,
     /// Those of the nodes around it. The innermost stands last.
     outer: Vec<Nodes>,
+    /// Lists that nodes were gathered in, for nodes to come.
+    spare: Vec<Nodes>,
     /// How many levels of nesting are open.
     level: usize,
     /// How many were open at most.
     deepest: usize,
 }
 
-/// A node from its first child to its last.
-fn node(kind: SyntaxKind, mut children: Nodes) -> Tree
-    ensures { plain result ≡ spec.node_of kind (map plain children.items) }
+/// A node from its first child to its last. Its list has room for the trees of the row alone, which leave the row.
+fn node(alloc: Global, kind: SyntaxKind, row: &mut Nodes) -> Result<Tree, Memory>
+    ensures made { IfOk result (λ tree. plain tree ≡ spec.node_of kind (map plain row.old.items)) }
+    ensures emptied { OnOk result (row.new.items ≡ []) }
 {
-    children.shrink_to_fit();
-    let start = children.first().map_or(0, |first| first.range().start);
-    let end = children.last().map_or(0, |last| last.range().end);
-    Tree::new(kind, start..end, children)
+    let start = row.first().map_or(0, |first| first.range().start);
+    let end = row.last().map_or(0, |last| last.range().end);
+    let mut children = Vec::with_capacity(alloc, row.len())?;
+    children.append(row)?;
+    Ok(Tree::new(kind, start..end, children))
 }
 
 /// How many levels a node of the kind opens.
@@ -65,13 +69,14 @@ impl Machine {
             todo: Vec::new(alloc),
             done: Vec::new(alloc),
             outer: Vec::new(alloc),
+            spare: Vec::new(alloc),
             level: 0,
             deepest: 0,
         }
     }
 
     /// The symbols come next.
-    fn push_way(&mut self, way: &[Symbol]) -> Result<(), AllocError>
+    fn push_way(&mut self, way: &[Symbol]) -> Result<(), Memory>
         ensures { OnOk result (state self.new ≡ spec.pushed way.now (state self.old)) }
     {
         for symbol in way.iter().rev() {
@@ -80,11 +85,26 @@ impl Machine {
         Ok(())
     }
 
+    /// An empty list, with the room of one that was used before if there is one.
+    fn fresh(&mut self) -> Nodes
+        ensures empty { result.items ≡ [] }
+        ensures same { state self.new ≡ state self.old }
+    {
+        match self.spare.pop() {
+            Some(mut list) => {
+                list.clear();
+                list
+            }
+            None => Vec::new(self.alloc),
+        }
+    }
+
     /// A node of the kind begins.
-    fn open(&mut self, kind: SyntaxKind) -> Result<(), AllocError>
+    fn open(&mut self, kind: SyntaxKind) -> Result<(), Memory>
         ensures { OnOk result (state self.new ≡ spec.opened kind (state self.old)) }
     {
-        let row = mem::replace(&mut self.done, Vec::new(self.alloc));
+        let fresh = self.fresh();
+        let row = mem::replace(&mut self.done, fresh);
         self.outer.push(row)?;
         self.todo.push(Symbol::Close(kind))?;
         self.level = raised(self.level, level_of(kind))?;
@@ -93,24 +113,26 @@ impl Machine {
     }
 
     /// What the innermost node holds so far becomes one node in it.
-    fn wrap(&mut self, kind: SyntaxKind) -> Result<(), AllocError>
+    fn wrap(&mut self, kind: SyntaxKind) -> Result<(), Memory>
         ensures { OnOk result (state self.new ≡ spec.wrapped kind (state self.old)) }
     {
-        let row = mem::replace(&mut self.done, Vec::new(self.alloc));
-        self.done.push(node(kind, row))?;
+        let tree = node(self.alloc, kind, &mut self.done)?;
+        self.done.push(tree)?;
         Ok(())
     }
 
     /// The innermost node is complete, and stands last in the one around it.
-    fn close(&mut self, kind: SyntaxKind) -> Result<(), AllocError>
+    fn close(&mut self, kind: SyntaxKind) -> Result<(), Memory>
         ensures { OnOk result (state self.new ≡ spec.closed kind (state self.old)) }
     {
         let outer = match self.outer.pop() {
             Some(row) => row,
             None => Vec::new(self.alloc),
         };
-        let row = mem::replace(&mut self.done, outer);
-        self.done.push(node(kind, row))?;
+        let mut row = mem::replace(&mut self.done, outer);
+        let tree = node(self.alloc, kind, &mut row)?;
+        self.done.push(tree)?;
+        self.spare.push(row)?;
         self.level = self.level.saturating_sub(level_of(kind));
         Ok(())
     }
@@ -123,34 +145,42 @@ impl Machine {
         self.todo.pop()
     }
 
+    /// Goes into a rule, by this way to write it.
+    fn enter_way(&mut self, rule: Rule, way: &[Symbol]) -> Result<(), Memory>
+        ensures { OnOk result (state self.new ≡ spec.entered (kind_of rule) way.now (state self.old)) }
+    {
+        if let Some(kind) = rule.kind() {
+            self.open(kind)?;
+        }
+        self.push_way(way)
+    }
+
     /// Goes into a rule that begins with the next word.
-    fn enter(&mut self, rule: Rule, next: Option<Word>, otherwise: Turn) -> Result<Turn, AllocError>
+    fn enter(&mut self, rule: Rule, next: Option<Word>, otherwise: Turn) -> Result<Turn, Memory>
         ensures { IfOk result (λ turn. spec.told turn (state self.new)
             ≡ spec.enter (stands.way_at rule next) (kind_of rule) (state self.old) (spec.told otherwise (state self.old))) }
     {
         let Some(way) = way_at(rule, next) else {
             return Ok(otherwise);
         };
-        if let Some(kind) = rule.kind() {
-            self.open(kind)?;
-        }
-        self.push_way(way)?;
+        self.enter_way(rule, way)?;
         Ok(Turn::Again)
     }
 
     /// Goes into a rule that begins with the next word, which may then come once more.
-    fn repeat(&mut self, rule: Rule, next: Option<Word>) -> Result<Turn, AllocError>
+    fn repeat(&mut self, rule: Rule, next: Option<Word>) -> Result<Turn, Memory>
         ensures { IfOk result (λ turn. spec.told turn (state self.new) ≡ spec.turned_by next (Symbol.Repeated rule) (state self.old)) }
     {
-        if way_at(rule, next).is_none() {
+        let Some(way) = way_at(rule, next) else {
             return Ok(Turn::Again);
-        }
+        };
         self.todo.push(Symbol::Repeated(rule))?;
-        self.enter(rule, next, Turn::Again)
+        self.enter_way(rule, way)?;
+        Ok(Turn::Again)
     }
 
     /// One turn, with the next word in sight, or the end of the text.
-    fn turn(&mut self, next: Option<Word>) -> Result<Turn, AllocError>
+    fn turn(&mut self, next: Option<Word>) -> Result<Turn, Memory>
         ensures { IfOk result (λ turn. spec.told turn (state self.new) ≡ spec.turned next (state self.old)) }
     {
         let Some(symbol) = self.pop() else {
@@ -180,7 +210,7 @@ impl Machine {
     }
 
     /// Turns until the next word is taken or refused, or nothing is left.
-    pub(crate) fn settle(&mut self, next: Option<Word>) -> Result<Turn, AllocError>
+    pub(crate) fn turn_until_judged(&mut self, next: Option<Word>) -> Result<Turn, Memory>
         ensures { IfOk result (λ turn. spec.Settles next (state self.old) (spec.told turn (state self.new))) }
     {
         loop {
@@ -194,7 +224,7 @@ impl Machine {
     }
 
     /// Goes into the rule of the whole text, whose node is not told apart from the row around it.
-    pub(crate) fn begin(&mut self, rule: Rule, next: Option<Word>) -> Result<bool, AllocError>
+    pub(crate) fn begin(&mut self, rule: Rule, next: Option<Word>) -> Result<bool, Memory>
         ensures { IfOk result (λ begun. (if begun then spec.again (state self.new) else spec.refused (state self.new))
             ≡ spec.enter (stands.way_at rule next) None (state self.old) (spec.refused (state self.old))) }
     {
@@ -208,7 +238,7 @@ impl Machine {
     }
 
     /// Adds a token to the innermost node, behind those before it that the grammar ignores.
-    pub(crate) fn add(&mut self, ignored: &mut Nodes, token: Tree) -> Result<(), AllocError>
+    pub(crate) fn add(&mut self, ignored: &mut Nodes, token: Tree) -> Result<(), Memory>
         ensures grown { OnOk result (state self.new ≡ spec.grown (map plain ignored.old.items ++ (plain token ∷ [])) (state self.old)) }
         ensures emptied { OnOk result (ignored.new.items ≡ []) }
     {
@@ -218,7 +248,7 @@ impl Machine {
     }
 
     /// The node of the whole text, once all that are open have ended.
-    pub(crate) fn root(&mut self, kind: SyntaxKind, ignored: &mut Nodes) -> Result<Tree, AllocError>
+    pub(crate) fn root(&mut self, kind: SyntaxKind, ignored: &mut Nodes) -> Result<Tree, Memory>
         ensures { IfOk result (λ tree. plain tree ≡ spec.node_of kind (spec.all_ended (state self.old) ++ map plain ignored.old.items)) }
     {
         while let Some(symbol) = self.pop() {
@@ -227,6 +257,6 @@ impl Machine {
             }
         }
         self.done.append(ignored)?;
-        Ok(node(kind, mem::replace(&mut self.done, Vec::new(self.alloc))))
+        node(self.alloc, kind, &mut self.done)
     }
 }

@@ -3,23 +3,27 @@
 ghost use Rattle.std.specs.Prelude.{◌≡◌, true, IfOk, OnOk, is_some};
 ghost use Rattle.gql_cst.specs.Progress.{IsRead, HasStopped, SameText};
 ghost use Rattle.gql_cst.specs.Judged.{IsStood, IsJudged};
+ghost use Rattle.gql_cst.specs.Nested.{IsNested, EndsNested};
 ghost use Rattle.gql_cst.specs.Parses.{Accepts, Ended, IsParse};
 ghost use Rattle.gql_cst.specs.Sentences.{root_kind};
+ghost use Rattle.gql_cst_grammar.specs.Row as rows;
 ghost use Rattle.gql_cst_grammar.specs.Rule.{kind_of};
 
 use crate::parser::Parser;
-use crate::{CstError, Lexer, Limits, Parsed, SyntaxKind};
+use crate::{CstError, Lexer, Limits, Memory, Parsed, SyntaxKind};
 use gql_cst_grammar::Rule;
-use std::alloc::{AllocError, Global};
+use std::alloc::Global;
 
 /// Reads the text up to its end, or to what ends the reading before.
-fn read_all(parser: &mut Parser, text: &str) -> Result<Option<CstError>, AllocError>
+fn read_all(parser: &mut Parser, text: &str) -> Result<Option<CstError>, Memory>
     requires read { IsRead parser.old 0 }
     requires text { parser.old.text.now ≡ text.now }
     requires stood { IsStood parser.old }
+    requires nested { IsNested parser.old }
     ensures same { OnOk result (SameText parser.old parser.new) }
     ensures ended { IfOk result (Ended parser.new) }
     ensures judged { IfOk result (IsJudged parser.new) }
+    ensures nests { IfOk result (EndsNested parser.new) }
 {
     let mut lexer = Lexer::new(text);
     while let Some(found) = lexer.next_token() {
@@ -42,8 +46,9 @@ fn parse(
     kind: SyntaxKind,
     text: &str,
     limits: &Limits,
-) -> Result<Parsed, AllocError>
+) -> Result<Parsed, Memory>
     requires starts { is_some (kind_of start) ≡ true }
+    requires root { rows.level (root_kind start) ≡ 0 }
     requires kind { kind ≡ root_kind start }
     ensures parse { IfOk result (IsParse start text.now limits.now) }
     ensures accepts { IfOk result (Accepts start text.now limits.now) }
@@ -66,7 +71,7 @@ fn parse(
 ///   document and is none.
 ///
 /// `Err` only for want of memory.
-pub fn parse_document(alloc: Global, text: &str, limits: &Limits) -> Result<Parsed, AllocError>
+pub fn parse_document(alloc: Global, text: &str, limits: &Limits) -> Result<Parsed, Memory>
     ensures parse { IfOk result (IsParse Rule.Document text.now limits.now) }
     ensures accepts { IfOk result (Accepts Rule.Document text.now limits.now) }
 {
@@ -75,7 +80,7 @@ pub fn parse_document(alloc: Global, text: &str, limits: &Limits) -> Result<Pars
 
 /// The tree of a selection set (SelectionSet, GraphQL October 2021, section 2.4), or of selections without the braces
 /// around them. Its kind is `FieldSet`. The errors are those of [`parse_document`].
-pub fn parse_selection_set(alloc: Global, text: &str, limits: &Limits) -> Result<Parsed, AllocError>
+pub fn parse_selection_set(alloc: Global, text: &str, limits: &Limits) -> Result<Parsed, Memory>
     ensures parse { IfOk result (IsParse Rule.FieldSet text.now limits.now) }
     ensures accepts { IfOk result (Accepts Rule.FieldSet text.now limits.now) }
 {
@@ -84,7 +89,7 @@ pub fn parse_selection_set(alloc: Global, text: &str, limits: &Limits) -> Result
 
 /// The tree of a reference to a type (Type, GraphQL October 2021, section 2.11). Its kind is `TypeReference`. The errors
 /// are those of [`parse_document`].
-pub fn parse_type(alloc: Global, text: &str, limits: &Limits) -> Result<Parsed, AllocError>
+pub fn parse_type(alloc: Global, text: &str, limits: &Limits) -> Result<Parsed, Memory>
     ensures parse { IfOk result (IsParse Rule.TypeReference text.now limits.now) }
     ensures accepts { IfOk result (Accepts Rule.TypeReference text.now limits.now) }
 {

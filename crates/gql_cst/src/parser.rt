@@ -7,6 +7,7 @@ ghost use Rattle.gql_cst.specs.Forest.{plain};
 ghost use Rattle.gql_cst.specs.Leaves.{IsLeaf};
 ghost use Rattle.gql_cst.specs.Machine as machine;
 ghost use Rattle.gql_cst.specs.Sentences.{root_kind};
+ghost use Rattle.gql_cst_grammar.specs.Row as rows;
 ghost use Rattle.gql_cst_grammar.specs.Rule.{kind_of};
 ghost use Rattle.gql_cst.specs.Outcome.{Passes, IsWithin};
 
@@ -14,9 +15,11 @@ use crate::count::raised;
 use crate::machine::Machine;
 use crate::turn::Turn;
 use crate::word::word_of;
-use crate::{CstError, Limits, Nodes, Parsed, SyntaxFault, SyntaxKind, Token, TokenKind, Tree};
+use crate::{
+    CstError, Limits, Memory, Nodes, Parsed, SyntaxFault, SyntaxKind, Token, TokenKind, Tree,
+};
 use gql_cst_grammar::{Rule, Word};
-use std::alloc::{AllocError, Global};
+use std::alloc::Global;
 use std::ops::Range;
 
 /// What was read of a text so far.
@@ -48,14 +51,18 @@ fn is_past(count: usize, limit: Option<usize>) -> bool
 impl<'a> Parser<'a> {
     ghost use Rattle.gql_cst.specs.Held.{state};
     ghost use Rattle.gql_cst.specs.Judged.{IsStood, IsJudged};
+    ghost use Rattle.gql_cst.specs.Nested.{IsNested, EndsNested};
     ghost use Rattle.gql_cst.specs.Parses.{Accepts, Ended, IsParse};
     ghost use Rattle.gql_cst.specs.Progress.{trees, IsRead, IsUnderway, HasStopped, SameText, leaf_of, word_leaf};
 
     /// At the beginning of the text, which is read by the rule.
+    #[tactic(auto, using(crate::proofs::Nested::new_nested))]
     pub(crate) fn new(alloc: Global, start: Rule, text: &'a str, limits: Limits) -> Parser<'a>
-        requires { is_some (kind_of start) ≡ true }
+        requires starts { is_some (kind_of start) ≡ true }
+        requires root { rows.level (root_kind start) ≡ 0 }
         ensures read { IsRead result 0 }
         ensures stood { IsStood result }
+        ensures nested { IsNested result }
         ensures text { result.text.now ≡ text.now }
         ensures limits { result.limits ≡ limits }
         ensures start { result.start ≡ start }
@@ -80,7 +87,7 @@ impl<'a> Parser<'a> {
     }
 
     /// Judges the next word, or the end of the text.
-    fn judge(&mut self, next: Option<Word>) -> Result<Turn, AllocError>
+    fn judge(&mut self, next: Option<Word>) -> Result<Turn, Memory>
         ensures judged { IfOk result (λ turn. machine.Judges self.old.start next self.old.begun (state self.old.machine) (machine.told turn (state self.new.machine))) }
         ensures same { OnOk result (self.new ≡ record self.old { machine = self.new.machine; begun = self.new.begun }) }
         ensures begun { IfOk result (λ turn. turn ≢ Turn.Refused → self.new.begun ≡ true) }
@@ -91,19 +98,22 @@ impl<'a> Parser<'a> {
             }
             self.begun = true;
         }
-        self.machine.settle(next)
+        self.machine.turn_until_judged(next)
     }
 
     /// Reads a token that the grammar does not ignore, once it is counted.
-    fn read_word(&mut self, range: Range<usize>) -> Result<Option<CstError>, AllocError>
+    fn read_word(&mut self, range: Range<usize>) -> Result<Option<CstError>, Memory>
         requires read { IsUnderway self.old range.start }
         requires token { IsLeaf self.old.text.now range.start (word_leaf range) }
         requires stood { IsStood self.old }
+        requires nested { IsNested self.old }
         ensures same { OnOk result (SameText self.old self.new) }
         ensures goes_on { IfOk result (λ found. IfNone found (IsRead self.new range.end)) }
         ensures stops { IfOk result (λ found. IfSome found (λ error. HasStopped self.new range.start (Some error))) }
         ensures stands { IfOk result (λ found. IfNone found (IsStood self.new)) }
         ensures judged { IfOk result (λ found. IfSome found (λ error. IsJudged self.new (Some error))) }
+        ensures nested { IfOk result (λ found. IfNone found (IsNested self.new)) }
+        ensures nests { IfOk result (λ found. IfSome found (λ error. EndsNested self.new (Some error))) }
     {
         if self.limits.recursion < self.machine.deepest() {
             return Ok(Some(CstError::RecursionLimit { range }));
@@ -123,15 +133,18 @@ impl<'a> Parser<'a> {
     }
 
     /// Reads a token, and tells what ends the reading there.
-    pub(crate) fn read(&mut self, token: Token) -> Result<Option<CstError>, AllocError>
+    pub(crate) fn read(&mut self, token: Token) -> Result<Option<CstError>, Memory>
         requires read { IsRead self.old token.range.start }
         requires token { IsLeaf self.old.text.now token.range.start (leaf_of token) }
         requires stood { IsStood self.old }
+        requires nested { IsNested self.old }
         ensures same { OnOk result (SameText self.old self.new) }
         ensures goes_on { IfOk result (λ found. IfNone found (IsRead self.new token.range.end)) }
         ensures stops { IfOk result (λ found. IfSome found (λ error. HasStopped self.new token.range.start (Some error))) }
         ensures stands { IfOk result (λ found. IfNone found (IsStood self.new)) }
         ensures judged { IfOk result (λ found. IfSome found (λ error. IsJudged self.new (Some error))) }
+        ensures nested { IfOk result (λ found. IfNone found (IsNested self.new)) }
+        ensures nests { IfOk result (λ found. IfSome found (λ error. EndsNested self.new (Some error))) }
     {
         let Token { kind, range } = token;
         self.tokens = raised(self.tokens, 1)?;
@@ -147,12 +160,14 @@ impl<'a> Parser<'a> {
     }
 
     /// Reads the end of the text, and tells what is wrong there.
-    pub(crate) fn end(&mut self) -> Result<Option<CstError>, AllocError>
+    pub(crate) fn end(&mut self) -> Result<Option<CstError>, Memory>
         requires read { IsRead self.old (length self.old.text.now) }
         requires stood { IsStood self.old }
+        requires nested { IsNested self.old }
         ensures same { OnOk result (SameText self.old self.new) }
         ensures stops { IfOk result (λ found. HasStopped self.new (length self.new.text.now) found) }
         ensures judged { IfOk result (λ found. IsJudged self.new found) }
+        ensures nests { IfOk result (λ found. EndsNested self.new found) }
     {
         let end = self.text.len();
         if self.limits.recursion < self.machine.deepest() {
@@ -168,13 +183,10 @@ impl<'a> Parser<'a> {
     }
 
     /// What the reading came to.
-    pub(crate) fn parsed(
-        self,
-        kind: SyntaxKind,
-        error: Option<CstError>,
-    ) -> Result<Parsed, AllocError>
+    pub(crate) fn parsed(self, kind: SyntaxKind, error: Option<CstError>) -> Result<Parsed, Memory>
         requires ended { Ended self error }
         requires judged { IsJudged self error }
+        requires nests { EndsNested self error }
         requires kind { kind ≡ root_kind self.start }
         ensures parse { IfOk result (IsParse self.entry.start self.entry.text.now self.entry.limits) }
         ensures accepts { IfOk result (Accepts self.entry.start self.entry.text.now self.entry.limits) }

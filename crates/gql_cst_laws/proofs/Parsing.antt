@@ -8,7 +8,6 @@ use Rattle.gql_cst.specs.declared.limits.Parsed.{Parsed}
 use Rattle.gql_cst.specs.Forest.{Forest, plain}
 use Rattle.gql_cst.specs.Judged.{Judged, Spoken}
 use Rattle.gql_cst.specs.Leaves.{leaves, Tiles}
-use Rattle.gql_cst.specs.Nesting.{nesting}
 use Rattle.gql_cst.specs.Outcome.{Stops, Reached}
 use Rattle.gql_cst.specs.Parses.{Parses, IsParse}
 use Rattle.gql_cst.specs.Sentences.{root_kind, words, shown}
@@ -17,7 +16,7 @@ use Rattle.gql_cst_laws.specs.TreeOf.{IsTreeOf}
 whole : (start : Rule) (text : List ℕ) (limits : Limits) (parsed : Parsed) (place : ℕ) (children : Forest) → Parses start text limits parsed place children
     → parsed.error ≡ None → IsTreeOf start text children
 whole start text limits parsed place children p none =
-    let r : Reached = record { text = text; tokens = length (leaves children); depth = nesting children; place = place; read = parsed.tokens_reached } in
+    let r : Reached = record { text = text; tokens = length (leaves children); place = place; read = parsed.tokens_reached } in
     let s : Spoken = record { start = start; text = text; words = words text (leaves children); row = row.node (root_kind start) (shown text children) row.nothing; recursion = limits.recursion } in
     let stops = subst (λ (x : Option CstError). Stops limits r x) none p.stops in
     let judged = subst (λ (x : Option CstError). Judged s x) none p.judged in

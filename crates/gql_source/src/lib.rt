@@ -20,10 +20,6 @@ mod span;
 pub use file_id::{FileId, FileIds};
 pub use line_column::LineColumn;
 pub use line_cursor::LineCursor;
-pub use source_file::SourceFile;
+pub use source_file::{Memory, SourceFile};
 pub use source_map::SourceMap;
 pub use span::SourceSpan;
-use std::alloc::AllocError;
-
-/// Want of memory, the one error of the calls that allocate.
-pub type Memory = AllocError;

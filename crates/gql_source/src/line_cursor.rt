@@ -77,13 +77,13 @@ fn moved(text: &[u8], from: usize, place: LineColumn, to: usize) -> LineColumn
 {
     let mut reached = place;
     for at in from..to {
-        reached = behind(text, at, reached);
+        reached = place_after(text, at, reached);
     }
     reached
 }
 
 /// The place behind the byte at `at`, where `place` is that of the byte.
-fn behind(text: &[u8], at: usize, place: LineColumn) -> LineColumn
+fn place_after(text: &[u8], at: usize, place: LineColumn) -> LineColumn
     requires within { at < length text.now }
     requires place { place ≡ lines.line_column text.now at }
     ensures { result ≡ lines.line_column text.now (at + 1) }

@@ -4,11 +4,14 @@ ghost use Rattle.std.specs.Prelude.{◌≡◌, ◌+◌, ◌-◌, ◌/◌, ◌<�
 ghost use Rattle.gql_source.specs.Characters.{counts_at_marks as counts_at_marks_of, step};
 ghost use Rattle.gql_source.specs.Lines as lines;
 
+use crate::LineColumn;
 use crate::characters::{characters_before, counts_at_marks};
-use crate::{LineColumn, Memory};
-use std::alloc::Global;
+use std::alloc::{AllocError, Global};
 use std::marker::Model;
 use std::ops::Range;
+
+/// Want of memory, the one error of the calls that allocate.
+pub type Memory = AllocError;
 
 /// A source file: a path and a text.
 ///

@@ -1,3 +1,5 @@
+//! The program over any source and sink.
+
 ghost use Rattle.std.specs.Prelude.{◌≡◌, ◌≤◌, ◌⊎◌, None, IsSomeAnd, IfSome};
 ghost use Rattle.jb_io.specs.Sink.{Takes, TakesFront};
 ghost use Rattle.jb_io.specs.Source.{GivesMore};

@@ -7,9 +7,9 @@ ghost use Rattle.gql_syntax_tool.specs.Start.{rule_of};
 
 use crate::start::Start;
 use bytes::Bytes;
-use gql_cst::{CstError, Limits, Parsed, parse_document, parse_selection_set, parse_type};
+use gql_cst::{CstError, Limits, Memory, Parsed, parse_document, parse_selection_set, parse_type};
 use jb_serve::{Command, Reply};
-use std::alloc::{AllocError, Global};
+use std::alloc::Global;
 use std::ops::Range;
 
 // Nesting up to 500, and any number of tokens.
@@ -25,7 +25,7 @@ impl Command for Start {
 
     ghost refuses = { Refuses };
 
-    fn reply(&self, alloc: Global, bytes: &Bytes) -> Result<Reply, AllocError> {
+    fn reply(&self, alloc: Global, bytes: &Bytes) -> Result<Reply, Memory> {
         let Ok(text) = str::from_utf8(bytes.as_slice()) else {
             return Ok(Reply::Refusal(Bytes::from_static(b"no UTF-8")));
         };
@@ -37,7 +37,7 @@ impl Command for Start {
     }
 }
 
-fn parse(alloc: Global, start: Start, text: &str) -> Result<Parsed, AllocError>
+fn parse(alloc: Global, start: Start, text: &str) -> Result<Parsed, Memory>
     ensures { IfOk result (IsParse (rule_of start) text.now limits) }
 {
     match start {
@@ -48,7 +48,7 @@ fn parse(alloc: Global, start: Start, text: &str) -> Result<Parsed, AllocError>
 }
 
 /// How many tokens the text has, and how deep it is nested.
-fn counts(alloc: Global, parsed: &Parsed) -> Result<Bytes, AllocError>
+fn counts(alloc: Global, parsed: &Parsed) -> Result<Bytes, Memory>
     ensures { IfOk result (λ text. text ≡ counts_of parsed.now) }
 {
     let tokens = parsed.tokens_reached;
@@ -58,7 +58,7 @@ fn counts(alloc: Global, parsed: &Parsed) -> Result<Bytes, AllocError>
 }
 
 /// The fault and its first byte.
-fn fault_text(alloc: Global, error: &CstError) -> Result<Bytes, AllocError>
+fn fault_text(alloc: Global, error: &CstError) -> Result<Bytes, Memory>
     ensures { IfOk result (λ text. text ≡ fault_text_of error.now) }
 {
     let message = error.message();

@@ -1,5 +1,6 @@
 use Rattle.std.proofs.Common.{◌≡◌, ◌-◌, length}
 use Rattle.gql_cst.specs.Judged.{IsStood}
+use Rattle.gql_cst.specs.Nested.{IsNested}
 use Rattle.gql_cst.specs.Progress.{IsRead, SameText}
 use Rattle.gql_cst.proofs.parse.read_all.Given as goal
 
@@ -7,6 +8,7 @@ abbrev pub invariant-loop-found : goal.invariant-loop-found
 invariant-loop-found l = record {
   read : IsRead l.parser l.lexer.place;
   stood : IsStood l.parser;
+  nested : IsNested l.parser;
   text : l.lexer.text ≡ l.initial.parser.text.now;
   same : SameText l.initial.parser l.parser;
 }

@@ -24,6 +24,9 @@ returns c =
       tiles = h.tiles;
       recursion_reached = c.deepest-recursion_reached.ensures ∙ sym (depth-held (state p.machine) (map plain p.ignored.items) h.sound h.flat);
       stops = h.stops;
+      levels_reached = c.deepest-recursion_reached.ensures ∙ c.requires.nests.deepest;
+      around = c.requires.nests.around;
+      nests = c.requires.nests.nests;
       begins = c.requires.judged.begins;
       judged = c.requires.judged.judged;
     } in

@@ -2,7 +2,7 @@ use Rattle.std.proofs.Common.{sym}
 use Rattle.gql_cst.specs.Machine.{takes_it, refuses_it, finishes, later}
 use Rattle.gql_cst.specs.Held.{state}
 use Rattle.gql_cst.proofs.Falls.{turns-fall}
-use Rattle.gql_cst.proofs.machine.Machine.settle.Goals as goal
+use Rattle.gql_cst.proofs.machine.Machine.turn_until_judged.Goals as goal
 
 pub loop-smaller : goal.loop-smaller
 loop-smaller c = turns-fall c.args.next (state c.loop.self) (state c.turn.new.self) (sym (rw c.in-Again.is at c.in_ok-turn.ensures))

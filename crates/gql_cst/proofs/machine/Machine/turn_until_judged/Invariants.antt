@@ -1,7 +1,7 @@
 use Rattle.gql_cst_grammar.specs.Turns.{turns}
 use Rattle.gql_cst.specs.Machine.{Turned, Settles}
 use Rattle.gql_cst.specs.Held.{state}
-use Rattle.gql_cst.proofs.machine.Machine.settle.Given as goal
+use Rattle.gql_cst.proofs.machine.Machine.turn_until_judged.Given as goal
 
 abbrev pub invariant-loop : goal.invariant-loop
 invariant-loop l = (end : Turned) → Settles l.next (state l.self) end → Settles l.next (state l.initial.self) end

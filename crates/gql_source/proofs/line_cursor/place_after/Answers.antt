@@ -1,6 +1,6 @@
 use Rattle.std.proofs.Common.{rules, ◌∙◌, sym}
 use Rattle.gql_source.proofs.LineSteps.{line_column-ends, line_column-begins, line_column-continues, line-within, column-within}
-use Rattle.gql_source.proofs.line_cursor.behind.Goals as goal
+use Rattle.gql_source.proofs.line_cursor.place_after.Goals as goal
 
 pub overflow_add-result : goal.overflow_add-result
 overflow_add-result c = let small = line-within c.args.text.now c.args.at c.args.place c.requires.place in search rules
