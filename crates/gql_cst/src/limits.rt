@@ -3,7 +3,7 @@
 use crate::{CstError, Tree};
 use std::alloc::AllocError;
 
-/// Want of memory, the one error of the calls that allocate.
+/// Out of memory: the one error of the calls that allocate.
 pub type Memory = AllocError;
 
 /// How much of a text a parse reads.

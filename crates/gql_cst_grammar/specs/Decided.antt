@@ -1,19 +1,41 @@
 -- Stacks of symbols at which the next word always decides.
 use Rattle.std.specs.Prelude.{◌≡◌, ℕ, ◌+◌, ◌-◌, Bool, true, false, List, [], ◌∷◌}
 use Rattle.gql_cst_grammar.specs.declared.word.Word.{Word}
-use Rattle.gql_cst_grammar.specs.declared.word.Word.TheVariants.{Bang, Dollar, Ampersand, ParenOpen, ParenClose, Spread, Colon, Equals, At, BracketOpen, BracketClose, BraceOpen, Bar, BraceClose, IntLiteral, FloatLiteral, StringLiteral, OperationWord, FragmentWord, OnWord, BooleanWord, NullWord, SchemaWord, ScalarWord, TypeWord, InterfaceWord, UnionWord, EnumWord, InputWord, DirectiveWord, RepeatableWord, ExtendWord}
+use Rattle.gql_cst_grammar.specs.declared.word.Word.TheVariants.{Bang, Dollar, Ampersand, ParenOpen, ParenClose, Spread, Colon, Equals, At}
+use Rattle.gql_cst_grammar.specs.declared.word.Word.TheVariants.{BracketOpen, BracketClose, BraceOpen, Bar, BraceClose, IntLiteral, FloatLiteral}
+use Rattle.gql_cst_grammar.specs.declared.word.Word.TheVariants.{StringLiteral, OperationWord, FragmentWord, OnWord, BooleanWord, NullWord}
+use Rattle.gql_cst_grammar.specs.declared.word.Word.TheVariants.{SchemaWord, ScalarWord, TypeWord, InterfaceWord, UnionWord, EnumWord, InputWord}
+use Rattle.gql_cst_grammar.specs.declared.word.Word.TheVariants.{DirectiveWord, RepeatableWord, ExtendWord}
 use Rattle.gql_cst_grammar.specs.declared.symbol.Symbol.{Symbol}
 use Rattle.gql_cst_grammar.specs.declared.symbol.Symbol.TheVariants.{Token, One, Optional, Repeated, Eager, Wrap, Close}
 use Rattle.gql_cst_grammar.specs.declared.rule.Rule.{Rule}
-use Rattle.gql_cst_grammar.specs.declared.rule.Rule.TheVariants.{Document, Definition, OperationDefinition, OperationType, SelectionSet, Selection, Field, Alias, Arguments, Argument, FragmentSpread, InlineFragment, FragmentDefinition, FragmentName, TypeCondition, Value, ConstValue, BooleanValue, NullValue, EnumValue, Variable, ListValue, ConstListValue, ObjectValue, ConstObjectValue, ObjectField, ConstObjectField, VariableDefinitions, VariableDefinition, DefaultValue, TypeReference, NamedType, ListType, NonNullType, Directives, ConstDirectives, Directive, ConstDirective, ConstArguments, ConstArgument, Description, SchemaDefinition, RootOperationTypeDefinition, ScalarTypeDefinition, ObjectTypeDefinition, InterfaceTypeDefinition, ImplementsInterfaces, FieldsDefinition, FieldDefinition, ArgumentsDefinition, InputValueDefinition, UnionTypeDefinition, UnionMemberTypes, EnumTypeDefinition, EnumValuesDefinition, EnumValueDefinition, InputObjectTypeDefinition, InputFieldsDefinition, DirectiveDefinition, Extension, FieldSet, OperationName, TypeCore, RootOperations, AmpersandSign, AmpersandType, BarSign, BarType, BarLocation, RepeatableSign, ExtendedDefinition, SchemaParts, ObjectParts, UnionParts, EnumParts, InputParts, DescribedDefinition, AfterSpread, AliasTail, BangTail}
+use Rattle.gql_cst_grammar.specs.declared.rule.Rule.TheVariants.{Document, Definition, OperationDefinition, OperationType, SelectionSet, Selection}
+use Rattle.gql_cst_grammar.specs.declared.rule.Rule.TheVariants.{Field, Alias, Arguments, Argument, FragmentSpread, InlineFragment}
+use Rattle.gql_cst_grammar.specs.declared.rule.Rule.TheVariants.{FragmentDefinition, FragmentName, TypeCondition, Value, ConstValue, BooleanValue}
+use Rattle.gql_cst_grammar.specs.declared.rule.Rule.TheVariants.{NullValue, EnumValue, Variable, ListValue, ConstListValue, ObjectValue}
+use Rattle.gql_cst_grammar.specs.declared.rule.Rule.TheVariants.{ConstObjectValue, ObjectField, ConstObjectField, VariableDefinitions}
+use Rattle.gql_cst_grammar.specs.declared.rule.Rule.TheVariants.{VariableDefinition, DefaultValue, TypeReference, NamedType, ListType, NonNullType}
+use Rattle.gql_cst_grammar.specs.declared.rule.Rule.TheVariants.{Directives, ConstDirectives, Directive, ConstDirective, ConstArguments}
+use Rattle.gql_cst_grammar.specs.declared.rule.Rule.TheVariants.{ConstArgument, Description, SchemaDefinition, RootOperationTypeDefinition}
+use Rattle.gql_cst_grammar.specs.declared.rule.Rule.TheVariants.{ScalarTypeDefinition, ObjectTypeDefinition, InterfaceTypeDefinition}
+use Rattle.gql_cst_grammar.specs.declared.rule.Rule.TheVariants.{ImplementsInterfaces, FieldsDefinition, FieldDefinition, ArgumentsDefinition}
+use Rattle.gql_cst_grammar.specs.declared.rule.Rule.TheVariants.{InputValueDefinition, UnionTypeDefinition, UnionMemberTypes, EnumTypeDefinition}
+use Rattle.gql_cst_grammar.specs.declared.rule.Rule.TheVariants.{EnumValuesDefinition, EnumValueDefinition, InputObjectTypeDefinition}
+use Rattle.gql_cst_grammar.specs.declared.rule.Rule.TheVariants.{InputFieldsDefinition, DirectiveDefinition, Extension, FieldSet, OperationName}
+use Rattle.gql_cst_grammar.specs.declared.rule.Rule.TheVariants.{TypeCore, RootOperations, AmpersandSign, AmpersandType, BarSign, BarType}
+use Rattle.gql_cst_grammar.specs.declared.rule.Rule.TheVariants.{BarLocation, RepeatableSign, ExtendedDefinition, SchemaParts, ObjectParts}
+use Rattle.gql_cst_grammar.specs.declared.rule.Rule.TheVariants.{UnionParts, EnumParts, InputParts, DescribedDefinition, AfterSpread, AliasTail}
+use Rattle.gql_cst_grammar.specs.declared.rule.Rule.TheVariants.{BangTail}
 use Rattle.gql_cst_grammar.specs.Word.{is_same, set, has, names}
 use Rattle.gql_cst_grammar.specs.Starts.{starts, leads}
 
 -- the words that may stand behind the rule
 abbrev pub follow : Rule → ℕ
 follow Document = set ([])
-follow Definition = set (BraceOpen ∷ StringLiteral ∷ OperationWord ∷ FragmentWord ∷ SchemaWord ∷ ScalarWord ∷ TypeWord ∷ InterfaceWord ∷ UnionWord ∷ EnumWord ∷ InputWord ∷ DirectiveWord ∷ ExtendWord ∷ [])
-follow OperationDefinition = set (BraceOpen ∷ StringLiteral ∷ OperationWord ∷ FragmentWord ∷ SchemaWord ∷ ScalarWord ∷ TypeWord ∷ InterfaceWord ∷ UnionWord ∷ EnumWord ∷ InputWord ∷ DirectiveWord ∷ ExtendWord ∷ [])
+follow Definition = set (BraceOpen ∷ StringLiteral ∷ OperationWord ∷ FragmentWord ∷ SchemaWord ∷ ScalarWord ∷ TypeWord ∷
+    InterfaceWord ∷ UnionWord ∷ EnumWord ∷ InputWord ∷ DirectiveWord ∷ ExtendWord ∷ [])
+follow OperationDefinition = set (BraceOpen ∷ StringLiteral ∷ OperationWord ∷ FragmentWord ∷ SchemaWord ∷ ScalarWord ∷ TypeWord ∷
+    InterfaceWord ∷ UnionWord ∷ EnumWord ∷ InputWord ∷ DirectiveWord ∷ ExtendWord ∷ [])
 follow OperationType = names + set (ParenOpen ∷ Colon ∷ At ∷ BraceOpen ∷ [])
 follow SelectionSet = names + set (Spread ∷ BraceOpen ∷ BraceClose ∷ StringLiteral ∷ [])
 follow Selection = names + set (Spread ∷ BraceClose ∷ [])
@@ -23,26 +45,38 @@ follow Arguments = names + set (Spread ∷ At ∷ BraceOpen ∷ BraceClose ∷ [
 follow Argument = names + set (ParenClose ∷ [])
 follow FragmentSpread = set ([])
 follow InlineFragment = set ([])
-follow FragmentDefinition = set (BraceOpen ∷ StringLiteral ∷ OperationWord ∷ FragmentWord ∷ SchemaWord ∷ ScalarWord ∷ TypeWord ∷ InterfaceWord ∷ UnionWord ∷ EnumWord ∷ InputWord ∷ DirectiveWord ∷ ExtendWord ∷ [])
+follow FragmentDefinition = set (BraceOpen ∷ StringLiteral ∷ OperationWord ∷ FragmentWord ∷ SchemaWord ∷ ScalarWord ∷ TypeWord ∷
+    InterfaceWord ∷ UnionWord ∷ EnumWord ∷ InputWord ∷ DirectiveWord ∷ ExtendWord ∷ [])
 follow FragmentName = names + set (Spread ∷ At ∷ BraceClose ∷ [])
 follow TypeCondition = set (At ∷ BraceOpen ∷ [])
-follow Value = names + set (Dollar ∷ ParenClose ∷ BracketOpen ∷ BracketClose ∷ BraceOpen ∷ BraceClose ∷ IntLiteral ∷ FloatLiteral ∷ StringLiteral ∷ [])
-follow ConstValue = names + set (Dollar ∷ ParenClose ∷ At ∷ BracketOpen ∷ BracketClose ∷ BraceOpen ∷ BraceClose ∷ IntLiteral ∷ FloatLiteral ∷ StringLiteral ∷ [])
-follow BooleanValue = names + set (Dollar ∷ ParenClose ∷ At ∷ BracketOpen ∷ BracketClose ∷ BraceOpen ∷ BraceClose ∷ IntLiteral ∷ FloatLiteral ∷ StringLiteral ∷ [])
-follow NullValue = names + set (Dollar ∷ ParenClose ∷ At ∷ BracketOpen ∷ BracketClose ∷ BraceOpen ∷ BraceClose ∷ IntLiteral ∷ FloatLiteral ∷ StringLiteral ∷ [])
-follow EnumValue = names + set (Dollar ∷ ParenClose ∷ At ∷ BracketOpen ∷ BracketClose ∷ BraceOpen ∷ BraceClose ∷ IntLiteral ∷ FloatLiteral ∷ StringLiteral ∷ [])
-follow Variable = names + set (Dollar ∷ ParenClose ∷ Colon ∷ BracketOpen ∷ BracketClose ∷ BraceOpen ∷ BraceClose ∷ IntLiteral ∷ FloatLiteral ∷ StringLiteral ∷ [])
-follow ListValue = names + set (Dollar ∷ ParenClose ∷ BracketOpen ∷ BracketClose ∷ BraceOpen ∷ BraceClose ∷ IntLiteral ∷ FloatLiteral ∷ StringLiteral ∷ [])
-follow ConstListValue = names + set (Dollar ∷ ParenClose ∷ At ∷ BracketOpen ∷ BracketClose ∷ BraceOpen ∷ BraceClose ∷ IntLiteral ∷ FloatLiteral ∷ StringLiteral ∷ [])
-follow ObjectValue = names + set (Dollar ∷ ParenClose ∷ BracketOpen ∷ BracketClose ∷ BraceOpen ∷ BraceClose ∷ IntLiteral ∷ FloatLiteral ∷ StringLiteral ∷ [])
-follow ConstObjectValue = names + set (Dollar ∷ ParenClose ∷ At ∷ BracketOpen ∷ BracketClose ∷ BraceOpen ∷ BraceClose ∷ IntLiteral ∷ FloatLiteral ∷ StringLiteral ∷ [])
+follow Value = names + set (Dollar ∷ ParenClose ∷ BracketOpen ∷ BracketClose ∷ BraceOpen ∷ BraceClose ∷ IntLiteral ∷ FloatLiteral ∷
+    StringLiteral ∷ [])
+follow ConstValue = names + set (Dollar ∷ ParenClose ∷ At ∷ BracketOpen ∷ BracketClose ∷ BraceOpen ∷ BraceClose ∷ IntLiteral ∷
+    FloatLiteral ∷ StringLiteral ∷ [])
+follow BooleanValue = names + set (Dollar ∷ ParenClose ∷ At ∷ BracketOpen ∷ BracketClose ∷ BraceOpen ∷ BraceClose ∷ IntLiteral ∷
+    FloatLiteral ∷ StringLiteral ∷ [])
+follow NullValue = names + set (Dollar ∷ ParenClose ∷ At ∷ BracketOpen ∷ BracketClose ∷ BraceOpen ∷ BraceClose ∷ IntLiteral ∷
+    FloatLiteral ∷ StringLiteral ∷ [])
+follow EnumValue = names + set (Dollar ∷ ParenClose ∷ At ∷ BracketOpen ∷ BracketClose ∷ BraceOpen ∷ BraceClose ∷ IntLiteral ∷
+    FloatLiteral ∷ StringLiteral ∷ [])
+follow Variable = names + set (Dollar ∷ ParenClose ∷ Colon ∷ BracketOpen ∷ BracketClose ∷ BraceOpen ∷ BraceClose ∷ IntLiteral ∷
+    FloatLiteral ∷ StringLiteral ∷ [])
+follow ListValue = names + set (Dollar ∷ ParenClose ∷ BracketOpen ∷ BracketClose ∷ BraceOpen ∷ BraceClose ∷ IntLiteral ∷
+    FloatLiteral ∷ StringLiteral ∷ [])
+follow ConstListValue = names + set (Dollar ∷ ParenClose ∷ At ∷ BracketOpen ∷ BracketClose ∷ BraceOpen ∷ BraceClose ∷ IntLiteral ∷
+    FloatLiteral ∷ StringLiteral ∷ [])
+follow ObjectValue = names + set (Dollar ∷ ParenClose ∷ BracketOpen ∷ BracketClose ∷ BraceOpen ∷ BraceClose ∷ IntLiteral ∷
+    FloatLiteral ∷ StringLiteral ∷ [])
+follow ConstObjectValue = names + set (Dollar ∷ ParenClose ∷ At ∷ BracketOpen ∷ BracketClose ∷ BraceOpen ∷ BraceClose ∷ IntLiteral ∷
+    FloatLiteral ∷ StringLiteral ∷ [])
 follow ObjectField = names + set (BraceClose ∷ [])
 follow ConstObjectField = names + set (BraceClose ∷ [])
 follow VariableDefinitions = set (At ∷ BraceOpen ∷ [])
 follow VariableDefinition = set (Dollar ∷ ParenClose ∷ [])
 follow DefaultValue = names + set (Dollar ∷ ParenClose ∷ At ∷ BraceClose ∷ StringLiteral ∷ [])
 follow TypeReference = names + set (Dollar ∷ ParenClose ∷ Equals ∷ At ∷ BracketClose ∷ BraceClose ∷ StringLiteral ∷ [])
-follow NamedType = names + set (Bang ∷ Dollar ∷ Ampersand ∷ ParenClose ∷ Equals ∷ At ∷ BracketClose ∷ BraceOpen ∷ Bar ∷ BraceClose ∷ StringLiteral ∷ [])
+follow NamedType = names + set (Bang ∷ Dollar ∷ Ampersand ∷ ParenClose ∷ Equals ∷ At ∷ BracketClose ∷ BraceOpen ∷ Bar ∷
+    BraceClose ∷ StringLiteral ∷ [])
 follow ListType = names + set (Bang ∷ Dollar ∷ ParenClose ∷ Equals ∷ At ∷ BracketClose ∷ BraceClose ∷ StringLiteral ∷ [])
 follow NonNullType = set ([])
 follow Directives = names + set (Spread ∷ BraceOpen ∷ BraceClose ∷ [])
@@ -57,37 +91,54 @@ follow RootOperationTypeDefinition = set (BraceClose ∷ OperationWord ∷ [])
 follow ScalarTypeDefinition = set ([])
 follow ObjectTypeDefinition = set ([])
 follow InterfaceTypeDefinition = set ([])
-follow ImplementsInterfaces = set (At ∷ BraceOpen ∷ StringLiteral ∷ OperationWord ∷ FragmentWord ∷ SchemaWord ∷ ScalarWord ∷ TypeWord ∷ InterfaceWord ∷ UnionWord ∷ EnumWord ∷ InputWord ∷ DirectiveWord ∷ ExtendWord ∷ [])
-follow FieldsDefinition = set (BraceOpen ∷ StringLiteral ∷ OperationWord ∷ FragmentWord ∷ SchemaWord ∷ ScalarWord ∷ TypeWord ∷ InterfaceWord ∷ UnionWord ∷ EnumWord ∷ InputWord ∷ DirectiveWord ∷ ExtendWord ∷ [])
+follow ImplementsInterfaces = set (At ∷ BraceOpen ∷ StringLiteral ∷ OperationWord ∷ FragmentWord ∷ SchemaWord ∷ ScalarWord ∷
+    TypeWord ∷ InterfaceWord ∷ UnionWord ∷ EnumWord ∷ InputWord ∷ DirectiveWord ∷ ExtendWord ∷ [])
+follow FieldsDefinition = set (BraceOpen ∷ StringLiteral ∷ OperationWord ∷ FragmentWord ∷ SchemaWord ∷ ScalarWord ∷ TypeWord ∷
+    InterfaceWord ∷ UnionWord ∷ EnumWord ∷ InputWord ∷ DirectiveWord ∷ ExtendWord ∷ [])
 follow FieldDefinition = names + set (BraceClose ∷ StringLiteral ∷ [])
 follow ArgumentsDefinition = set (Colon ∷ OnWord ∷ RepeatableWord ∷ [])
 follow InputValueDefinition = names + set (ParenClose ∷ BraceClose ∷ StringLiteral ∷ [])
 follow UnionTypeDefinition = set ([])
-follow UnionMemberTypes = set (BraceOpen ∷ StringLiteral ∷ OperationWord ∷ FragmentWord ∷ SchemaWord ∷ ScalarWord ∷ TypeWord ∷ InterfaceWord ∷ UnionWord ∷ EnumWord ∷ InputWord ∷ DirectiveWord ∷ ExtendWord ∷ [])
+follow UnionMemberTypes = set (BraceOpen ∷ StringLiteral ∷ OperationWord ∷ FragmentWord ∷ SchemaWord ∷ ScalarWord ∷ TypeWord ∷
+    InterfaceWord ∷ UnionWord ∷ EnumWord ∷ InputWord ∷ DirectiveWord ∷ ExtendWord ∷ [])
 follow EnumTypeDefinition = set ([])
-follow EnumValuesDefinition = set (BraceOpen ∷ StringLiteral ∷ OperationWord ∷ FragmentWord ∷ SchemaWord ∷ ScalarWord ∷ TypeWord ∷ InterfaceWord ∷ UnionWord ∷ EnumWord ∷ InputWord ∷ DirectiveWord ∷ ExtendWord ∷ [])
+follow EnumValuesDefinition = set (BraceOpen ∷ StringLiteral ∷ OperationWord ∷ FragmentWord ∷ SchemaWord ∷ ScalarWord ∷ TypeWord ∷
+    InterfaceWord ∷ UnionWord ∷ EnumWord ∷ InputWord ∷ DirectiveWord ∷ ExtendWord ∷ [])
 follow EnumValueDefinition = names - set (BooleanWord ∷ NullWord ∷ []) + set (BraceClose ∷ StringLiteral ∷ [])
 follow InputObjectTypeDefinition = set ([])
-follow InputFieldsDefinition = set (BraceOpen ∷ StringLiteral ∷ OperationWord ∷ FragmentWord ∷ SchemaWord ∷ ScalarWord ∷ TypeWord ∷ InterfaceWord ∷ UnionWord ∷ EnumWord ∷ InputWord ∷ DirectiveWord ∷ ExtendWord ∷ [])
+follow InputFieldsDefinition = set (BraceOpen ∷ StringLiteral ∷ OperationWord ∷ FragmentWord ∷ SchemaWord ∷ ScalarWord ∷ TypeWord ∷
+    InterfaceWord ∷ UnionWord ∷ EnumWord ∷ InputWord ∷ DirectiveWord ∷ ExtendWord ∷ [])
 follow DirectiveDefinition = set ([])
-follow Extension = set (BraceOpen ∷ StringLiteral ∷ OperationWord ∷ FragmentWord ∷ SchemaWord ∷ ScalarWord ∷ TypeWord ∷ InterfaceWord ∷ UnionWord ∷ EnumWord ∷ InputWord ∷ DirectiveWord ∷ ExtendWord ∷ [])
+follow Extension = set (BraceOpen ∷ StringLiteral ∷ OperationWord ∷ FragmentWord ∷ SchemaWord ∷ ScalarWord ∷ TypeWord ∷
+    InterfaceWord ∷ UnionWord ∷ EnumWord ∷ InputWord ∷ DirectiveWord ∷ ExtendWord ∷ [])
 follow FieldSet = set ([])
 follow OperationName = set (ParenOpen ∷ At ∷ BraceOpen ∷ [])
 follow TypeCore = names + set (Bang ∷ Dollar ∷ ParenClose ∷ Equals ∷ At ∷ BracketClose ∷ BraceClose ∷ StringLiteral ∷ [])
-follow RootOperations = set (BraceOpen ∷ StringLiteral ∷ OperationWord ∷ FragmentWord ∷ SchemaWord ∷ ScalarWord ∷ TypeWord ∷ InterfaceWord ∷ UnionWord ∷ EnumWord ∷ InputWord ∷ DirectiveWord ∷ ExtendWord ∷ [])
+follow RootOperations = set (BraceOpen ∷ StringLiteral ∷ OperationWord ∷ FragmentWord ∷ SchemaWord ∷ ScalarWord ∷ TypeWord ∷
+    InterfaceWord ∷ UnionWord ∷ EnumWord ∷ InputWord ∷ DirectiveWord ∷ ExtendWord ∷ [])
 follow AmpersandSign = names
-follow AmpersandType = set (Ampersand ∷ At ∷ BraceOpen ∷ StringLiteral ∷ OperationWord ∷ FragmentWord ∷ SchemaWord ∷ ScalarWord ∷ TypeWord ∷ InterfaceWord ∷ UnionWord ∷ EnumWord ∷ InputWord ∷ DirectiveWord ∷ ExtendWord ∷ [])
+follow AmpersandType = set (Ampersand ∷ At ∷ BraceOpen ∷ StringLiteral ∷ OperationWord ∷ FragmentWord ∷ SchemaWord ∷ ScalarWord ∷
+    TypeWord ∷ InterfaceWord ∷ UnionWord ∷ EnumWord ∷ InputWord ∷ DirectiveWord ∷ ExtendWord ∷ [])
 follow BarSign = names
-follow BarType = set (BraceOpen ∷ Bar ∷ StringLiteral ∷ OperationWord ∷ FragmentWord ∷ SchemaWord ∷ ScalarWord ∷ TypeWord ∷ InterfaceWord ∷ UnionWord ∷ EnumWord ∷ InputWord ∷ DirectiveWord ∷ ExtendWord ∷ [])
-follow BarLocation = set (BraceOpen ∷ Bar ∷ StringLiteral ∷ OperationWord ∷ FragmentWord ∷ SchemaWord ∷ ScalarWord ∷ TypeWord ∷ InterfaceWord ∷ UnionWord ∷ EnumWord ∷ InputWord ∷ DirectiveWord ∷ ExtendWord ∷ [])
+follow BarType = set (BraceOpen ∷ Bar ∷ StringLiteral ∷ OperationWord ∷ FragmentWord ∷ SchemaWord ∷ ScalarWord ∷ TypeWord ∷
+    InterfaceWord ∷ UnionWord ∷ EnumWord ∷ InputWord ∷ DirectiveWord ∷ ExtendWord ∷ [])
+follow BarLocation = set (BraceOpen ∷ Bar ∷ StringLiteral ∷ OperationWord ∷ FragmentWord ∷ SchemaWord ∷ ScalarWord ∷ TypeWord ∷
+    InterfaceWord ∷ UnionWord ∷ EnumWord ∷ InputWord ∷ DirectiveWord ∷ ExtendWord ∷ [])
 follow RepeatableSign = set (OnWord ∷ [])
-follow ExtendedDefinition = set (BraceOpen ∷ StringLiteral ∷ OperationWord ∷ FragmentWord ∷ SchemaWord ∷ ScalarWord ∷ TypeWord ∷ InterfaceWord ∷ UnionWord ∷ EnumWord ∷ InputWord ∷ DirectiveWord ∷ ExtendWord ∷ [])
-follow SchemaParts = set (BraceOpen ∷ StringLiteral ∷ OperationWord ∷ FragmentWord ∷ SchemaWord ∷ ScalarWord ∷ TypeWord ∷ InterfaceWord ∷ UnionWord ∷ EnumWord ∷ InputWord ∷ DirectiveWord ∷ ExtendWord ∷ [])
-follow ObjectParts = set (BraceOpen ∷ StringLiteral ∷ OperationWord ∷ FragmentWord ∷ SchemaWord ∷ ScalarWord ∷ TypeWord ∷ InterfaceWord ∷ UnionWord ∷ EnumWord ∷ InputWord ∷ DirectiveWord ∷ ExtendWord ∷ [])
-follow UnionParts = set (BraceOpen ∷ StringLiteral ∷ OperationWord ∷ FragmentWord ∷ SchemaWord ∷ ScalarWord ∷ TypeWord ∷ InterfaceWord ∷ UnionWord ∷ EnumWord ∷ InputWord ∷ DirectiveWord ∷ ExtendWord ∷ [])
-follow EnumParts = set (BraceOpen ∷ StringLiteral ∷ OperationWord ∷ FragmentWord ∷ SchemaWord ∷ ScalarWord ∷ TypeWord ∷ InterfaceWord ∷ UnionWord ∷ EnumWord ∷ InputWord ∷ DirectiveWord ∷ ExtendWord ∷ [])
-follow InputParts = set (BraceOpen ∷ StringLiteral ∷ OperationWord ∷ FragmentWord ∷ SchemaWord ∷ ScalarWord ∷ TypeWord ∷ InterfaceWord ∷ UnionWord ∷ EnumWord ∷ InputWord ∷ DirectiveWord ∷ ExtendWord ∷ [])
-follow DescribedDefinition = set (BraceOpen ∷ StringLiteral ∷ OperationWord ∷ FragmentWord ∷ SchemaWord ∷ ScalarWord ∷ TypeWord ∷ InterfaceWord ∷ UnionWord ∷ EnumWord ∷ InputWord ∷ DirectiveWord ∷ ExtendWord ∷ [])
+follow ExtendedDefinition = set (BraceOpen ∷ StringLiteral ∷ OperationWord ∷ FragmentWord ∷ SchemaWord ∷ ScalarWord ∷ TypeWord ∷
+    InterfaceWord ∷ UnionWord ∷ EnumWord ∷ InputWord ∷ DirectiveWord ∷ ExtendWord ∷ [])
+follow SchemaParts = set (BraceOpen ∷ StringLiteral ∷ OperationWord ∷ FragmentWord ∷ SchemaWord ∷ ScalarWord ∷ TypeWord ∷
+    InterfaceWord ∷ UnionWord ∷ EnumWord ∷ InputWord ∷ DirectiveWord ∷ ExtendWord ∷ [])
+follow ObjectParts = set (BraceOpen ∷ StringLiteral ∷ OperationWord ∷ FragmentWord ∷ SchemaWord ∷ ScalarWord ∷ TypeWord ∷
+    InterfaceWord ∷ UnionWord ∷ EnumWord ∷ InputWord ∷ DirectiveWord ∷ ExtendWord ∷ [])
+follow UnionParts = set (BraceOpen ∷ StringLiteral ∷ OperationWord ∷ FragmentWord ∷ SchemaWord ∷ ScalarWord ∷ TypeWord ∷
+    InterfaceWord ∷ UnionWord ∷ EnumWord ∷ InputWord ∷ DirectiveWord ∷ ExtendWord ∷ [])
+follow EnumParts = set (BraceOpen ∷ StringLiteral ∷ OperationWord ∷ FragmentWord ∷ SchemaWord ∷ ScalarWord ∷ TypeWord ∷
+    InterfaceWord ∷ UnionWord ∷ EnumWord ∷ InputWord ∷ DirectiveWord ∷ ExtendWord ∷ [])
+follow InputParts = set (BraceOpen ∷ StringLiteral ∷ OperationWord ∷ FragmentWord ∷ SchemaWord ∷ ScalarWord ∷ TypeWord ∷
+    InterfaceWord ∷ UnionWord ∷ EnumWord ∷ InputWord ∷ DirectiveWord ∷ ExtendWord ∷ [])
+follow DescribedDefinition = set (BraceOpen ∷ StringLiteral ∷ OperationWord ∷ FragmentWord ∷ SchemaWord ∷ ScalarWord ∷ TypeWord ∷
+    InterfaceWord ∷ UnionWord ∷ EnumWord ∷ InputWord ∷ DirectiveWord ∷ ExtendWord ∷ [])
 follow AfterSpread = names + set (Spread ∷ BraceClose ∷ [])
 follow AliasTail = names + set (ParenOpen ∷ Spread ∷ At ∷ BraceOpen ∷ BraceClose ∷ [])
 follow BangTail = names + set (Dollar ∷ ParenClose ∷ Equals ∷ At ∷ BracketClose ∷ BraceClose ∷ StringLiteral ∷ [])

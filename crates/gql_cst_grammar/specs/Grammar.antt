@@ -4,12 +4,32 @@
 -- `Eager` stands for a part in braces that may be left out, unless the next word is `{`: `[lookahead ≠ {]`.
 use Rattle.std.specs.Prelude.{List, [], ◌∷◌}
 use Rattle.gql_cst_grammar.specs.declared.word.Word.{Word}
-use Rattle.gql_cst_grammar.specs.declared.word.Word.TheVariants.{Bang, Dollar, Ampersand, ParenOpen, ParenClose, Spread, Colon, Equals, At, BracketOpen, BracketClose, BraceOpen, Bar, BraceClose, IntLiteral, FloatLiteral, StringLiteral, OperationWord, FragmentWord, OnWord, BooleanWord, NullWord, SchemaWord, ScalarWord, TypeWord, InterfaceWord, ImplementsWord, UnionWord, EnumWord, InputWord, DirectiveWord, RepeatableWord, ExtendWord, LocationWord}
+use Rattle.gql_cst_grammar.specs.declared.word.Word.TheVariants.{Bang, Dollar, Ampersand, ParenOpen, ParenClose, Spread, Colon, Equals, At}
+use Rattle.gql_cst_grammar.specs.declared.word.Word.TheVariants.{BracketOpen, BracketClose, BraceOpen, Bar, BraceClose, IntLiteral, FloatLiteral}
+use Rattle.gql_cst_grammar.specs.declared.word.Word.TheVariants.{StringLiteral, OperationWord, FragmentWord, OnWord, BooleanWord, NullWord}
+use Rattle.gql_cst_grammar.specs.declared.word.Word.TheVariants.{SchemaWord, ScalarWord, TypeWord, InterfaceWord, ImplementsWord, UnionWord, EnumWord}
+use Rattle.gql_cst_grammar.specs.declared.word.Word.TheVariants.{InputWord, DirectiveWord, RepeatableWord, ExtendWord, LocationWord}
 use Rattle.gql_cst_grammar.specs.declared.symbol.Terminal.TheVariants.{Exactly, AnyName, NameButOn, NameButLiteral}
 use Rattle.gql_cst_grammar.specs.declared.symbol.Symbol.{Symbol}
 use Rattle.gql_cst_grammar.specs.declared.symbol.Symbol.TheVariants.{Token, One, Optional, Repeated, Eager}
 use Rattle.gql_cst_grammar.specs.declared.rule.Rule.{Rule}
-use Rattle.gql_cst_grammar.specs.declared.rule.Rule.TheVariants.{Document, Definition, OperationDefinition, OperationType, SelectionSet, Selection, Field, Alias, Arguments, Argument, FragmentSpread, InlineFragment, FragmentDefinition, FragmentName, TypeCondition, Value, ConstValue, BooleanValue, NullValue, EnumValue, Variable, ListValue, ConstListValue, ObjectValue, ConstObjectValue, ObjectField, ConstObjectField, VariableDefinitions, VariableDefinition, DefaultValue, TypeReference, NamedType, ListType, NonNullType, Directives, ConstDirectives, Directive, ConstDirective, ConstArguments, ConstArgument, Description, SchemaDefinition, RootOperationTypeDefinition, ScalarTypeDefinition, ObjectTypeDefinition, InterfaceTypeDefinition, ImplementsInterfaces, FieldsDefinition, FieldDefinition, ArgumentsDefinition, InputValueDefinition, UnionTypeDefinition, UnionMemberTypes, EnumTypeDefinition, EnumValuesDefinition, EnumValueDefinition, InputObjectTypeDefinition, InputFieldsDefinition, DirectiveDefinition, Extension, FieldSet, OperationName, TypeCore, RootOperations, AmpersandSign, AmpersandType, BarSign, BarType, BarLocation, RepeatableSign, ExtendedDefinition, SchemaParts, ObjectParts, UnionParts, EnumParts, InputParts, DescribedDefinition, AfterSpread, AliasTail, BangTail}
+use Rattle.gql_cst_grammar.specs.declared.rule.Rule.TheVariants.{Document, Definition, OperationDefinition, OperationType, SelectionSet, Selection}
+use Rattle.gql_cst_grammar.specs.declared.rule.Rule.TheVariants.{Field, Alias, Arguments, Argument, FragmentSpread, InlineFragment}
+use Rattle.gql_cst_grammar.specs.declared.rule.Rule.TheVariants.{FragmentDefinition, FragmentName, TypeCondition, Value, ConstValue, BooleanValue}
+use Rattle.gql_cst_grammar.specs.declared.rule.Rule.TheVariants.{NullValue, EnumValue, Variable, ListValue, ConstListValue, ObjectValue}
+use Rattle.gql_cst_grammar.specs.declared.rule.Rule.TheVariants.{ConstObjectValue, ObjectField, ConstObjectField, VariableDefinitions}
+use Rattle.gql_cst_grammar.specs.declared.rule.Rule.TheVariants.{VariableDefinition, DefaultValue, TypeReference, NamedType, ListType, NonNullType}
+use Rattle.gql_cst_grammar.specs.declared.rule.Rule.TheVariants.{Directives, ConstDirectives, Directive, ConstDirective, ConstArguments}
+use Rattle.gql_cst_grammar.specs.declared.rule.Rule.TheVariants.{ConstArgument, Description, SchemaDefinition, RootOperationTypeDefinition}
+use Rattle.gql_cst_grammar.specs.declared.rule.Rule.TheVariants.{ScalarTypeDefinition, ObjectTypeDefinition, InterfaceTypeDefinition}
+use Rattle.gql_cst_grammar.specs.declared.rule.Rule.TheVariants.{ImplementsInterfaces, FieldsDefinition, FieldDefinition, ArgumentsDefinition}
+use Rattle.gql_cst_grammar.specs.declared.rule.Rule.TheVariants.{InputValueDefinition, UnionTypeDefinition, UnionMemberTypes, EnumTypeDefinition}
+use Rattle.gql_cst_grammar.specs.declared.rule.Rule.TheVariants.{EnumValuesDefinition, EnumValueDefinition, InputObjectTypeDefinition}
+use Rattle.gql_cst_grammar.specs.declared.rule.Rule.TheVariants.{InputFieldsDefinition, DirectiveDefinition, Extension, FieldSet, OperationName}
+use Rattle.gql_cst_grammar.specs.declared.rule.Rule.TheVariants.{TypeCore, RootOperations, AmpersandSign, AmpersandType, BarSign, BarType}
+use Rattle.gql_cst_grammar.specs.declared.rule.Rule.TheVariants.{BarLocation, RepeatableSign, ExtendedDefinition, SchemaParts, ObjectParts}
+use Rattle.gql_cst_grammar.specs.declared.rule.Rule.TheVariants.{UnionParts, EnumParts, InputParts, DescribedDefinition, AfterSpread, AliasTail}
+use Rattle.gql_cst_grammar.specs.declared.rule.Rule.TheVariants.{BangTail}
 
 -- the one word
 abbrev pub word : Word → Symbol
@@ -100,21 +120,29 @@ declared Description = (word StringLiteral ∷ []) ∷ []
 declared SchemaDefinition = (Optional Description ∷ word SchemaWord ∷ Optional ConstDirectives ∷ One RootOperations ∷ []) ∷ []
 declared RootOperationTypeDefinition = (One OperationType ∷ word Colon ∷ One NamedType ∷ []) ∷ []
 declared ScalarTypeDefinition = (Optional Description ∷ word ScalarWord ∷ Token AnyName ∷ Optional ConstDirectives ∷ []) ∷ []
-declared ObjectTypeDefinition = (Optional Description ∷ word TypeWord ∷ Token AnyName ∷ Optional ImplementsInterfaces ∷ Optional ConstDirectives ∷ Eager FieldsDefinition ∷ []) ∷ []
-declared InterfaceTypeDefinition = (Optional Description ∷ word InterfaceWord ∷ Token AnyName ∷ Optional ImplementsInterfaces ∷ Optional ConstDirectives ∷ Eager FieldsDefinition ∷ []) ∷ []
+declared ObjectTypeDefinition = (Optional Description ∷ word TypeWord ∷ Token AnyName ∷ Optional ImplementsInterfaces ∷
+    Optional ConstDirectives ∷ Eager FieldsDefinition ∷ []) ∷ []
+declared InterfaceTypeDefinition = (Optional Description ∷ word InterfaceWord ∷ Token AnyName ∷ Optional ImplementsInterfaces ∷
+    Optional ConstDirectives ∷ Eager FieldsDefinition ∷ []) ∷ []
 declared ImplementsInterfaces = (word ImplementsWord ∷ Optional AmpersandSign ∷ One NamedType ∷ Repeated AmpersandType ∷ []) ∷ []
 declared FieldsDefinition = (word BraceOpen ∷ One FieldDefinition ∷ Repeated FieldDefinition ∷ word BraceClose ∷ []) ∷ []
-declared FieldDefinition = (Optional Description ∷ Token AnyName ∷ Optional ArgumentsDefinition ∷ word Colon ∷ One TypeReference ∷ Optional ConstDirectives ∷ []) ∷ []
+declared FieldDefinition = (Optional Description ∷ Token AnyName ∷ Optional ArgumentsDefinition ∷ word Colon ∷ One TypeReference ∷
+    Optional ConstDirectives ∷ []) ∷ []
 declared ArgumentsDefinition = (word ParenOpen ∷ One InputValueDefinition ∷ Repeated InputValueDefinition ∷ word ParenClose ∷ []) ∷ []
-declared InputValueDefinition = (Optional Description ∷ Token AnyName ∷ word Colon ∷ One TypeReference ∷ Optional DefaultValue ∷ Optional ConstDirectives ∷ []) ∷ []
-declared UnionTypeDefinition = (Optional Description ∷ word UnionWord ∷ Token AnyName ∷ Optional ConstDirectives ∷ Optional UnionMemberTypes ∷ []) ∷ []
+declared InputValueDefinition = (Optional Description ∷ Token AnyName ∷ word Colon ∷ One TypeReference ∷ Optional DefaultValue ∷
+    Optional ConstDirectives ∷ []) ∷ []
+declared UnionTypeDefinition = (Optional Description ∷ word UnionWord ∷ Token AnyName ∷ Optional ConstDirectives ∷
+    Optional UnionMemberTypes ∷ []) ∷ []
 declared UnionMemberTypes = (word Equals ∷ Optional BarSign ∷ One NamedType ∷ Repeated BarType ∷ []) ∷ []
-declared EnumTypeDefinition = (Optional Description ∷ word EnumWord ∷ Token AnyName ∷ Optional ConstDirectives ∷ Eager EnumValuesDefinition ∷ []) ∷ []
+declared EnumTypeDefinition = (Optional Description ∷ word EnumWord ∷ Token AnyName ∷ Optional ConstDirectives ∷
+    Eager EnumValuesDefinition ∷ []) ∷ []
 declared EnumValuesDefinition = (word BraceOpen ∷ One EnumValueDefinition ∷ Repeated EnumValueDefinition ∷ word BraceClose ∷ []) ∷ []
 declared EnumValueDefinition = (Optional Description ∷ One EnumValue ∷ Optional ConstDirectives ∷ []) ∷ []
-declared InputObjectTypeDefinition = (Optional Description ∷ word InputWord ∷ Token AnyName ∷ Optional ConstDirectives ∷ Eager InputFieldsDefinition ∷ []) ∷ []
+declared InputObjectTypeDefinition = (Optional Description ∷ word InputWord ∷ Token AnyName ∷ Optional ConstDirectives ∷
+    Eager InputFieldsDefinition ∷ []) ∷ []
 declared InputFieldsDefinition = (word BraceOpen ∷ One InputValueDefinition ∷ Repeated InputValueDefinition ∷ word BraceClose ∷ []) ∷ []
-declared DirectiveDefinition = (Optional Description ∷ word DirectiveWord ∷ word At ∷ Token AnyName ∷ Optional ArgumentsDefinition ∷ Optional RepeatableSign ∷ word OnWord ∷ Optional BarSign ∷ word LocationWord ∷ Repeated BarLocation ∷ []) ∷ []
+declared DirectiveDefinition = (Optional Description ∷ word DirectiveWord ∷ word At ∷ Token AnyName ∷ Optional ArgumentsDefinition ∷
+    Optional RepeatableSign ∷ word OnWord ∷ Optional BarSign ∷ word LocationWord ∷ Repeated BarLocation ∷ []) ∷ []
 declared Extension = (word ExtendWord ∷ One ExtendedDefinition ∷ []) ∷ []
 declared FieldSet =
     (One SelectionSet ∷ []) ∷

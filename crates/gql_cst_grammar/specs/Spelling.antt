@@ -2,7 +2,11 @@
 use Rattle.std.specs.Prelude.{ℕ, Bool, ◌||◌, ◌==◌, if◌then◌else◌, List, codes}
 use Rattle.std.specs.Str.{bytes_eq}
 use Rattle.gql_cst_grammar.specs.declared.word.Word.{Word}
-use Rattle.gql_cst_grammar.specs.declared.word.Word.TheVariants.{Bang, Dollar, Ampersand, ParenOpen, ParenClose, Colon, Equals, At, BracketOpen, BracketClose, BraceOpen, Bar, BraceClose, Spread, FragmentWord, OnWord, NullWord, SchemaWord, ScalarWord, TypeWord, InterfaceWord, ImplementsWord, UnionWord, EnumWord, InputWord, DirectiveWord, RepeatableWord, ExtendWord, OperationWord, BooleanWord, LocationWord, OtherName}
+use Rattle.gql_cst_grammar.specs.declared.word.Word.TheVariants.{Bang, Dollar, Ampersand, ParenOpen, ParenClose, Colon, Equals, At, BracketOpen}
+use Rattle.gql_cst_grammar.specs.declared.word.Word.TheVariants.{BracketClose, BraceOpen, Bar, BraceClose, Spread, FragmentWord, OnWord, NullWord}
+use Rattle.gql_cst_grammar.specs.declared.word.Word.TheVariants.{SchemaWord, ScalarWord, TypeWord, InterfaceWord, ImplementsWord, UnionWord, EnumWord}
+use Rattle.gql_cst_grammar.specs.declared.word.Word.TheVariants.{InputWord, DirectiveWord, RepeatableWord, ExtendWord, OperationWord, BooleanWord}
+use Rattle.gql_cst_grammar.specs.declared.word.Word.TheVariants.{LocationWord, OtherName}
 
 -- a punctuator, by its first byte
 abbrev pub word_of_punctuator : ℕ → Word
@@ -25,12 +29,17 @@ word_of_punctuator b =
 -- ExecutableDirectiveLocation
 abbrev pub is_executable_location : List ℕ → Bool
 is_executable_location name =
-    bytes_eq name (codes "QUERY") || bytes_eq name (codes "MUTATION") || bytes_eq name (codes "SUBSCRIPTION") || bytes_eq name (codes "FIELD") || bytes_eq name (codes "FRAGMENT_DEFINITION") || bytes_eq name (codes "FRAGMENT_SPREAD") || bytes_eq name (codes "INLINE_FRAGMENT") || bytes_eq name (codes "VARIABLE_DEFINITION")
+    bytes_eq name (codes "QUERY") || bytes_eq name (codes "MUTATION") || bytes_eq name (codes "SUBSCRIPTION") || bytes_eq name (codes "FIELD")
+    || bytes_eq name (codes "FRAGMENT_DEFINITION") || bytes_eq name (codes "FRAGMENT_SPREAD") || bytes_eq name (codes "INLINE_FRAGMENT")
+    || bytes_eq name (codes "VARIABLE_DEFINITION")
 
 -- TypeSystemDirectiveLocation
 abbrev pub is_type_system_location : List ℕ → Bool
 is_type_system_location name =
-    bytes_eq name (codes "SCHEMA") || bytes_eq name (codes "SCALAR") || bytes_eq name (codes "OBJECT") || bytes_eq name (codes "FIELD_DEFINITION") || bytes_eq name (codes "ARGUMENT_DEFINITION") || bytes_eq name (codes "INTERFACE") || bytes_eq name (codes "UNION") || bytes_eq name (codes "ENUM") || bytes_eq name (codes "ENUM_VALUE") || bytes_eq name (codes "INPUT_OBJECT") || bytes_eq name (codes "INPUT_FIELD_DEFINITION")
+    bytes_eq name (codes "SCHEMA") || bytes_eq name (codes "SCALAR") || bytes_eq name (codes "OBJECT") || bytes_eq name (codes "FIELD_DEFINITION")
+    || bytes_eq name (codes "ARGUMENT_DEFINITION") || bytes_eq name (codes "INTERFACE") || bytes_eq name (codes "UNION")
+    || bytes_eq name (codes "ENUM") || bytes_eq name (codes "ENUM_VALUE") || bytes_eq name (codes "INPUT_OBJECT")
+    || bytes_eq name (codes "INPUT_FIELD_DEFINITION")
 
 abbrev pub keyword : List ℕ → Word
 keyword name =

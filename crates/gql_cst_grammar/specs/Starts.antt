@@ -1,18 +1,40 @@
 -- The words that a rule can begin with, and the way to write it that a word chooses.
 use Rattle.std.specs.Prelude.{ℕ, ◌+◌, ◌-◌, Bool, false, ◌||◌, if◌then◌else◌, List, [], ◌∷◌, Option, Some, None}
 use Rattle.gql_cst_grammar.specs.declared.word.Word.{Word}
-use Rattle.gql_cst_grammar.specs.declared.word.Word.TheVariants.{Bang, Dollar, Ampersand, ParenOpen, Spread, Colon, Equals, At, BracketOpen, BraceOpen, Bar, IntLiteral, FloatLiteral, StringLiteral, OperationWord, FragmentWord, OnWord, BooleanWord, NullWord, SchemaWord, ScalarWord, TypeWord, InterfaceWord, ImplementsWord, UnionWord, EnumWord, InputWord, DirectiveWord, RepeatableWord, ExtendWord}
+use Rattle.gql_cst_grammar.specs.declared.word.Word.TheVariants.{Bang, Dollar, Ampersand, ParenOpen, Spread, Colon, Equals, At, BracketOpen}
+use Rattle.gql_cst_grammar.specs.declared.word.Word.TheVariants.{BraceOpen, Bar, IntLiteral, FloatLiteral, StringLiteral, OperationWord, FragmentWord}
+use Rattle.gql_cst_grammar.specs.declared.word.Word.TheVariants.{OnWord, BooleanWord, NullWord, SchemaWord, ScalarWord, TypeWord, InterfaceWord}
+use Rattle.gql_cst_grammar.specs.declared.word.Word.TheVariants.{ImplementsWord, UnionWord, EnumWord, InputWord, DirectiveWord, RepeatableWord}
+use Rattle.gql_cst_grammar.specs.declared.word.Word.TheVariants.{ExtendWord}
 use Rattle.gql_cst_grammar.specs.declared.symbol.Symbol.{Symbol}
 use Rattle.gql_cst_grammar.specs.declared.symbol.Symbol.TheVariants.{Token, One, Optional, Repeated, Eager, Wrap, Close}
 use Rattle.gql_cst_grammar.specs.declared.rule.Rule.{Rule}
-use Rattle.gql_cst_grammar.specs.declared.rule.Rule.TheVariants.{Document, Definition, OperationDefinition, OperationType, SelectionSet, Selection, Field, Alias, Arguments, Argument, FragmentSpread, InlineFragment, FragmentDefinition, FragmentName, TypeCondition, Value, ConstValue, BooleanValue, NullValue, EnumValue, Variable, ListValue, ConstListValue, ObjectValue, ConstObjectValue, ObjectField, ConstObjectField, VariableDefinitions, VariableDefinition, DefaultValue, TypeReference, NamedType, ListType, NonNullType, Directives, ConstDirectives, Directive, ConstDirective, ConstArguments, ConstArgument, Description, SchemaDefinition, RootOperationTypeDefinition, ScalarTypeDefinition, ObjectTypeDefinition, InterfaceTypeDefinition, ImplementsInterfaces, FieldsDefinition, FieldDefinition, ArgumentsDefinition, InputValueDefinition, UnionTypeDefinition, UnionMemberTypes, EnumTypeDefinition, EnumValuesDefinition, EnumValueDefinition, InputObjectTypeDefinition, InputFieldsDefinition, DirectiveDefinition, Extension, FieldSet, OperationName, TypeCore, RootOperations, AmpersandSign, AmpersandType, BarSign, BarType, BarLocation, RepeatableSign, ExtendedDefinition, SchemaParts, ObjectParts, UnionParts, EnumParts, InputParts, DescribedDefinition, AfterSpread, AliasTail, BangTail}
+use Rattle.gql_cst_grammar.specs.declared.rule.Rule.TheVariants.{Document, Definition, OperationDefinition, OperationType, SelectionSet, Selection}
+use Rattle.gql_cst_grammar.specs.declared.rule.Rule.TheVariants.{Field, Alias, Arguments, Argument, FragmentSpread, InlineFragment}
+use Rattle.gql_cst_grammar.specs.declared.rule.Rule.TheVariants.{FragmentDefinition, FragmentName, TypeCondition, Value, ConstValue, BooleanValue}
+use Rattle.gql_cst_grammar.specs.declared.rule.Rule.TheVariants.{NullValue, EnumValue, Variable, ListValue, ConstListValue, ObjectValue}
+use Rattle.gql_cst_grammar.specs.declared.rule.Rule.TheVariants.{ConstObjectValue, ObjectField, ConstObjectField, VariableDefinitions}
+use Rattle.gql_cst_grammar.specs.declared.rule.Rule.TheVariants.{VariableDefinition, DefaultValue, TypeReference, NamedType, ListType, NonNullType}
+use Rattle.gql_cst_grammar.specs.declared.rule.Rule.TheVariants.{Directives, ConstDirectives, Directive, ConstDirective, ConstArguments}
+use Rattle.gql_cst_grammar.specs.declared.rule.Rule.TheVariants.{ConstArgument, Description, SchemaDefinition, RootOperationTypeDefinition}
+use Rattle.gql_cst_grammar.specs.declared.rule.Rule.TheVariants.{ScalarTypeDefinition, ObjectTypeDefinition, InterfaceTypeDefinition}
+use Rattle.gql_cst_grammar.specs.declared.rule.Rule.TheVariants.{ImplementsInterfaces, FieldsDefinition, FieldDefinition, ArgumentsDefinition}
+use Rattle.gql_cst_grammar.specs.declared.rule.Rule.TheVariants.{InputValueDefinition, UnionTypeDefinition, UnionMemberTypes, EnumTypeDefinition}
+use Rattle.gql_cst_grammar.specs.declared.rule.Rule.TheVariants.{EnumValuesDefinition, EnumValueDefinition, InputObjectTypeDefinition}
+use Rattle.gql_cst_grammar.specs.declared.rule.Rule.TheVariants.{InputFieldsDefinition, DirectiveDefinition, Extension, FieldSet, OperationName}
+use Rattle.gql_cst_grammar.specs.declared.rule.Rule.TheVariants.{TypeCore, RootOperations, AmpersandSign, AmpersandType, BarSign, BarType}
+use Rattle.gql_cst_grammar.specs.declared.rule.Rule.TheVariants.{BarLocation, RepeatableSign, ExtendedDefinition, SchemaParts, ObjectParts}
+use Rattle.gql_cst_grammar.specs.declared.rule.Rule.TheVariants.{UnionParts, EnumParts, InputParts, DescribedDefinition, AfterSpread, AliasTail}
+use Rattle.gql_cst_grammar.specs.declared.rule.Rule.TheVariants.{BangTail}
 use Rattle.gql_cst_grammar.specs.Word.{takes, set, has, names}
 use Rattle.gql_cst_grammar.specs.Factored.{factored}
 
 -- the words that the rule can begin with
 abbrev pub first : Rule → ℕ
-first Document = set (BraceOpen ∷ StringLiteral ∷ OperationWord ∷ FragmentWord ∷ SchemaWord ∷ ScalarWord ∷ TypeWord ∷ InterfaceWord ∷ UnionWord ∷ EnumWord ∷ InputWord ∷ DirectiveWord ∷ ExtendWord ∷ [])
-first Definition = set (BraceOpen ∷ StringLiteral ∷ OperationWord ∷ FragmentWord ∷ SchemaWord ∷ ScalarWord ∷ TypeWord ∷ InterfaceWord ∷ UnionWord ∷ EnumWord ∷ InputWord ∷ DirectiveWord ∷ ExtendWord ∷ [])
+first Document = set (BraceOpen ∷ StringLiteral ∷ OperationWord ∷ FragmentWord ∷ SchemaWord ∷ ScalarWord ∷ TypeWord ∷ InterfaceWord ∷
+    UnionWord ∷ EnumWord ∷ InputWord ∷ DirectiveWord ∷ ExtendWord ∷ [])
+first Definition = set (BraceOpen ∷ StringLiteral ∷ OperationWord ∷ FragmentWord ∷ SchemaWord ∷ ScalarWord ∷ TypeWord ∷
+    InterfaceWord ∷ UnionWord ∷ EnumWord ∷ InputWord ∷ DirectiveWord ∷ ExtendWord ∷ [])
 first OperationDefinition = set (BraceOpen ∷ OperationWord ∷ [])
 first OperationType = set (OperationWord ∷ [])
 first SelectionSet = set (BraceOpen ∷ [])

@@ -3,7 +3,23 @@ use Rattle.std.specs.Prelude.{ℕ, ◌+◌, List, [], ◌∷◌}
 use Rattle.gql_cst_grammar.specs.declared.symbol.Symbol.{Symbol}
 use Rattle.gql_cst_grammar.specs.declared.symbol.Symbol.TheVariants.{Token, One, Optional, Repeated, Eager, Wrap, Close}
 use Rattle.gql_cst_grammar.specs.declared.rule.Rule.{Rule}
-use Rattle.gql_cst_grammar.specs.declared.rule.Rule.TheVariants.{Document, Definition, OperationDefinition, OperationType, SelectionSet, Selection, Field, Alias, Arguments, Argument, FragmentSpread, InlineFragment, FragmentDefinition, FragmentName, TypeCondition, Value, ConstValue, BooleanValue, NullValue, EnumValue, Variable, ListValue, ConstListValue, ObjectValue, ConstObjectValue, ObjectField, ConstObjectField, VariableDefinitions, VariableDefinition, DefaultValue, TypeReference, NamedType, ListType, NonNullType, Directives, ConstDirectives, Directive, ConstDirective, ConstArguments, ConstArgument, Description, SchemaDefinition, RootOperationTypeDefinition, ScalarTypeDefinition, ObjectTypeDefinition, InterfaceTypeDefinition, ImplementsInterfaces, FieldsDefinition, FieldDefinition, ArgumentsDefinition, InputValueDefinition, UnionTypeDefinition, UnionMemberTypes, EnumTypeDefinition, EnumValuesDefinition, EnumValueDefinition, InputObjectTypeDefinition, InputFieldsDefinition, DirectiveDefinition, Extension, FieldSet, OperationName, TypeCore, RootOperations, AmpersandSign, AmpersandType, BarSign, BarType, BarLocation, RepeatableSign, ExtendedDefinition, SchemaParts, ObjectParts, UnionParts, EnumParts, InputParts, DescribedDefinition, AfterSpread, AliasTail, BangTail}
+use Rattle.gql_cst_grammar.specs.declared.rule.Rule.TheVariants.{Document, Definition, OperationDefinition, OperationType, SelectionSet, Selection}
+use Rattle.gql_cst_grammar.specs.declared.rule.Rule.TheVariants.{Field, Alias, Arguments, Argument, FragmentSpread, InlineFragment}
+use Rattle.gql_cst_grammar.specs.declared.rule.Rule.TheVariants.{FragmentDefinition, FragmentName, TypeCondition, Value, ConstValue, BooleanValue}
+use Rattle.gql_cst_grammar.specs.declared.rule.Rule.TheVariants.{NullValue, EnumValue, Variable, ListValue, ConstListValue, ObjectValue}
+use Rattle.gql_cst_grammar.specs.declared.rule.Rule.TheVariants.{ConstObjectValue, ObjectField, ConstObjectField, VariableDefinitions}
+use Rattle.gql_cst_grammar.specs.declared.rule.Rule.TheVariants.{VariableDefinition, DefaultValue, TypeReference, NamedType, ListType, NonNullType}
+use Rattle.gql_cst_grammar.specs.declared.rule.Rule.TheVariants.{Directives, ConstDirectives, Directive, ConstDirective, ConstArguments}
+use Rattle.gql_cst_grammar.specs.declared.rule.Rule.TheVariants.{ConstArgument, Description, SchemaDefinition, RootOperationTypeDefinition}
+use Rattle.gql_cst_grammar.specs.declared.rule.Rule.TheVariants.{ScalarTypeDefinition, ObjectTypeDefinition, InterfaceTypeDefinition}
+use Rattle.gql_cst_grammar.specs.declared.rule.Rule.TheVariants.{ImplementsInterfaces, FieldsDefinition, FieldDefinition, ArgumentsDefinition}
+use Rattle.gql_cst_grammar.specs.declared.rule.Rule.TheVariants.{InputValueDefinition, UnionTypeDefinition, UnionMemberTypes, EnumTypeDefinition}
+use Rattle.gql_cst_grammar.specs.declared.rule.Rule.TheVariants.{EnumValuesDefinition, EnumValueDefinition, InputObjectTypeDefinition}
+use Rattle.gql_cst_grammar.specs.declared.rule.Rule.TheVariants.{InputFieldsDefinition, DirectiveDefinition, Extension, FieldSet, OperationName}
+use Rattle.gql_cst_grammar.specs.declared.rule.Rule.TheVariants.{TypeCore, RootOperations, AmpersandSign, AmpersandType, BarSign, BarType}
+use Rattle.gql_cst_grammar.specs.declared.rule.Rule.TheVariants.{BarLocation, RepeatableSign, ExtendedDefinition, SchemaParts, ObjectParts}
+use Rattle.gql_cst_grammar.specs.declared.rule.Rule.TheVariants.{UnionParts, EnumParts, InputParts, DescribedDefinition, AfterSpread, AliasTail}
+use Rattle.gql_cst_grammar.specs.declared.rule.Rule.TheVariants.{BangTail}
 
 -- at least the turns of each way to write the rule
 abbrev pub rank : Rule → ℕ

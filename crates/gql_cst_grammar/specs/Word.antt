@@ -1,7 +1,11 @@
 -- Words, and the sets of them that terminals stand for.
 use Rattle.std.specs.Prelude.{ℕ, ◌+◌, ◌/◌, ◌%◌, ◌^◌, Bool, not, ◌&&◌, ◌==◌, nat_le, List, [], ◌∷◌}
 use Rattle.gql_cst_grammar.specs.declared.word.Word.{Word}
-use Rattle.gql_cst_grammar.specs.declared.word.Word.TheVariants.{Bang, Dollar, Ampersand, ParenOpen, ParenClose, Spread, Colon, Equals, At, BracketOpen, BracketClose, BraceOpen, Bar, BraceClose, IntLiteral, FloatLiteral, StringLiteral, OtherName, OperationWord, FragmentWord, OnWord, BooleanWord, NullWord, SchemaWord, ScalarWord, TypeWord, InterfaceWord, ImplementsWord, UnionWord, EnumWord, InputWord, DirectiveWord, RepeatableWord, ExtendWord, LocationWord}
+use Rattle.gql_cst_grammar.specs.declared.word.Word.TheVariants.{Bang, Dollar, Ampersand, ParenOpen, ParenClose, Spread, Colon, Equals, At}
+use Rattle.gql_cst_grammar.specs.declared.word.Word.TheVariants.{BracketOpen, BracketClose, BraceOpen, Bar, BraceClose, IntLiteral, FloatLiteral}
+use Rattle.gql_cst_grammar.specs.declared.word.Word.TheVariants.{StringLiteral, OtherName, OperationWord, FragmentWord, OnWord, BooleanWord, NullWord}
+use Rattle.gql_cst_grammar.specs.declared.word.Word.TheVariants.{SchemaWord, ScalarWord, TypeWord, InterfaceWord, ImplementsWord, UnionWord, EnumWord}
+use Rattle.gql_cst_grammar.specs.declared.word.Word.TheVariants.{InputWord, DirectiveWord, RepeatableWord, ExtendWord, LocationWord}
 use Rattle.gql_cst_grammar.specs.declared.symbol.Terminal.{Terminal}
 use Rattle.gql_cst_grammar.specs.declared.symbol.Terminal.TheVariants.{Exactly, AnyName, NameButOn, NameButLiteral}
 
@@ -68,4 +72,5 @@ has s w = (s / 2 ^ number w) % 2 == 1
 
 -- all names
 abbrev pub names : ℕ
-names = set (OtherName ∷ OperationWord ∷ FragmentWord ∷ OnWord ∷ BooleanWord ∷ NullWord ∷ SchemaWord ∷ ScalarWord ∷ TypeWord ∷ InterfaceWord ∷ ImplementsWord ∷ UnionWord ∷ EnumWord ∷ InputWord ∷ DirectiveWord ∷ RepeatableWord ∷ ExtendWord ∷ LocationWord ∷ [])
+names = set (OtherName ∷ OperationWord ∷ FragmentWord ∷ OnWord ∷ BooleanWord ∷ NullWord ∷ SchemaWord ∷ ScalarWord ∷ TypeWord ∷
+    InterfaceWord ∷ ImplementsWord ∷ UnionWord ∷ EnumWord ∷ InputWord ∷ DirectiveWord ∷ RepeatableWord ∷ ExtendWord ∷ LocationWord ∷ [])

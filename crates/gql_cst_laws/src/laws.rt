@@ -11,8 +11,8 @@ ghost use Rattle.gql_cst.specs.Sentences.{root_kind};
 ghost use Rattle.gql_cst_laws.specs.Bare.{bare, TokensEnd};
 ghost use Rattle.gql_cst_laws.specs.TreeOf.{IsTreeOf};
 
-use gql_cst_grammar::laws::sentences_have_one_tree;
-use gql_cst_lexer::laws::one_thing_stands;
+use gql_cst_grammar::laws as grammar_laws;
+use gql_cst_lexer::laws as lexer_laws;
 
 /// The tokens of a text between two places are one list, those included that the grammar ignores.
 ///
@@ -20,7 +20,7 @@ use gql_cst_lexer::laws::one_thing_stands;
 pub fn tokens_are_one()
     ensures { (text : List ℕ) (from to : ℕ) (one other : List Leaf) → Tiles text from one to → Tiles text from other to → one ≡ other }
 {
-    one_thing_stands();
+    lexer_laws::one_thing_stands();
 }
 
 /// A text has one tree from each start, once ignored tokens and the places of inner nodes are left out. In none of its
@@ -33,7 +33,7 @@ pub fn texts_have_one_tree()
     ensures ends { (start : Rule) (text : List ℕ) (one : Forest) → IsTreeOf start text one → TokensEnd one }
 {
     tokens_are_one();
-    sentences_have_one_tree();
+    grammar_laws::sentences_have_one_tree();
 }
 
 /// What a parse without an error gives is a tree of the text, whose node is that of the start.

@@ -1,5 +1,6 @@
 -- The value of a block string: BlockStringValue(rawValue) of section 2.9.4 of GraphQL October 2021.
-use Rattle.std.specs.Prelude.{ℕ, min, ◌-◌, Bool, ◌&&◌, ◌==◌, nat_le, if◌then◌else◌, List, [], ◌∷◌, map, length, drop, slice_index, slice_range, Option, Some, None, unwrap_or}
+use Rattle.std.specs.Prelude.{ℕ, min, ◌-◌, Bool, ◌&&◌, ◌==◌, nat_le, if◌then◌else◌, List, [], ◌∷◌, map, length, drop}
+use Rattle.std.specs.Prelude.{slice_index, slice_range, Option, Some, None, unwrap_or}
 use Rattle.std.specs.List.{prefix_len, list_all, join_with_byte}
 use Rattle.gql_cst_lexer.specs.Class.{Text, is_space, is_within_line}
 use Rattle.gql_cst_lexer.specs.Lex.{is_block_quote}

@@ -1,7 +1,9 @@
 -- The token that a text begins with, or the fault in its place, read from the left.
-use Rattle.std.specs.Prelude.{ℕ, zero, suc, ◌+◌, ◌-◌, ◌*◌, ◌<◌, ◌≤◌, Bool, not, ◌&&◌, ◌||◌, ◌==◌, nat_lt, if◌then◌else◌, [], ◌∷◌, length, drop, slice_index, Result, Ok, Err}
+use Rattle.std.specs.Prelude.{ℕ, zero, suc, ◌+◌, ◌-◌, ◌*◌, ◌<◌, ◌≤◌, Bool, not, ◌&&◌, ◌||◌, ◌==◌, nat_lt}
+use Rattle.std.specs.Prelude.{if◌then◌else◌, [], ◌∷◌, length, drop, slice_index, Result, Ok, Err}
 use Rattle.std.specs.List.{prefix_len}
-use Rattle.gql_cst_lexer.specs.Class.{Text, is_between, is_name_continue, is_digit, is_blank, is_source, is_line, is_plain, is_continuation, is_space, is_within_line, class_of}
+use Rattle.gql_cst_lexer.specs.Class.{Text, is_between, is_name_continue, is_digit, is_blank, is_source, is_line, is_plain, is_continuation, is_space}
+use Rattle.gql_cst_lexer.specs.Class.{is_within_line, class_of}
 use Rattle.gql_cst_lexer.specs.declared.class.ByteClass.{ByteClass}
 use Rattle.gql_cst_lexer.specs.declared.class.ByteClass.TheVariants as class
 use Rattle.gql_cst_lexer.specs.declared.error.SyntaxFault.{SyntaxFault}

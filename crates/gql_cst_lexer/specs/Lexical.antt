@@ -1,9 +1,11 @@
 -- Which token stands at the front of a text, and which fault stands there in place of one. A text is what is left from
 -- a place on; a token is known by its kind and its length, and a fault lies between two places.
-use Rattle.std.specs.Prelude.{◌≡◌, ◌⊎◌, ℕ, ◌+◌, ◌<◌, ◌≤◌, Bool, true, false, not, ◌==◌, ◌&&◌, length, drop, slice_index, Ok, Err}
+use Rattle.std.specs.Prelude.{◌≡◌, ◌⊎◌, ℕ, ◌+◌, ◌<◌, ◌≤◌, Bool, true, false, not, ◌==◌, ◌&&◌, length, drop}
+use Rattle.std.specs.Prelude.{slice_index, Ok, Err}
 use Rattle.std.specs.List.{prefix_len}
 use Rattle.gql_cst_lexer.specs.Class.{Text, is_name_continue, is_line, is_source, is_continuation, class_of}
-use Rattle.gql_cst_lexer.specs.Lex.{Lexed, run_len, blank_len, string_len, block_len, is_mark, is_block_quote, sign_end, whole_end, fraction_end, exponent_start, exponent_end, goes_on}
+use Rattle.gql_cst_lexer.specs.Lex.{Lexed, run_len, blank_len, string_len, block_len, is_mark, is_block_quote, sign_end, whole_end, fraction_end}
+use Rattle.gql_cst_lexer.specs.Lex.{exponent_start, exponent_end, goes_on}
 use Rattle.gql_cst_lexer.specs.declared.class.ByteClass.{ByteClass}
 use Rattle.gql_cst_lexer.specs.declared.class.ByteClass.TheVariants as class
 use Rattle.gql_cst_lexer.specs.declared.error.SyntaxFault.{SyntaxFault}
@@ -55,7 +57,8 @@ BreaksAt at end =
     ((lacks_whole at ≡ true) × (end ≡ whole_end at))
     ⊎ ((lacks_whole at ≡ false) × (lacks_fraction at ≡ true) × (end ≡ fraction_of at))
     ⊎ ((lacks_whole at ≡ false) × (lacks_fraction at ≡ false) × (lacks_exponent at ≡ true) × (end ≡ number_end at))
-    ⊎ ((lacks_whole at ≡ false) × (lacks_fraction at ≡ false) × (lacks_exponent at ≡ false) × (goes_on (slice_index at (number_end at)) ≡ true) × (end ≡ number_end at))
+    ⊎ ((lacks_whole at ≡ false) × (lacks_fraction at ≡ false) × (lacks_exponent at ≡ false)
+    × (goes_on (slice_index at (number_end at)) ≡ true) × (end ≡ number_end at))
 
 -- ---- strings
 
@@ -145,5 +148,6 @@ Stands at (Err found) = IsFault found.fault at found.start found.end
 pub record StandsOne (at : Text) : Type 0 where
   pub some : ((kind : TokenKind) × (n : ℕ) × IsToken kind at n) ⊎ ((fault : SyntaxFault) × (start : ℕ) × (end : ℕ) × IsFault fault at start end)
   pub one_token : (kind other : TokenKind) (n m : ℕ) → IsToken kind at n → IsToken other at m → (kind ≡ other) × (n ≡ m)
-  pub one_fault : (fault other : SyntaxFault) (start end from to : ℕ) → IsFault fault at start end → IsFault other at from to → (fault ≡ other) × (start ≡ from) × (end ≡ to)
+  pub one_fault : (fault other : SyntaxFault) (start end from to : ℕ) → IsFault fault at start end → IsFault other at from to
+      → (fault ≡ other) × (start ≡ from) × (end ≡ to)
   pub not_both : (kind : TokenKind) (fault : SyntaxFault) (n start end : ℕ) → IsToken kind at n → IsFault fault at start end → ⊥

@@ -1,5 +1,6 @@
 -- The value of a string: what its characters and escapes stand for.
-use Rattle.std.specs.Prelude.{ℕ, zero, suc, ◌+◌, ◌-◌, ◌*◌, ◌<◌, ◌≤◌, ◌==◌, ◌≡◌, if◌then◌else◌, List, [], ◌∷◌, ◌++◌, length, drop, slice_index, encode_utf8}
+use Rattle.std.specs.Prelude.{ℕ, zero, suc, ◌+◌, ◌-◌, ◌*◌, ◌<◌, ◌≤◌, ◌==◌, ◌≡◌, if◌then◌else◌, List, []}
+use Rattle.std.specs.Prelude.{◌∷◌, ◌++◌, length, drop, slice_index, encode_utf8}
 use Rattle.gql_cst_lexer.specs.Class.{Text}
 use Rattle.gql_cst_lexer.specs.Lex.{string_len, unit, is_high_surrogate, is_escaped}
 

@@ -5,11 +5,12 @@ ghost use Rattle.gql_cst_lexer.specs.BlockString as spec;
 ghost use Rattle.gql_cst_lexer.specs.BlockWriting as writing;
 ghost use Rattle.gql_cst_lexer.specs.Lex as lex;
 
+use crate::Memory;
 use crate::cut::{skip, split_run};
 use crate::line::{next_line, split_line};
 use crate::run::{ByteRun, past};
 use crate::string::is_block_quote;
-use std::alloc::{AllocError, Global};
+use std::alloc::Global;
 
 /// The length of the white space that a line begins with.
 fn white_len(line: &[u8]) -> usize
@@ -69,7 +70,7 @@ fn without_indent(line: &str, n: usize) -> &str
 }
 
 /// Takes in one line more. Lines of white space alone are kept apart in `white` until another line follows.
-fn push_line(text: &mut String, white: &mut String, line: &str) -> Result<(), AllocError>
+fn push_line(text: &mut String, white: &mut String, line: &str) -> Result<(), Memory>
     requires { string_bytes text.old ≡ [] → string_bytes white.old ≡ [] }
     ensures { OnOk result (writing.TakesIn (string_bytes text.old) (string_bytes white.old) line.now (string_bytes text.new) (string_bytes white.new)) }
 {
@@ -91,7 +92,7 @@ fn push_line(text: &mut String, white: &mut String, line: &str) -> Result<(), Al
 }
 
 /// The lines of a raw value without their common indent, and without those of white space alone at either end.
-fn joined_lines(alloc: Global, raw: &str) -> Result<String, AllocError>
+fn joined_lines(alloc: Global, raw: &str) -> Result<String, Memory>
     ensures { IfOk result (λ value. string_bytes value ≡ spec.joined (spec.unindented (spec.lines raw.now))) }
 {
     let mut text = String::new(alloc);
@@ -115,7 +116,7 @@ fn kept_backslash(at: &[u8]) -> &'static str
 }
 
 /// A text with `"""` in place of each `\"""`.
-fn raw_value(alloc: Global, s: &str) -> Result<String, AllocError>
+fn raw_value(alloc: Global, s: &str) -> Result<String, Memory>
     ensures { IfOk result (λ raw. string_bytes raw ≡ spec.raw_value s.now) }
 {
     let mut out = String::new(alloc);
@@ -156,7 +157,7 @@ fn between_quotes(token: &str) -> &str
 /// Section 2.9.4 of GraphQL October 2021: each `\"""` stands for `"""`. Then the least indent of all lines but
 /// the first that are not white space alone is taken off each line but the first, lines of white space alone
 /// are dropped at either end, and the others are joined by LF.
-pub fn block_string_value(alloc: Global, token: &str) -> Result<String, AllocError>
+pub fn block_string_value(alloc: Global, token: &str) -> Result<String, Memory>
     requires { spec.is_block_string token.now ≡ true }
     ensures { IfOk result (λ value. string_bytes value ≡ spec.block_string_value token.now) }
 {

@@ -3,7 +3,11 @@
 ghost use Rattle.std.specs.Prelude.{◌≡◌, codes};
 ghost use Rattle.gql_cst_lexer.specs.Message.{message_of};
 
+use std::alloc::AllocError;
 use std::ops::Range;
+
+/// Out of memory: the one refusal that is always free to come.
+pub type Memory = AllocError;
 
 /// The ways in which a text is no sentence of the grammar.
 #[derive(Clone, Copy, Debug, PartialEq, Eq)]

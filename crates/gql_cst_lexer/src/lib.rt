@@ -31,7 +31,7 @@ mod token;
 mod value;
 
 pub use block_string::{block_string_value, is_block_string};
-pub use error::{CstError, SyntaxFault};
+pub use error::{CstError, Memory, SyntaxFault};
 pub use lexer::Lexer;
 pub use token::{Token, TokenKind};
 pub use value::string_value;

@@ -6,10 +6,11 @@ ghost use Rattle.gql_cst_lexer.specs.Class.{is_plain};
 ghost use Rattle.gql_cst_lexer.specs.Lex as lex;
 ghost use Rattle.gql_cst_lexer.specs.Value as spec;
 
+use crate::Memory;
 use crate::cut::{skip, split_run};
 use crate::run::{ByteRun, byte};
 use crate::string::{is_escaped, is_high_surrogate, string_len, unit};
-use std::alloc::{AllocError, Global};
+use std::alloc::Global;
 
 /// What a letter or mark stands for behind a backslash.
 fn escaped(b: u8) -> u8
@@ -79,7 +80,7 @@ fn split_plain(s: &str) -> (&str, &str)
 ///
 /// An escape stands for its character, as section 2.9.4 of GraphQL October 2021 says, and the escapes of a
 /// high and a low surrogate in a row stand for one character.
-pub fn string_value(alloc: Global, token: &str) -> Result<String, AllocError>
+pub fn string_value(alloc: Global, token: &str) -> Result<String, Memory>
     requires { slice_index token.now 0 ≡ 0x22 }
     ensures { IfOk result (λ value. string_bytes value ≡ spec.string_value token.now) }
 {

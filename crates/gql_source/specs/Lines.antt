@@ -1,5 +1,6 @@
 -- Lines and columns of a text, which is its bytes in UTF-8.
-use Rattle.std.specs.Prelude.{ℕ, ◌+◌, ◌-◌, Bool, not, ◌&&◌, ◌||◌, ◌==◌, nat_lt, nat_le, if◌then◌else◌, List, ◌∷◌, map, length, slice_index, slice_range, Option, Some, None}
+use Rattle.std.specs.Prelude.{ℕ, ◌+◌, ◌-◌, Bool, not, ◌&&◌, ◌||◌, ◌==◌, nat_lt, nat_le, if◌then◌else◌, List, ◌∷◌}
+use Rattle.std.specs.Prelude.{map, length, slice_index, slice_range, Option, Some, None}
 use Rattle.std.specs.List.{filter, count_by, range_with_len}
 use Rattle.std.specs.declared.ops.Range.{Range}
 use Rattle.gql_source.specs.declared.line_column.LineColumn.{LineColumn}
