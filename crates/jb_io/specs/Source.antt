@@ -14,3 +14,9 @@ pub record GivesMore (old new : Option (List ℕ)) : Type 0 where
   pub bytes : List ℕ
   pub gave : Consumes old new bytes
   pub more : INPUT_LIMIT < length bytes
+
+-- the source gave no more bytes than the limit
+pub record GivesAtMost (old new : Option (List ℕ)) : Type 0 where
+  pub bytes : List ℕ
+  pub gave : Consumes old new bytes
+  pub within : length bytes ≤ INPUT_LIMIT

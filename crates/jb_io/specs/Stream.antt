@@ -12,3 +12,7 @@ Counts before now result = MatchResult result (λ _. now ≡ before) (λ _. now 
 -- no more bytes moved than the slice has
 abbrev pub IsWithin : {E : Type 0} → Result ℕ E → List ℕ → Type 0
 IsWithin result bytes = IfOk result (λ count. count ≤ length bytes)
+
+-- at most so many bytes moved in the call
+abbrev pub MovesAtMost : {E : Type 0} → ℕ → Result ℕ E → Type 0
+MovesAtMost piece result = IfOk result (λ count. count ≤ piece)

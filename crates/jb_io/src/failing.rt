@@ -1,3 +1,5 @@
+//! The calls of a stream in memory that are to fail.
+
 ghost use Rattle.std.specs.Prelude.{◌≡◌, ◌≤◌, [], IsTrue};
 ghost use Rattle.jb_io.specs.Memory.{fails_next, next_call};
 ghost use Rattle.jb_io.specs.Stream.{HasFailed};
@@ -35,13 +37,13 @@ impl Failing {
         let call = self.calls;
         let fails = self.at.as_slice().iter().any(|other| call == *other);
         if fails {
-            self.note();
+            self.count_fault();
         }
         fails
     }
 
     /// Counts a fault.
-    pub(crate) fn note(&mut self)
+    pub(crate) fn count_fault(&mut self)
         ensures failed { HasFailed self.old.faults self.new.faults }
         ensures later { self.old.faults ≤ self.new.faults }
         ensures others { self.new ≡ record self.old { faults = self.new.faults } }

@@ -1,7 +1,8 @@
 //! JSON in and out: reading, printing, shapes, and the streams of bytes that programs read and write.
 //!
 //! Reading and printing are those of [`jb_read`] and [`jb_print`], shapes those of [`jb_shape`], under this crate's name;
-//! [`ValueBytes`] has reading and printing as methods, and [`laws`] says that what is printed reads back.
+//! [`ValueBytes`] has reading and printing as methods, and [`laws`] says that what is printed reads back, and that what
+//! a value was made of comes back from it.
 //! A [`Source`] and a [`Sink`] say what became of the bytes, where they tell them, and count their faults, so that
 //! a caller's contract can name the cause of each failure.
 #![tactic(auto)]
@@ -21,6 +22,7 @@ pub use jb_shape::{
     FromValue, MapKey, Members, ShapeError, ToValue, from_value, member, read_members,
     read_variant, to_value,
 };
+pub use jb_tree::Memory;
 pub use memory_sink::MemorySink;
 pub use memory_source::MemorySource;
 pub use sink::{Sink, SinkFault, SureSink, WriterSink};

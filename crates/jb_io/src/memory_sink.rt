@@ -1,12 +1,14 @@
-ghost use Rattle.std.specs.Prelude.{◌≡◌, ◌-◌, ◌<◌, ◌≤◌, ◌||◌, ◌&&◌, nat_lt, [], Some, IfOk, OnErr, is_err, length, vec_len, vec_capacity};
-ghost use Rattle.jb_io.specs.Memory.{fails_next, next_call};
+//! A sink in memory that fails where it is to.
+
+ghost use Rattle.std.specs.Prelude.{◌≡◌, ◌-◌, ◌<◌, ◌≤◌, ◌⊎◌, true, [], Some, IsTrue, IfOk, OnErr, is_err, vec_len, vec_capacity};
+ghost use Rattle.jb_io.specs.Memory.{FindsNoRoom, fails_next, next_call};
 ghost use Rattle.jb_io.specs.Sink.{TakesSome, WriteTakes};
-ghost use Rattle.jb_io.specs.Stream.{HasFailed, IsWithin};
+ghost use Rattle.jb_io.specs.Stream.{HasFailed, IsWithin, MovesAtMost};
 
 use crate::failing::Failing;
 use crate::sink::{Sink, SinkFault};
-use jb_tree::Listed;
-use std::alloc::{AllocError, Global};
+use jb_tree::{Listed, Memory};
+use std::alloc::Global;
 
 /// A sink in memory with a fixed room, some of whose calls fail: just those whose numbers it was given, counted
 /// from 1, and those that find no room for any byte.
@@ -27,19 +29,20 @@ impl MemorySink {
     ///
     /// # Errors
     ///
-    /// [`AllocError`] where that room could not be had.
+    /// [`Memory`] where that room could not be had.
     pub fn new(
         alloc: Global,
         room: usize,
         piece: usize,
         fails: Listed<u64>,
-    ) -> Result<MemorySink, AllocError>
+    ) -> Result<MemorySink, Memory>
         requires { 0 < piece }
         ensures taken { IfOk result (λ sink.
             ⟦<MemorySink as Sink>⟧.taken sink ≡ Some (record { bytes = []; room = room })) }
         ensures faults { IfOk result (λ sink. ⟦<MemorySink as Sink>⟧.faults sink ≡ 0) }
         ensures failing { IfOk result (λ sink.
             sink.failing ≡ record { at = fails; calls = 0; faults = 0 }) }
+        ensures piece { IfOk result (λ sink. sink.piece ≡ piece) }
     {
         Ok(MemorySink {
             held: Vec::with_capacity(alloc, room)?,
@@ -62,15 +65,33 @@ impl Sink for MemorySink {
 
     ghost faults = { λ sink. sink.failing.faults };
 
-    fn write(&mut self, bytes: &[u8]) -> Result<usize, SinkFault> {
+    fn write(&mut self, bytes: &[u8]) -> Result<usize, SinkFault>
+        ensures within { IsWithin result bytes.now }
+        ensures some { TakesSome result bytes.now }
+        ensures bytes { WriteTakes
+            (Some (record { bytes = self.old.held.items; room = self.old.room - vec_len self.old.held }))
+            (Some (record { bytes = self.new.held.items; room = self.new.room - vec_len self.new.held })) result bytes.now }
+        ensures later { self.old.failing.faults ≤ self.new.failing.faults }
+        ensures cause { OnErr result (HasFailed self.old.failing.faults self.new.failing.faults) }
+        // It fails just where it is to, and where there is no room for any byte.
+        ensures failed { OnErr result (IsTrue (fails_next self.old.failing)
+            ⊎ FindsNoRoom (self.old.room - vec_len self.old.held) bytes.now) }
+        ensures listed { IsTrue (fails_next self.old.failing) → is_err result ≡ true }
+        ensures full { FindsNoRoom (self.old.room - vec_len self.old.held) bytes.now → is_err result ≡ true }
+        ensures piece { MovesAtMost self.old.piece result }
+        ensures same_piece { self.new.piece ≡ self.old.piece }
+        ensures call { self.new.failing.calls ≡ next_call self.old.failing }
+        ensures at { self.new.failing.at ≡ self.old.failing.at }
+    {
         if self.failing.fails() {
             return Err(SinkFault);
         }
-        let count = bytes.len().min(self.piece).min(self.room - self.held.len());
-        if count == 0 && !bytes.is_empty() {
-            self.failing.note();
+        let left = self.room - self.held.len();
+        if left == 0 && !bytes.is_empty() {
+            self.failing.count_fault();
             return Err(SinkFault);
         }
+        let count = bytes.len().min(self.piece).min(left);
         match self.held.extend_from_slice(&bytes[..count]) {
             Ok(()) => Ok(count),
             Err(_) => unreachable!(),

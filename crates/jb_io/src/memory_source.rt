@@ -1,7 +1,9 @@
+//! A source in memory that fails where it is to.
+
 ghost use Rattle.std.specs.Prelude.{◌≡◌, ◌<◌, ◌≤◌, Some, OnErr, is_err};
 ghost use Rattle.std.specs.Io.KnownBytes.{ReadConsumes};
 ghost use Rattle.jb_io.specs.Memory.{fails_next, next_call};
-ghost use Rattle.jb_io.specs.Stream.{HasFailed, IsWithin};
+ghost use Rattle.jb_io.specs.Stream.{HasFailed, IsWithin, MovesAtMost};
 
 use crate::failing::Failing;
 use crate::source::{Source, SourceFault};
@@ -25,6 +27,7 @@ impl MemorySource {
         ensures left { ⟦<MemorySource as Source>⟧.left result ≡ Some bytes }
         ensures faults { ⟦<MemorySource as Source>⟧.faults result ≡ 0 }
         ensures failing { result.failing ≡ record { at = fails; calls = 0; faults = 0 } }
+        ensures piece { result.piece ≡ piece }
     {
         MemorySource {
             rest: bytes,
@@ -46,6 +49,8 @@ impl Source for MemorySource {
         ensures cause { OnErr result (HasFailed self.old.failing.faults self.new.failing.faults) }
         // It fails just where it is to.
         ensures exact { is_err result ≡ fails_next self.old.failing }
+        ensures piece { MovesAtMost self.old.piece result }
+        ensures same_piece { self.new.piece ≡ self.old.piece }
         ensures call { self.new.failing.calls ≡ next_call self.old.failing }
         ensures at { self.new.failing.at ≡ self.old.failing.at }
     {

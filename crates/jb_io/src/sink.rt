@@ -1,8 +1,11 @@
+//! Where bytes go to: the trait, a sink in memory that never fails, and one over a writer of std.
+
 ghost use Rattle.std.specs.Prelude.{◌≡◌, ◌↔◌, ℕ, ◌-◌, ◌<◌, ◌≤◌, Option, [], None, Some, IsTrue, IsSome, IfOk, IfSome, OnErr, vec_len, vec_capacity, if◌then◌else◌};
 ghost use Rattle.jb_io.specs.Sink.{TakesSome, Told, WriteTakes};
 ghost use Rattle.jb_io.specs.Stream.{Counts, HasFailed, IsWithin};
 
-use std::alloc::{AllocError, Global};
+use jb_tree::Memory;
+use std::alloc::Global;
 use std::io;
 use std::io::{ErrorKind, Write};
 use thiserror::Error;
@@ -49,8 +52,8 @@ impl SureSink {
     ///
     /// # Errors
     ///
-    /// [`AllocError`] where that room could not be had.
-    pub fn new(alloc: Global, room: usize) -> Result<SureSink, AllocError>
+    /// [`Memory`] where that room could not be had.
+    pub fn new(alloc: Global, room: usize) -> Result<SureSink, Memory>
         ensures { IfOk result (λ sink.
             ⟦<SureSink as Sink>⟧.taken sink ≡ Some (record { bytes = []; room = room })) }
     {

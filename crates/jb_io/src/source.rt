@@ -1,6 +1,8 @@
-ghost use Rattle.std.specs.Prelude.{◌≡◌, ℕ, ◌<◌, ◌≤◌, List, Option, Some, OnErr};
+//! Where bytes come from: the trait, a source in memory that never fails, and one over a reader of std.
+
+ghost use Rattle.std.specs.Prelude.{◌≡◌, ℕ, ◌<◌, ◌≤◌, List, Option, Some, OnErr, IsOk};
 ghost use Rattle.std.specs.Io.KnownBytes.{ReadConsumes};
-ghost use Rattle.jb_io.specs.Stream.{Counts, HasFailed, IsWithin};
+ghost use Rattle.jb_io.specs.Stream.{Counts, HasFailed, IsWithin, MovesAtMost};
 
 use bytes::Bytes;
 use std::io::{ErrorKind, Read};
@@ -44,7 +46,8 @@ impl SureSource {
     /// A source of `bytes` that gives at most `piece` of them in one call.
     pub fn new(bytes: Bytes, piece: usize) -> SureSource
         requires { 0 < piece }
-        ensures { ⟦<SureSource as Source>⟧.left result ≡ Some bytes }
+        ensures left { ⟦<SureSource as Source>⟧.left result ≡ Some bytes }
+        ensures piece { result.piece ≡ piece }
     {
         SureSource { rest: bytes, piece }
     }
@@ -55,7 +58,16 @@ impl Source for SureSource {
 
     ghost faults = { λ _. 0 };
 
-    fn read(&mut self, buffer: &mut [u8]) -> Result<usize, SourceFault> {
+    fn read(&mut self, buffer: &mut [u8]) -> Result<usize, SourceFault>
+        ensures within { IsWithin result buffer.new }
+        ensures bytes { ReadConsumes (Some self.old.rest) (Some self.new.rest) result buffer.new }
+        ensures later { 0 ≤ 0 }
+        ensures cause { OnErr result (HasFailed 0 0) }
+        // It never fails.
+        ensures sure { IsOk result }
+        ensures piece { MovesAtMost self.old.piece result }
+        ensures same_piece { self.new.piece ≡ self.old.piece }
+    {
         let rest = self.rest.as_slice();
         let count = buffer.len().min(self.piece).min(rest.len());
         buffer[..count].copy_from_slice(&rest[..count]);

@@ -1,6 +1,8 @@
-ghost use Rattle.std.specs.Prelude.{◌≡◌, ◌<◌, ◌≤◌, length, Err, IfOk, OnOk, OnErr};
+//! Reading a source to its end, and writing all of some bytes.
+
+ghost use Rattle.std.specs.Prelude.{◌≡◌, ◌≢◌, ◌<◌, ◌≤◌, length, Err, IfOk, OnOk, OnErr};
 ghost use Rattle.jb_io.specs.Sink.{Takes, TakesFront};
-ghost use Rattle.jb_io.specs.Source.{GivesMore, ReadsWhole};
+ghost use Rattle.jb_io.specs.Source.{GivesAtMost, GivesMore, ReadsWhole};
 ghost use Rattle.jb_io.specs.Stream.{HasFailed};
 ghost use Rattle.jb_io.specs.declared.stream.InputFault.TheVariants.{SourceFailed};
 ghost use Rattle.jb_text.specs.declared.refused.Refused.TheVariants.{Fault};
@@ -8,8 +10,8 @@ ghost use Rattle.jb_text.specs.declared.refused.Refused.TheVariants.{Fault};
 use crate::sink::{Sink, SinkFault};
 use crate::source::{Source, SourceFault};
 use bytes::Bytes;
-use jb_tree::Refused;
-use std::alloc::{AllocError, Global};
+use jb_tree::{Memory, Refused};
+use std::alloc::Global;
 use thiserror::Error;
 
 /// How many bytes a source may give to [`read_to_end`]: 16 MiB.
@@ -41,7 +43,7 @@ impl From<SourceFault> for Refused<InputFault> {
 ///
 /// # Errors
 ///
-/// - [`InputFault::TooLong`] where the source gave more than [`INPUT_LIMIT`] bytes.
+/// - [`InputFault::TooLong`] exactly where the source gave more than [`INPUT_LIMIT`] bytes.
 /// - [`InputFault::SourceFailed`] where a read failed: the source's count of faults rose in this call.
 /// - [`Refused::Memory`] where the bytes could not be held.
 ///
@@ -50,6 +52,8 @@ pub fn read_to_end<S: Source>(alloc: Global, source: &mut S) -> Result<Bytes, Re
     ensures whole { IfOk result (ReadsWhole (S.left source.old) (S.left source.new)) }
     ensures too_long { result ≡ Err (Refused.Fault InputFault.TooLong)
         → GivesMore (S.left source.old) (S.left source.new) }
+    ensures within { result ≢ Err (Refused.Fault InputFault.TooLong)
+        → GivesAtMost (S.left source.old) (S.left source.new) }
     ensures failed { result ≡ Err (Refused.Fault InputFault.SourceFailed)
         → HasFailed (S.faults source.old) (S.faults source.new) }
     ensures later { S.faults source.old ≤ S.faults source.new }
@@ -68,6 +72,8 @@ fn read_in_pieces<S: Source>(
     ensures whole { IfOk result (ReadsWhole (S.left source.old) (S.left source.new)) }
     ensures too_long { result ≡ Err (Refused.Fault InputFault.TooLong)
         → GivesMore (S.left source.old) (S.left source.new) }
+    ensures within { result ≢ Err (Refused.Fault InputFault.TooLong)
+        → GivesAtMost (S.left source.old) (S.left source.new) }
     ensures failed { result ≡ Err (Refused.Fault InputFault.SourceFailed)
         → HasFailed (S.faults source.old) (S.faults source.new) }
     ensures later { S.faults source.old ≤ S.faults source.new }
@@ -76,7 +82,7 @@ fn read_in_pieces<S: Source>(
     loop {
         let count = source.read(piece)?;
         if count == 0 {
-            return Ok(Bytes::from_vec(bytes).map_err(AllocError::from)?);
+            return Ok(Bytes::from_vec(bytes).map_err(Memory::from)?);
         }
         if count > INPUT_LIMIT - bytes.len() {
             return Err(Refused::Fault(InputFault::TooLong));

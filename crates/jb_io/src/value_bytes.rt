@@ -1,16 +1,18 @@
+//! Reading and printing as methods.
+
 ghost use Rattle.std.specs.Prelude.{◌≡◌, ℕ, List, Result, Ok, Err, IfOk, IfErr};
 ghost use Rattle.jb_io.specs.Answered.{Answered};
 ghost use Rattle.jb_print.specs.Compact.{compact};
 ghost use Rattle.jb_print.specs.Pretty.{pretty};
-ghost use Rattle.jb_read.specs.Faults.{JsonFault, IsFaultOf};
+ghost use Rattle.jb_read.specs.Faults.{FrontFault, IsFaultOf, IsFrontFaultOf, JsonFault};
 ghost use Rattle.jb_read.specs.Spelling.{JsonFront, JsonText};
 ghost use Rattle.jb_read.specs.Texts.{text_front, text_value};
 ghost use Rattle.jb_read.specs.declared.fault.ReadFault.{ReadFault};
 
 use bytes::Bytes;
 use jb_read::ReadFault;
-use jb_tree::{Refused, Text, Value};
-use std::alloc::{AllocError, Global};
+use jb_tree::{Memory, Refused, Text, Value};
+use std::alloc::Global;
 
 /// A type whose values are read from JSON texts and printed as such (RFC 8259).
 pub trait ValueBytes: Sized {
@@ -39,7 +41,9 @@ pub trait ValueBytes: Sized {
     fn from_bytes(alloc: Global, bytes: &Bytes) -> Result<Self, Refused<ReadFault>>
         ensures exact { Answered result (front_read bytes.now) }
         ensures spelled { IfOk result (is_front bytes.now) }
-        ensures only { (v : Self) → is_front bytes.now v → Answered result (Ok v) };
+        ensures only { (v : Self) → is_front bytes.now v → Answered result (Ok v) }
+        ensures broken { IfErr result (IsFrontFaultOf bytes.now) }
+        ensures refused { (f : ReadFault) → FrontFault bytes.now f → Answered result (Err f) };
 
     /// The one value of a text, between white space. Anything else behind it is a fault.
     ///
@@ -62,15 +66,15 @@ pub trait ValueBytes: Sized {
         ensures refused { (f : ReadFault) → JsonFault text.now f → Answered result (Err f) };
 
     /// The compact text of the value, without white space. `Err` only for want of memory.
-    fn to_bytes(&self, alloc: Global) -> Result<Bytes, AllocError>
+    fn to_bytes(&self, alloc: Global) -> Result<Bytes, Memory>
         ensures { IfOk result (λ bytes. bytes ≡ compact_text self.now) };
 
     /// The same text as a [`Text`]. `Err` only for want of memory.
-    fn to_text(&self, alloc: Global) -> Result<Text, AllocError>
+    fn to_text(&self, alloc: Global) -> Result<Text, Memory>
         ensures { IfOk result (λ text. text ≡ compact_text self.now) };
 
     /// The text with a line for each item and pair, two spaces deeper for each level. `Err` only for want of memory.
-    fn to_pretty(&self, alloc: Global) -> Result<Text, AllocError>
+    fn to_pretty(&self, alloc: Global) -> Result<Text, Memory>
         ensures { IfOk result (λ text. text ≡ pretty_text self.now) };
 }
 
@@ -100,15 +104,15 @@ impl ValueBytes for Value {
         jb_read::from_str(alloc, text)
     }
 
-    fn to_bytes(&self, alloc: Global) -> Result<Bytes, AllocError> {
+    fn to_bytes(&self, alloc: Global) -> Result<Bytes, Memory> {
         jb_print::to_bytes(alloc, self)
     }
 
-    fn to_text(&self, alloc: Global) -> Result<Text, AllocError> {
+    fn to_text(&self, alloc: Global) -> Result<Text, Memory> {
         jb_print::to_text(alloc, self)
     }
 
-    fn to_pretty(&self, alloc: Global) -> Result<Text, AllocError> {
+    fn to_pretty(&self, alloc: Global) -> Result<Text, Memory> {
         jb_print::to_pretty(alloc, self)
     }
 }

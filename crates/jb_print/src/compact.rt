@@ -1,18 +1,18 @@
-// The compact text of a value, appended to a text.
+//! The compact text of a value, appended to a text.
+
 ghost use Rattle.std.specs.Prelude.{◌≡◌, ◌++◌, false, codes, map, OnOk, string_bytes};
 ghost use Rattle.std.specs.Fmt.{signed_decimal};
 ghost use Rattle.jb_print.specs.Compact.{compact};
 ghost use Rattle.jb_print.specs.Quoted.{quoted};
 ghost use Rattle.jb_print.specs.Pieces.{comma_after, pieces_text, member_piece};
 
-use super::text::write_text;
+use crate::text::write_text;
 use itoa::Buffer;
-use jb_tree::{ByteString, Listed, Map, Number, Value};
-use std::alloc::AllocError;
+use jb_tree::{ByteString, Listed, Map, Memory, Number, Value};
 
 /// Appends the compact text of `value`.
 #[cycle(compact)]
-pub(crate) fn write_value(out: &mut String, value: &Value) -> Result<(), AllocError>
+pub(crate) fn write_value(out: &mut String, value: &Value) -> Result<(), Memory>
     ensures { OnOk result (string_bytes out.new ≡ string_bytes out.old ++ compact value.now) }
 {
     match value {
@@ -27,7 +27,7 @@ pub(crate) fn write_value(out: &mut String, value: &Value) -> Result<(), AllocEr
 }
 
 #[cycle(compact)]
-fn write_items(out: &mut String, items: &Listed<Value>) -> Result<(), AllocError>
+fn write_items(out: &mut String, items: &Listed<Value>) -> Result<(), Memory>
     ensures { OnOk result (string_bytes out.new
         ≡ string_bytes out.old ++ (codes "[" ++ (pieces_text false (map compact items.now) ++ codes "]"))) }
 {
@@ -42,7 +42,7 @@ fn write_items(out: &mut String, items: &Listed<Value>) -> Result<(), AllocError
 }
 
 #[cycle(compact)]
-pub(crate) fn write_members(out: &mut String, members: &Map) -> Result<(), AllocError>
+pub(crate) fn write_members(out: &mut String, members: &Map) -> Result<(), Memory>
     ensures { OnOk result (string_bytes out.new
         ≡ string_bytes out.old ++ (codes "{" ++ (pieces_text false (map member_piece members.now) ++ codes "}"))) }
 {
@@ -57,13 +57,13 @@ pub(crate) fn write_members(out: &mut String, members: &Map) -> Result<(), Alloc
     out.push_str("}")
 }
 
-pub(crate) fn write_comma(out: &mut String, later: bool) -> Result<(), AllocError>
+pub(crate) fn write_comma(out: &mut String, later: bool) -> Result<(), Memory>
     ensures { OnOk result (string_bytes out.new ≡ string_bytes out.old ++ comma_after later) }
 {
     if later { out.push_str(",") } else { Ok(()) }
 }
 
-fn write_key(out: &mut String, key: &ByteString) -> Result<(), AllocError>
+fn write_key(out: &mut String, key: &ByteString) -> Result<(), Memory>
     ensures { OnOk result (string_bytes out.new
         ≡ string_bytes out.old ++ (quoted key.now ++ codes ":")) }
 {
@@ -71,7 +71,7 @@ fn write_key(out: &mut String, key: &ByteString) -> Result<(), AllocError>
     out.push_str(":")
 }
 
-fn write_number(out: &mut String, number: &Number) -> Result<(), AllocError>
+fn write_number(out: &mut String, number: &Number) -> Result<(), Memory>
     ensures { OnOk result (string_bytes out.new
         ≡ string_bytes out.old ++ signed_decimal number.now) }
 {

@@ -9,4 +9,5 @@ mod pretty;
 mod print;
 mod text;
 
+pub use jb_tree::Memory;
 pub use print::{append_object, append_string, append_value, to_bytes, to_pretty, to_text};

@@ -1,13 +1,14 @@
-// The text of a value over several lines, appended to a text.
+//! The text of a value over several lines, appended to a text.
+
 ghost use Rattle.std.specs.Prelude.{◌≡◌, ◌++◌, ◌∷◌, [], false, codes, map, IfOk, OnOk, string_bytes};
 ghost use Rattle.jb_print.specs.Quoted.{quoted};
 ghost use Rattle.jb_print.specs.Pretty.{pretty_at, deeper};
 ghost use Rattle.jb_print.specs.Pieces.{pieces_text, item_line, member_line, pretty_list, pretty_object};
 
-use super::compact::{write_comma, write_value};
-use super::text::write_text;
-use jb_tree::{ByteString, Listed, Map, Value};
-use std::alloc::{AllocError, Global};
+use crate::compact::{write_comma, write_value};
+use crate::text::write_text;
+use jb_tree::{ByteString, Listed, Map, Memory, Value};
+use std::alloc::Global;
 
 /// Appends the text of `value` whose closing brackets stand behind `line`, a line feed and an indentation.
 #[cycle(pretty)]
@@ -16,7 +17,7 @@ pub(crate) fn write_pretty(
     alloc: Global,
     line: &str,
     value: &Value,
-) -> Result<(), AllocError>
+) -> Result<(), Memory>
     ensures { OnOk result (string_bytes out.new
         ≡ string_bytes out.old ++ pretty_at line.now value.now) }
 {
@@ -35,7 +36,7 @@ fn write_list(
     alloc: Global,
     line: &str,
     items: &Listed<Value>,
-) -> Result<(), AllocError>
+) -> Result<(), Memory>
     ensures { OnOk result (string_bytes out.new
         ≡ string_bytes out.old ++ pretty_list line.now items.now) }
 {
@@ -55,7 +56,7 @@ fn write_items(
     alloc: Global,
     line: &str,
     items: &Listed<Value>,
-) -> Result<(), AllocError>
+) -> Result<(), Memory>
     ensures { OnOk result (string_bytes out.new
         ≡ string_bytes out.old ++ pieces_text false (map (item_line line.now) items.now)) }
 {
@@ -70,12 +71,7 @@ fn write_items(
 }
 
 #[cycle(pretty)]
-fn write_object(
-    out: &mut String,
-    alloc: Global,
-    line: &str,
-    members: &Map,
-) -> Result<(), AllocError>
+fn write_object(out: &mut String, alloc: Global, line: &str, members: &Map) -> Result<(), Memory>
     ensures { OnOk result (string_bytes out.new
         ≡ string_bytes out.old ++ pretty_object line.now members.now) }
 {
@@ -90,12 +86,7 @@ fn write_object(
 }
 
 #[cycle(pretty)]
-fn write_members(
-    out: &mut String,
-    alloc: Global,
-    line: &str,
-    members: &Map,
-) -> Result<(), AllocError>
+fn write_members(out: &mut String, alloc: Global, line: &str, members: &Map) -> Result<(), Memory>
     ensures { OnOk result (string_bytes out.new
         ≡ string_bytes out.old ++ pieces_text false (map (member_line line.now) members.now)) }
 {
@@ -109,7 +100,7 @@ fn write_members(
     Ok(())
 }
 
-fn write_key(out: &mut String, line: &str, key: &ByteString) -> Result<(), AllocError>
+fn write_key(out: &mut String, line: &str, key: &ByteString) -> Result<(), Memory>
     ensures { OnOk result (string_bytes out.new
         ≡ string_bytes out.old ++ (line.now ++ quoted key.now ++ codes ": ")) }
 {
@@ -118,7 +109,7 @@ fn write_key(out: &mut String, line: &str, key: &ByteString) -> Result<(), Alloc
     out.push_str(": ")
 }
 
-fn deeper(alloc: Global, line: &str) -> Result<String, AllocError>
+fn deeper(alloc: Global, line: &str) -> Result<String, Memory>
     ensures { IfOk result (λ inner. string_bytes inner ≡ deeper line.now) }
 {
     let mut inner = String::from_str(alloc, line)?;

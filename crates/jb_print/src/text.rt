@@ -1,4 +1,5 @@
-// A text as a JSON string.
+//! A text as a JSON string.
+
 ghost use Rattle.std.specs.Prelude.{◌≡◌, ◌∷◌, [], ◌++◌, ◌<◌, ◌≤◌, ◌+◌, drop, false, length, OnOk, string_bytes};
 ghost use Rattle.std.specs.Char.{digit_char};
 ghost use Rattle.std.specs.List.{prefix_len, flat_map, list_all};
@@ -6,13 +7,13 @@ ghost use Rattle.std.specs.Option.{option_copied};
 ghost use Rattle.jb_print.specs.Quoted.{short_escape, escaped, quoted};
 ghost use Rattle.jb_print.specs.Plain.{is_plain};
 
-use std::alloc::AllocError;
+use jb_tree::Memory;
 
 /// How many bytes of a text are looked at in one step.
 const RUN: usize = 16;
 
 /// Appends the text in quotes, with its escapes.
-pub(crate) fn write_text(out: &mut String, text: &str) -> Result<(), AllocError>
+pub(crate) fn write_text(out: &mut String, text: &str) -> Result<(), Memory>
     ensures { OnOk result (string_bytes out.new ≡ string_bytes out.old ++ quoted text.now) }
 {
     out.push_str("\"")?;
@@ -21,7 +22,7 @@ pub(crate) fn write_text(out: &mut String, text: &str) -> Result<(), AllocError>
 }
 
 // Each run of bytes that need no escape is copied in one piece.
-fn write_escaped(out: &mut String, text: &str) -> Result<(), AllocError>
+fn write_escaped(out: &mut String, text: &str) -> Result<(), Memory>
     ensures { OnOk result (string_bytes out.new
         ≡ string_bytes out.old ++ flat_map escaped text.now) }
 {
@@ -85,7 +86,7 @@ fn is_plain(byte: u8) -> bool
     (byte >= 0x20) & (byte != b'"') & (byte != b'\\')
 }
 
-fn write_escape(out: &mut String, byte: u8) -> Result<(), AllocError>
+fn write_escape(out: &mut String, byte: u8) -> Result<(), Memory>
     requires { is_plain byte ≡ false }
     ensures { OnOk result (string_bytes out.new ≡ string_bytes out.old ++ escaped byte) }
 {

@@ -7,8 +7,8 @@ use Rattle.jb_tree.specs.declared.value.Value.{Value}
 use Rattle.jb_read.specs.declared.fault.ReadFault.{ReadFault}
 use Rattle.jb_read.specs.Spelling.{JsonText, JsonFront}
 use Rattle.jb_read.specs.Texts.{Answers, text_value, text_front}
-use Rattle.jb_read.specs.Faults.{JsonFault, IsFaultOf}
-use Rattle.jb_read.proofs.Breaks.{faults_sound, faults_complete}
+use Rattle.jb_read.specs.Faults.{JsonFault, IsFaultOf, FrontFault, IsFrontFaultOf}
+use Rattle.jb_read.proofs.Breaks.{faults_sound, faults_complete, front_faults_sound, front_faults_complete}
 use Rattle.jb_read.proofs.Sound.{whole_sound, front_sound}
 use Rattle.jb_read.proofs.Complete.{whole_complete, front_complete}
 
@@ -34,6 +34,16 @@ pub whole_faults : (bytes : List ℕ) (r : Result Value (Refused ReadFault)) →
 whole_faults bytes (Ok v) e = tt
 whole_faults bytes (Err (refused.Fault f)) e = faults_sound bytes f e
 whole_faults bytes (Err refused.Memory) e = tt
+
+pub front_faults : (bytes : List ℕ) (r : Result Value (Refused ReadFault)) → Answers r (text_front bytes) → IfErr r (IsFrontFaultOf bytes)
+front_faults bytes (Ok v) e = tt
+front_faults bytes (Err (refused.Fault f)) e = front_faults_sound bytes f e
+front_faults bytes (Err refused.Memory) e = tt
+
+pub front_refused : (bytes : List ℕ) (r : Result Value (Refused ReadFault)) → Answers r (text_front bytes) → (f : ReadFault) → FrontFault bytes f → Answers r (Err f)
+front_refused bytes (Ok w) e f t = sym (front_faults_complete bytes f t) ∙ e
+front_refused bytes (Err (refused.Fault g)) e f t = sym (front_faults_complete bytes f t) ∙ e
+front_refused bytes (Err refused.Memory) e f t = tt
 
 abbrev read : Value → Result Value ReadFault
 read v = Ok v
@@ -73,3 +83,20 @@ pub whole_refused : (bytes : List ℕ) (r : Result Value (Refused ReadFault)) �
 whole_refused bytes (Ok w) e f t = sym (faults_complete bytes f t) ∙ e
 whole_refused bytes (Err (refused.Fault g)) e f t = sym (faults_complete bytes f t) ∙ e
 whole_refused bytes (Err refused.Memory) e f t = tt
+
+-- ---- the same of the value that a text begins with
+
+pub one_of_front : (bytes : List ℕ) → ((v : Value) × JsonFront bytes v) ⊎ ((f : ReadFault) × FrontFault bytes f)
+one_of_front bytes = elim (answer (text_front bytes)) [
+  | inl p ↦ inl (p.0, front_sound bytes p.0 p.1)
+  | inr p ↦ inr (p.0, front_faults_sound bytes p.0 p.1)
+]
+
+pub one_front : (bytes : List ℕ) (v w : Value) → JsonFront bytes v → JsonFront bytes w → v ≡ w
+one_front bytes v w t u = same_value v w (sym (front_complete bytes v t) ∙ front_complete bytes w u)
+
+pub one_front_fault : (bytes : List ℕ) (f g : ReadFault) → FrontFault bytes f → FrontFault bytes g → f ≡ g
+one_front_fault bytes f g t u = same_fault f g (sym (front_faults_complete bytes f t) ∙ front_faults_complete bytes g u)
+
+pub not_both_front : (bytes : List ℕ) (v : Value) (f : ReadFault) → JsonFront bytes v → FrontFault bytes f → ⊥
+not_both_front bytes v f t u = never_both v f (sym (front_complete bytes v t) ∙ front_faults_complete bytes f u)

@@ -13,11 +13,12 @@ use Rattle.jb_read.specs.declared.fault.ReadFault.{ReadFault}
 use Rattle.jb_read.specs.Bytes.{skip_white}
 use Rattle.jb_read.specs.Reading.{◌>>=◌, broken, turns}
 use Rattle.jb_read.specs.Values.{begins_with, item_at, member_at, array_at, object_at, scalar_at, value_at, first_value, ended, whole_value}
-use Rattle.jb_read.specs.Texts.{placed, place_of, text_value}
+use Rattle.jb_read.specs.Texts.{placed, place_of, text_value, text_front}
 use Rattle.jb_read.specs.Spelling.{settled}
-use Rattle.jb_read.specs.Faults.{opens, ItemsBefore, MembersBefore, Breaks, scalar, deep, in_item, behind_item, in_key, in_member, behind_member, Trails, JsonFault}
+use Rattle.jb_read.specs.Faults.{opens, ItemsBefore, MembersBefore, Breaks, scalar, deep, in_item, behind_item, in_key, in_member, behind_member, Trails, JsonFault, FrontFault}
 use Rattle.jb_read.proofs.Steps.{chosen}
 use Rattle.jb_read.proofs.Sound.{value_sound}
+use Rattle.jb_read.proofs.ScalarBreaks.{scalar_breaks, scalar_stops, key_breaks, key_stops}
 use Rattle.jb_read.proofs.Complete.{value_at_scalar_byte, spells_complete, key_complete, item_turn, member_turn, goes, goes_member, comma_le, no_comma, left_le, key_within}
 use Rattle.jb_read.proofs.BreaksWithin.{gave, err_is, answer, wrap_err, next_refused, InItem, BehindItem, item_refused, after_refused, items_break, MembersFault, key_refused, member_refused, after_member_refused, members_break}
 
@@ -40,7 +41,7 @@ unfolding object_at
 object_break depth broken_at inside e h = by_test (begins_with 125 (skip_white inside)) refl h
   where
     by_fault : begins_with 125 (skip_white inside) ≡ false → MembersFault e depth (skip_white inside) → Breaks e (suc depth) (123 ∷ inside)
-    by_fault t (inl f) = in_key depth inside t f.before f.start f.parts f.breaks
+    by_fault t (inl f) = in_key depth inside t f.before f.start f.parts (key_breaks f.start e f.breaks)
     by_fault t (inr (inl f)) = in_member depth inside t f.before f.start f.parts f.key f.inside f.keyed f.breaks
     by_fault t (inr (inr f)) = behind_member depth inside t f.before f.start f.parts f.key f.inside f.keyed f.item f.behind f.spelled f.unended
 
@@ -56,12 +57,12 @@ break_is d e h = cc
 
 value_breaks : (depth : ℕ) (at : List ℕ) (e : Broken) → value_at depth at ≡ Err e → Breaks e depth at
 unfolding value_at
-value_breaks zero [] e h = scalar 0 [] refl h
+value_breaks zero [] e h = scalar 0 [] refl (scalar_breaks [] e h)
 value_breaks zero (b ∷ at) e h = elim (chosen ((b == 91) || (b == 123)) (Err (broken Depth (b ∷ at))) (scalar_at (b ∷ at)) (Err e) h) [
   | inl p ↦ deep (b ∷ at) p.0 (break_is (broken Depth (b ∷ at)) e p.1)
-  | inr p ↦ scalar 0 (b ∷ at) p.0 p.1
+  | inr p ↦ scalar 0 (b ∷ at) p.0 (scalar_breaks (b ∷ at) e p.1)
 ]
-value_breaks (suc depth) [] e h = scalar (suc depth) [] refl h
+value_breaks (suc depth) [] e h = scalar (suc depth) [] refl (scalar_breaks [] e h)
 value_breaks (suc depth) (b ∷ at) e h = nested (value_breaks depth) (chosen (b == 91) _ _ (Err e) h)
   where
     nested : ((at : List ℕ) (e : Broken) → value_at depth at ≡ Err e → Breaks e depth at) → ((((b == 91) ≡ true) × ((array_at (value_at depth) at >>= λ array. gave (value.Array array.0) array.1) ≡ Err e))
@@ -69,7 +70,7 @@ value_breaks (suc depth) (b ∷ at) e h = nested (value_breaks depth) (chosen (b
     nested inner (inl p) = subst (λ (k : ℕ). Breaks e (suc depth) (k ∷ at)) (sym (eqb-true b 91 p.0)) (array_break depth inner at e (wrap_err (array_at (value_at depth) at) (λ items. value.Array items) e p.1))
     nested inner (inr p) = elim (chosen (b == 123) (object_at (value_at depth) at >>= λ object. gave (value.Object object.0) object.1) (scalar_at (b ∷ at)) (Err e) p.1) [
       | inl q ↦ subst (λ (k : ℕ). Breaks e (suc depth) (k ∷ at)) (sym (eqb-true b 123 q.0)) (object_break depth inner at e (wrap_err (object_at (value_at depth) at) (λ ms. value.Object ms) e q.1))
-      | inr q ↦ scalar (suc depth) (b ∷ at) (or_from (b == 91) (b == 123) p.0 q.0) q.1
+      | inr q ↦ scalar (suc depth) (b ∷ at) (or_from (b == 91) (b == 123) p.0 q.0) (scalar_breaks (b ∷ at) e q.1)
     ]
 
 -- ---- what is broken is refused
@@ -134,14 +135,14 @@ member_reached depth inside e o before start parts breaks =
     object_refused depth inside e o (r.same ∙ breaks r.most r.made)
 
 breaks_refused : (e : Broken) (depth : ℕ) (at : List ℕ) → Breaks e depth at → value_at depth at ≡ Err e
-breaks_refused e _ _ (scalar depth at o h) = scalar_refused depth at e o h
+breaks_refused e _ _ (scalar depth at o h) = scalar_refused depth at e o (scalar_stops at e h)
 breaks_refused e _ _ (deep at o h) = deep_refused at o ∙ ap (λ (d : Broken). stopped d) (sym h)
 breaks_refused e _ _ (in_item depth inside o before start parts b) =
     let inner = breaks_refused e depth start b in
     item_reached depth inside e o before start parts (λ most made. item_refused depth most made start e inner)
 breaks_refused e _ _ (behind_item depth inside o before start parts item behind spelled u) =
     item_reached depth inside e o before start parts (λ most made. item_turn (value_at depth) most made start (settled item) behind (spells_complete item depth start behind spelled) ∙ after_refused depth most made (settled item) behind e (next_refused 93 behind e u))
-breaks_refused e _ _ (in_key depth inside o before start parts h) = member_reached depth inside e o before start parts (λ most made. key_refused depth most made start e h)
+breaks_refused e _ _ (in_key depth inside o before start parts h) = member_reached depth inside e o before start parts (λ most made. key_refused depth most made start e (key_stops start e h))
 breaks_refused e _ _ (in_member depth inside o before start parts key at keyed b) =
     let inner = breaks_refused e depth at b in
     member_reached depth inside e o before start parts (λ most made. member_refused depth most made start at key e (key_complete key start at keyed) inner)
@@ -191,3 +192,23 @@ faults_sound bytes f h =
 pub faults_complete : (bytes : List ℕ) (f : ReadFault) → JsonFault bytes f → text_value bytes ≡ Err f
 unfolding whole_value first_value
 faults_complete bytes f h = ap (placed (length bytes)) (whole_refused bytes h.stop h.breaks) ∙ ap (λ (g : ReadFault). Err g) h.placed
+
+-- ---- the value that a text begins with
+
+abbrev value_of : Value × List ℕ → Result Value Broken
+value_of read = Ok read.0
+
+front_stops : (r : Result (Value × List ℕ) Broken) (e : Broken) → (r >>= value_of) ≡ Err e → r ≡ Err e
+front_stops (Ok x) e h = absurd cc
+front_stops (Err d) e h = cc
+
+pub front_faults_sound : (bytes : List ℕ) (f : ReadFault) → text_front bytes ≡ Err f → FrontFault bytes f
+unfolding first_value
+front_faults_sound bytes f h =
+    let p = placed_err (length bytes) (value_at 127 (skip_white bytes) >>= value_of) f h in
+    record { stop = p.0; breaks = value_breaks 127 (skip_white bytes) p.0 (front_stops (value_at 127 (skip_white bytes)) p.0 p.1); placed = p.2 }
+
+pub front_faults_complete : (bytes : List ℕ) (f : ReadFault) → FrontFault bytes f → text_front bytes ≡ Err f
+unfolding first_value
+front_faults_complete bytes f h =
+    ap (λ (r : Result (Value × List ℕ) Broken). placed (length bytes) (r >>= value_of)) (breaks_refused h.stop 127 (skip_white bytes) h.breaks) ∙ ap (λ (g : ReadFault). Err g) h.placed

@@ -23,7 +23,7 @@ abbrev pub all_plain : List ℕ → Bool
 all_plain [] = true
 all_plain (b ∷ bs) = not (is_special b) && all_plain bs
 
-front_plain : (at : List ℕ) → all_plain (plain_front at) ≡ true
+pub front_plain : (at : List ℕ) → all_plain (plain_front at) ≡ true
 front_plain [] = refl
 front_plain (b ∷ at) = by_test (not (is_special b)) refl (front_plain at)
   where
@@ -41,10 +41,10 @@ length_front (x ∷ xs) ys e =
     let first : plain_length (x ∷ (xs ++ ys)) ≡ 1 + plain_length (xs ++ ys) = rw p.0 refl in
     first ∙ omega (arith, more)
 
-front_append : (xs ys : List ℕ) → all_plain xs ≡ true → plain_front (xs ++ ys) ≡ xs ++ plain_front ys
+pub front_append : (xs ys : List ℕ) → all_plain xs ≡ true → plain_front (xs ++ ys) ≡ xs ++ plain_front ys
 front_append xs ys e = ap (λ (n : ℕ). take n (xs ++ ys)) (length_front xs ys e) ∙ take-append-add xs ys (plain_length ys)
 
-behind_append : (xs ys : List ℕ) → all_plain xs ≡ true → behind_plain (xs ++ ys) ≡ behind_plain ys
+pub behind_append : (xs ys : List ℕ) → all_plain xs ≡ true → behind_plain (xs ++ ys) ≡ behind_plain ys
 behind_append xs ys e = ap (λ (n : ℕ). drop n (xs ++ ys)) (length_front xs ys e) ∙ drop-append-add xs ys (plain_length ys)
 
 plain_by_index : (xs : List ℕ) → ((k : ℕ) → k < length xs → is_special (get_or xs k 0) ≡ false) → all_plain xs ≡ true
@@ -58,20 +58,20 @@ special_small b e = elim (or_cases ((b == 34) || (b == 92)) (nat_lt b 32) e) [
 ]
 
 -- the bytes of a character that isn't special aren't
-encode_plain : (c : ℕ) → is_special c ≡ false → all_plain (encode_utf8 c) ≡ true
+pub encode_plain : (c : ℕ) → is_special c ≡ false → all_plain (encode_utf8 c) ≡ true
 encode_plain c e = plain_by_index (encode_utf8 c) (λ k lt. false_from_ne_true (is_special (get_or (encode_utf8 c) k 0)) (λ s. both c (get_or (encode_utf8 c) k 0) e s (inside_one c [] (encode_utf8 c) k (sym (append-nil (encode_utf8 c))) lt (special_small (get_or (encode_utf8 c) k 0) s))))
   where
     both : (c b : ℕ) → is_special c ≡ false → is_special b ≡ true → c ≡ b → ⊥
     both c b e s same = true≢false (sym s ∙ ap is_special (sym same) ∙ e)
 
 -- and a character is not special whose bytes aren't
-special_from_bytes : (c : ℕ) (rest : List ℕ) → all_plain (encode_utf8 c ++ rest) ≡ true → is_special c ≡ false
+pub special_from_bytes : (c : ℕ) (rest : List ℕ) → all_plain (encode_utf8 c ++ rest) ≡ true → is_special c ≡ false
 special_from_bytes c rest e = elim (cases_lt c 128) [
   | inl lt ↦ not-true (is_special c) (and_parts (not (is_special c)) (all_plain rest) (ap (λ (l : List ℕ). all_plain (l ++ rest)) (sym (encode_ascii c lt)) ∙ e)).0
   | inr le ↦ false_from_ne_true (is_special c) (λ s. let lt = special_small c s in omega arith)
 ]
 
-plain_right : (xs ys : List ℕ) → all_plain (xs ++ ys) ≡ true → all_plain ys ≡ true
+pub plain_right : (xs ys : List ℕ) → all_plain (xs ++ ys) ≡ true → all_plain ys ≡ true
 plain_right [] ys e = e
 plain_right (x ∷ xs) ys e = plain_right xs ys (and_parts (not (is_special x)) (all_plain (xs ++ ys)) e).1
 
@@ -84,19 +84,19 @@ plain_characters (p ∷ ps) cs at rest s e h =
     let scalars = and_parts _ (all_scalars ps) s in
     (encode_utf8_all ps ++ at, plain scalars.0 (special_from_bytes p (encode_utf8_all ps) e) (append_assoc (encode_utf8 p) (encode_utf8_all ps) at), plain_characters ps cs at rest scalars.1 (plain_right (encode_utf8 p) (encode_utf8_all ps) e) h)
 
-run_ok : (at : List ℕ) (r : List ℕ × List ℕ) → run_at at ≡ Ok r → IsUtf8 (plain_front at) × ((plain_front at, behind_plain at) ≡ r)
+pub run_ok : (at : List ℕ) (r : List ℕ × List ℕ) → run_at at ≡ Ok r → IsUtf8 (plain_front at) × ((plain_front at, behind_plain at) ≡ r)
 unfolding run_at
 run_ok at r e = elim (chosen (is_utf8 (plain_front at)) (Ok (plain_front at, behind_plain at)) (fails Syntax (ill_formed_at at)) (Ok r) e) [
   | inl p ↦ (IsUtf8-from_is_utf8 (plain_front at) p.0, ok_is (plain_front at, behind_plain at) r p.1)
   | inr p ↦ absurd (broken_not_ok (broken Syntax (ill_formed_at at)) r p.1)
 ]
 
-record Escaped (made at : List ℕ) (t : (Bool × List ℕ) × List ℕ) : Type 0 where
-  character : ℕ
-  spelled : SpellsCharacter character at t.1
-  turn_is : (true, made ++ encode_utf8 character) ≡ t.0
+pub record Escaped (made at : List ℕ) (t : (Bool × List ℕ) × List ℕ) : Type 0 where
+  pub character : ℕ
+  pub spelled : SpellsCharacter character at t.1
+  pub turn_is : (true, made ++ encode_utf8 character) ≡ t.0
 
-piece_end_sound : (made at : List ℕ) (t : (Bool × List ℕ) × List ℕ) → piece_end made at ≡ Ok t → ((at ≡ 34 ∷ t.1) × ((false, made) ≡ t.0)) ⊎ Escaped made at t
+pub piece_end_sound : (made at : List ℕ) (t : (Bool × List ℕ) × List ℕ) → piece_end made at ≡ Ok t → ((at ≡ 34 ∷ t.1) × ((false, made) ≡ t.0)) ⊎ Escaped made at t
 unfolding piece_end
 piece_end_sound made [] t e = absurd (broken_not_ok (broken Syntax []) t e)
 piece_end_sound made (b ∷ at) t e =
@@ -170,7 +170,7 @@ string_sound inside r e =
 
 -- ---- what is spelled is read
 
-piece_of_run : (made at : List ℕ) → IsUtf8 (plain_front at) → piece_at made at ≡ piece_end (made ++ plain_front at) (behind_plain at)
+pub piece_of_run : (made at : List ℕ) → IsUtf8 (plain_front at) → piece_at made at ≡ piece_end (made ++ plain_front at) (behind_plain at)
 unfolding piece_at
 piece_of_run made at text = ap (λ (r : Result (List ℕ × List ℕ) Broken). r >>= λ run. piece_end (made ++ run.0) run.1) (run_at_text at text)
 
@@ -199,7 +199,7 @@ plain_completes c cs at behind rest scalar special parts more =
           turn_by most made at (piece_at (made ++ encode_utf8 c) behind) same ∙ more.read most (made ++ encode_utf8 c) shorter ∙ ap (λ (l : List ℕ). Ok (l, rest)) (append_assoc made (encode_utf8 c) (encode_utf8_all cs));
     }
 
-escape_le : (n : ℕ) (inside : List ℕ) (c : ℕ) (behind : List ℕ) → length inside ≤ n → escape_at (broken Syntax []) inside ≡ Ok (c, behind) → length behind ≤ n
+pub escape_le : (n : ℕ) (inside : List ℕ) (c : ℕ) (behind : List ℕ) → length inside ≤ n → escape_at (broken Syntax []) inside ≡ Ok (c, behind) → length behind ≤ n
 escape_le n inside c behind le e = let tame = escape_tame n (broken Syntax []) inside (omega arith) le in subst (λ (r : Result (ℕ × List ℕ) Broken). Tame n r) e tame
 
 escape_completes : (c : ℕ) (cs at behind rest : List ℕ) → Escape c at behind → Completes cs behind rest → Completes (c ∷ cs) at rest

@@ -12,25 +12,25 @@ use Rattle.jb_read.proofs.Steps.{bind_ok, chosen, ok_is, broken_not_ok, byte_sou
 
 -- ---- hexadecimal digits
 
-record Digit (d : ℕ) (at rest : List ℕ) : Type 0 where
-  byte : ℕ
-  spelled : at ≡ byte ∷ rest
-  is_digit : hex_value byte ≡ Some d
+pub record Digit (d : ℕ) (at rest : List ℕ) : Type 0 where
+  pub byte : ℕ
+  pub spelled : at ≡ byte ∷ rest
+  pub is_digit : hex_value byte ≡ Some d
 
 digit_of : (o : Option ℕ) (b : ℕ) (at : List ℕ) (r : ℕ × List ℕ) → (elim o as (λ _. Result (ℕ × List ℕ) Broken) [ None ↦ fails Syntax (b ∷ at) | Some d ↦ Ok (d, at) ]) ≡ Ok r → (o ≡ Some r.0) × (at ≡ r.1)
 digit_of None b at r e = absurd (broken_not_ok (broken Syntax (b ∷ at)) r e)
 digit_of (Some d) b at r e = let same = ok_is (d, at) r e in (ap (λ (p : ℕ × List ℕ). Some p.0) same, ap (λ (p : ℕ × List ℕ). p.1) same)
 
-digit_sound : (at : List ℕ) (r : ℕ × List ℕ) → hex_digit_at at ≡ Ok r → Digit r.0 at r.1
+pub digit_sound : (at : List ℕ) (r : ℕ × List ℕ) → hex_digit_at at ≡ Ok r → Digit r.0 at r.1
 unfolding hex_digit_at
 digit_sound [] r e = absurd (broken_not_ok (broken Syntax []) r e)
 digit_sound (b ∷ at) r e = let d = digit_of (hex_value b) b at r e in record { byte = b; spelled = ap (λ (l : List ℕ). b ∷ l) d.1; is_digit = d.0 }
 
-digit_complete : (b d : ℕ) (rest : List ℕ) → hex_value b ≡ Some d → hex_digit_at (b ∷ rest) ≡ Ok (d, rest)
+pub digit_complete : (b d : ℕ) (rest : List ℕ) → hex_value b ≡ Some d → hex_digit_at (b ∷ rest) ≡ Ok (d, rest)
 unfolding hex_digit_at
 digit_complete b d rest e = rw (e, hex_digit_at) refl
 
-unit_sound : (at : List ℕ) (r : ℕ × List ℕ) → hex_at at ≡ Ok r → SpellsUnit r.0 (92 ∷ 117 ∷ at) r.1
+pub unit_sound : (at : List ℕ) (r : ℕ × List ℕ) → hex_at at ≡ Ok r → SpellsUnit r.0 (92 ∷ 117 ∷ at) r.1
 unfolding hex_at
 unit_sound at r e =
     let a = bind_ok (hex_digit_at at) (λ a. hex_digit_at a.1 >>= λ b. hex_digit_at b.1 >>= λ c. hex_digit_at c.1 >>= λ d. Ok (((a.0 * 16 + b.0) * 16 + c.0) * 16 + d.0, d.1)) r e in
@@ -61,7 +61,7 @@ unit_sound at r e =
 tails : (a b c d : ℕ) (x y : List ℕ) → a ∷ b ∷ x ≡ c ∷ d ∷ y → x ≡ y
 tails a b c d x y e = cc
 
-unit_complete : (u : ℕ) (at rest : List ℕ) → SpellsUnit u (92 ∷ 117 ∷ at) rest → hex_at at ≡ Ok (u, rest)
+pub unit_complete : (u : ℕ) (at rest : List ℕ) → SpellsUnit u (92 ∷ 117 ∷ at) rest → hex_at at ≡ Ok (u, rest)
 unfolding hex_at
 unit_complete u at rest s =
     let front : at ≡ s.first ∷ s.second ∷ s.third ∷ s.fourth ∷ rest = tails 92 117 92 117 at (s.first ∷ s.second ∷ s.third ∷ s.fourth ∷ rest) s.spelled in
@@ -127,10 +127,10 @@ escape_sound own (b ∷ at) r e =
 
 -- ---- what is spelled is read
 
-front_unit : (u : ℕ) (at rest : List ℕ) → SpellsUnit u at rest → (digits : List ℕ) × (at ≡ 92 ∷ 117 ∷ digits) × SpellsUnit u (92 ∷ 117 ∷ digits) rest
+pub front_unit : (u : ℕ) (at rest : List ℕ) → SpellsUnit u at rest → (digits : List ℕ) × (at ≡ 92 ∷ 117 ∷ digits) × SpellsUnit u (92 ∷ 117 ∷ digits) rest
 front_unit u at rest s = (s.first ∷ s.second ∷ s.third ∷ s.fourth ∷ rest, s.spelled, subst (λ (l : List ℕ). SpellsUnit u l rest) s.spelled s)
 
-low_complete : (u : ℕ) (at rest : List ℕ) → SpellsUnit u at rest → is_low u ≡ true → low_at at ≡ Ok (u, rest)
+pub low_complete : (u : ℕ) (at rest : List ℕ) → SpellsUnit u at rest → is_low u ≡ true → low_at at ≡ Ok (u, rest)
 unfolding low_at
 low_complete u at rest s low = let f = front_unit u at rest s in rw (f.1, unit_complete u f.0 rest f.2, low) refl
 
@@ -146,7 +146,7 @@ unicode_pair : (own : Broken) (high low : ℕ) (at between rest : List ℕ) → 
 unfolding unicode_at
 unicode_pair own high low at between rest s is t is_one = rw (unit_complete high at between s, is, pair_complete own high low between rest t is_one) refl
 
-escape_of_u : (own : Broken) (at : List ℕ) → escape_at own (117 ∷ at) ≡ unicode_at own at
+pub escape_of_u : (own : Broken) (at : List ℕ) → escape_at own (117 ∷ at) ≡ unicode_at own at
 unfolding escape_at
 escape_of_u own at = refl
 

@@ -10,5 +10,6 @@ pub mod Digits
 pub mod Escapes
 pub mod Characters
 pub mod Answered
+pub mod ScalarBreaks
 pub mod Breaks
 pub mod BreaksWithin

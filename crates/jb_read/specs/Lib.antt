@@ -5,5 +5,6 @@ pub mod Strings
 pub mod Values
 pub mod Texts
 pub mod Spelling
+pub mod ScalarFaults
 pub mod Faults
 pub mod KindName

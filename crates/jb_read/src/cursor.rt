@@ -1,9 +1,11 @@
+//! What is left of a text while it is read.
+
 ghost use Rattle.std.specs.Prelude.{◌≡◌, ◌≤◌, ℕ, length, take, drop, slice_get};
 ghost use Rattle.jb_text.specs.ByteString.{IsSlice};
 ghost use Rattle.jb_read.specs.Bytes.{first};
 ghost use Rattle.jb_read.specs.Reading.{broken};
 
-use super::fault::{Broken, FaultKind};
+use crate::fault::{Broken, FaultKind};
 use bytes::Bytes;
 use jb_tree::{ByteString, Refused, SliceFault};
 use std::alloc::Global;

@@ -1,15 +1,17 @@
+//! Whole texts, and the value that a text begins with.
+
 ghost use Rattle.std.specs.Prelude.{◌≡◌, length, IfOk, IfErr, Ok, Err};
 ghost use Rattle.jb_read.specs.declared.fault.ReadFault.{ReadFault};
-ghost use Rattle.jb_read.specs.Faults.{JsonFault, IsFaultOf};
+ghost use Rattle.jb_read.specs.Faults.{FrontFault, JsonFault, IsFaultOf, IsFrontFaultOf};
 ghost use Rattle.jb_tree.specs.declared.value.Value.{Value};
 ghost use Rattle.jb_read.specs.Spelling.{JsonText, JsonFront};
 ghost use Rattle.jb_read.specs.Values.{whole_value};
 ghost use Rattle.jb_read.specs.Texts.{text_value, text_front, Answers, GivesValue, IsWithin, placed_stop, front_value};
 
-use super::cursor::Cursor;
-use super::fault::{FaultKind, ReadFault, Stop};
-use super::token::skip_spaces;
-use super::value::read_value;
+use crate::cursor::Cursor;
+use crate::fault::{FaultKind, ReadFault, Stop};
+use crate::token::skip_spaces;
+use crate::value::read_value;
 use bytes::Bytes;
 use jb_tree::{Refused, Value};
 use std::alloc::Global;
@@ -82,6 +84,9 @@ pub fn from_bytes(alloc: Global, bytes: &Bytes) -> Result<Value, Refused<ReadFau
     // What is read is what the bytes spell, and what they spell is read, unless memory runs out.
     ensures spelled { IfOk result (JsonFront bytes.now) }
     ensures only { (v : Value) → JsonFront bytes.now v → Answers result (Ok v) }
+    // What is refused is broken there, and what is broken is refused so, unless memory runs out.
+    ensures broken { IfErr result (IsFrontFaultOf bytes.now) }
+    ensures refused { (f : ReadFault) → FrontFault bytes.now f → Answers result (Err f) }
 {
     placed_front(alloc, bytes)
 }

@@ -1,3 +1,5 @@
+//! What a text is refused for, and where.
+
 ghost use Rattle.std.specs.Prelude.{◌≡◌};
 ghost use Rattle.jb_read.specs.KindName.{kind_name};
 ghost use Rattle.jb_text.specs.declared.refused.Refused.TheVariants.{Fault};

@@ -18,3 +18,4 @@ mod value;
 
 pub use document::{from_bytes, from_bytes_whole, from_str};
 pub use fault::{FaultKind, ReadFault};
+pub use jb_tree::Memory;

@@ -1,10 +1,12 @@
+//! Numbers (RFC 8259, section 6), whole ones alone.
+
 ghost use Rattle.std.specs.Prelude.{◌≡◌, ◌+◌, ◌-◌, ◌*◌, ◌≤◌, ◌<◌, ℕ, true, false, length, IsTrue, OnOk};
 ghost use Rattle.jb_read.specs.Bytes.{is_digit, begins};
 ghost use Rattle.jb_read.specs.Reading.{Tells};
 ghost use Rattle.jb_read.specs.Numbers.{digits_from, bounded_whole_at, within, number_of, is_mark, is_minus, number_at};
 
-use super::cursor::Cursor;
-use super::fault::{Broken, FaultKind};
+use crate::cursor::Cursor;
+use crate::fault::{Broken, FaultKind};
 use jb_tree::Number;
 
 fn is_digit(byte: u8) -> bool

@@ -1,13 +1,15 @@
+//! Strings (RFC 8259, section 7).
+
 ghost use Rattle.std.specs.Prelude.{◌≡◌, ◌<◌, ◌≤◌, [], length, IfOk, OnOk, OnSome, Ok, MatchOption, is_none, position, ◌&&◌, ◌==◌};
 ghost use Rattle.std.specs.Str.{error_len};
 ghost use Rattle.std.specs.String.{string_bytes};
 ghost use Rattle.jb_read.specs.Reading.{Tells, Gives, GivesTurn, told_text};
 ghost use Rattle.jb_read.specs.Strings.{is_special, plain_length, run_at, piece_at, text_at};
 
-use super::cursor::Cursor;
-use super::escape::read_escape;
-use super::fault::{Broken, FaultKind, Stop};
-use jb_tree::{ByteString, Refused, SliceFault};
+use crate::cursor::Cursor;
+use crate::escape::read_escape;
+use crate::fault::{Broken, FaultKind, Stop};
+use jb_tree::{ByteString, Memory, Refused, SliceFault};
 use std::alloc::{AllocError, Global};
 use std::str;
 use std::str::Utf8Error;
@@ -89,7 +91,7 @@ fn read_piece(cursor: &mut Cursor<'_>, made: &mut String) -> Result<bool, Stop>
 }
 
 /// A string without an escape, as a slice of the text. Another one gives nothing, and leaves the cursor.
-fn read_plain(alloc: Global, cursor: &mut Cursor<'_>) -> Result<Option<ByteString>, AllocError>
+fn read_plain(alloc: Global, cursor: &mut Cursor<'_>) -> Result<Option<ByteString>, Memory>
     ensures value { IfOk result (λ found. MatchOption found (cursor.new ≡ cursor.old) (λ text. text_at cursor.old ≡ Ok (text, cursor.new))) }
     ensures fewer { IfOk result (λ found. OnSome found (length cursor.new < length cursor.old)) }
 {

@@ -1,11 +1,13 @@
+//! White space, words, and what stands between values (RFC 8259, section 2).
+
 ghost use Rattle.std.specs.Prelude.{◌≡◌, ◌<◌, ◌≤◌, ◌+◌, length, drop, IsTrue, OnOk, if◌then◌else◌};
 ghost use Rattle.jb_read.specs.Bytes.{is_white, is_digit, skip_white};
 ghost use Rattle.std.specs.Bool.{OnTrue};
 ghost use Rattle.jb_read.specs.Reading.{Tells, byte_at, word_at};
 ghost use Rattle.jb_read.specs.Values.{begins_with, next_at};
 
-use super::cursor::Cursor;
-use super::fault::{Broken, FaultKind};
+use crate::cursor::Cursor;
+use crate::fault::{Broken, FaultKind};
 
 fn is_white(byte: u8) -> bool
     ensures { result ≡ is_white byte }

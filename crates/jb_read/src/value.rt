@@ -1,3 +1,5 @@
+//! Values, arrays and objects (RFC 8259, sections 3 to 5).
+
 ghost use Rattle.std.specs.Prelude.{◌≡◌, ◌<◌, ◌+◌, ℕ, suc, length, drop, IfOk, OnOk, MatchResult};
 ghost use Rattle.std.specs.Str.{bytes_eq};
 ghost use Rattle.indexmap.specs.IndexMap.{insert_entry};
@@ -5,12 +7,12 @@ ghost use Rattle.jb_read.specs.Reading.{broken, Tells, Gives, GivesTurn};
 ghost use Rattle.jb_read.specs.Values.{scalar_at, key_at, item_at, member_at, array_at, object_at, value_at};
 ghost use Rattle.jb_read.specs.declared.fault.FaultKind.TheVariants.{Depth};
 
-use super::cursor::Cursor;
-use super::fault::{Broken, FaultKind, Stop};
-use super::number::read_number;
-use super::text::read_text;
-use super::token::{read_byte, read_next, read_word, skip_spaces, take_byte};
-use jb_tree::{ByteString, Listed, Map, Pairs, Value};
+use crate::cursor::Cursor;
+use crate::fault::{Broken, FaultKind, Stop};
+use crate::number::read_number;
+use crate::text::read_text;
+use crate::token::{read_byte, read_next, read_word, skip_spaces, take_byte};
+use jb_tree::{ByteString, Listed, Map, Memory, Pairs, Value};
 use std::alloc::{AllocError, Global};
 
 /// A value that is no array and no object.
@@ -99,7 +101,7 @@ fn read_key(alloc: Global, cursor: &mut Cursor<'_>) -> Result<ByteString, Stop>
 }
 
 /// Puts a member among those so far. A key that is there keeps its place and takes the new value.
-fn put<V: Drop>(members: &mut Pairs<V>, key: ByteString, value: V) -> Result<(), AllocError>
+fn put_member<V: Drop>(members: &mut Pairs<V>, key: ByteString, value: V) -> Result<(), Memory>
     ensures { OnOk result (members.new ≡ insert_entry bytes_eq members.old key value) }
 {
     match members.insert(key, value) {
@@ -122,7 +124,7 @@ fn read_member(
 {
     let key = read_key(alloc, cursor)?;
     let value = read_value(alloc, cursor, depth)?;
-    put(members, key, value)?;
+    put_member(members, key, value)?;
     Ok(read_next(cursor, b'}')?)
 }
 

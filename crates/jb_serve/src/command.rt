@@ -1,8 +1,11 @@
+//! What a program's words ask for, and what it replies.
+
 ghost use Rattle.std.specs.Prelude.{◌≡◌, IfOk};
 ghost use Rattle.jb_serve.specs.Reply.{line as line_of, text_of};
 
 use bytes::Bytes;
-use std::alloc::{AllocError, Global};
+use jb_tree::Memory;
+use std::alloc::Global;
 
 /// What a command makes of its input: the text that is written, without its line feed.
 #[derive(Drop)]
@@ -15,7 +18,7 @@ pub enum Reply {
 
 impl Reply {
     /// The text with one LF, as it is written.
-    pub(crate) fn line(&self, alloc: Global) -> Result<Vec<u8>, AllocError>
+    pub(crate) fn line(&self, alloc: Global) -> Result<Vec<u8>, Memory>
         ensures { IfOk result (λ line. line.items ≡ line_of (text_of self.now)) }
     {
         let (Reply::Answer(text) | Reply::Refusal(text)) = self;
@@ -42,6 +45,6 @@ pub trait Command {
     /// # Errors
     ///
     /// Only for want of memory.
-    fn reply(&self, alloc: Global, bytes: &Bytes) -> Result<Reply, AllocError>
+    fn reply(&self, alloc: Global, bytes: &Bytes) -> Result<Reply, Memory>
         ensures { IfOk result (IsReply (answers self.now) (refuses self.now) bytes.now) };
 }

@@ -8,6 +8,7 @@ mod command;
 mod serving;
 
 pub use command::{Command, Reply};
+pub use jb_tree::Memory;
 pub use serving::{
     ANSWERED, MISUSED, NO_MEMORY, REFUSED, SINK_FAILED, SOURCE_FAILED, TOO_LONG, serve,
 };

@@ -1,6 +1,8 @@
+//! The run of a program: its words, its input, its reply.
+
 ghost use Rattle.std.specs.Prelude.{◌≡◌, ◌≢◌, ◌≤◌, ◌⊎◌, None, IfSome, IsSomeAnd};
 ghost use Rattle.jb_io.specs.Sink.{Takes, TakesFront};
-ghost use Rattle.jb_io.specs.Source.{GivesMore};
+ghost use Rattle.jb_io.specs.Source.{GivesAtMost, GivesMore};
 ghost use Rattle.jb_io.specs.Stream.{HasFailed};
 ghost use Rattle.jb_serve.specs.Reply.{line as line_of, status_of};
 ghost use Rattle.jb_serve.specs.Run.{BreaksOff, Serves};
@@ -34,7 +36,8 @@ pub const TOO_LONG: u8 = 6;
 /// Serves what the words `asked` for, and gives the exit status, from [`ANSWERED`] to [`TOO_LONG`].
 ///
 /// Where they asked for nothing, `usage` is written as it stands, and the source is not read. Else `source` is read to its
-/// end, then the reply is computed, then it is written with one LF. Refusals and the usage go to `sink` too.
+/// end, then the reply is computed, then it is written with one LF. Refusals and the usage go to `sink` too. The status is
+/// [`TOO_LONG`] exactly where the source gave more than [`jb_io::INPUT_LIMIT`] bytes.
 pub fn serve<C: Command + Copy, S: Source, K: Sink>(
     alloc: Global,
     asked: Option<C>,
@@ -61,6 +64,7 @@ pub fn serve<C: Command + Copy, S: Source, K: Sink>(
     // The causes.
     ensures source_failed { result ≡ SOURCE_FAILED → HasFailed (S.faults source.old) (S.faults source.new) }
     ensures too_long { result ≡ TOO_LONG → GivesMore (S.left source.old) (S.left source.new) }
+    ensures within { result ≢ TOO_LONG → IfSome asked (λ _. GivesAtMost (S.left source.old) (S.left source.new)) }
     ensures sink_failed { result ≡ SINK_FAILED → HasFailed (K.faults sink.old) (K.faults sink.new) }
     ensures broken_off { result ≡ SINK_FAILED → IfSome asked (λ command. BreaksOff (C.answers command) (C.refuses command)
         (S.left source.old) (S.left source.new) (K.taken sink.old) (K.taken sink.new)) }
@@ -91,6 +95,7 @@ fn serve_command<C: Command, S: Source, K: Sink>(
         → sink.new ≡ sink.old }
     ensures source_failed { result ≡ SOURCE_FAILED → HasFailed (S.faults source.old) (S.faults source.new) }
     ensures too_long { result ≡ TOO_LONG → GivesMore (S.left source.old) (S.left source.new) }
+    ensures within { result ≢ TOO_LONG → GivesAtMost (S.left source.old) (S.left source.new) }
     ensures sink_failed { result ≡ SINK_FAILED → HasFailed (K.faults sink.old) (K.faults sink.new) }
     ensures broken_off { result ≡ SINK_FAILED → BreaksOff (C.answers command.now) (C.refuses command.now)
         (S.left source.old) (S.left source.new) (K.taken sink.old) (K.taken sink.new) }

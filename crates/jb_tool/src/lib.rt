@@ -5,5 +5,6 @@ pub mod program;
 mod reply;
 mod style;
 
+pub use jb_tree::Memory;
 pub use program::{run, run_in_memory};
 pub use style::Style;

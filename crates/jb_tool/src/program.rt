@@ -1,9 +1,11 @@
+//! The program: its words, its input, its reply.
+
 ghost use Rattle.std.specs.Prelude.{◌≡◌, ◌≢◌, ◌≤◌, ◌⊎◌, ◌↔◌, None, IsSomeAnd, IfSome};
 ghost use Rattle.jb_io.specs.Sink.{Takes, TakesFront};
-ghost use Rattle.jb_io.specs.Source.{GivesMore};
+ghost use Rattle.jb_io.specs.Source.{GivesAtMost, GivesMore};
 ghost use Rattle.jb_io.specs.Stream.{HasFailed};
 ghost use Rattle.jb_serve.specs.Run.{BreaksOff, Serves};
-ghost use Rattle.jb_tool.specs.Program.{usage};
+ghost use Rattle.jb_tool.specs.Program.{IsLong, usage};
 ghost use Rattle.jb_tool.specs.Reply.{Prints, Refuses};
 ghost use Rattle.jb_tool.specs.Style.{style_asked};
 
@@ -42,6 +44,8 @@ pub fn run<S: Source, K: Sink>(alloc: Global, words: &[String], source: &mut S, 
     // The causes.
     ensures source_failed { result ≡ SOURCE_FAILED → HasFailed (S.faults source.old) (S.faults source.new) }
     ensures too_long { result ≡ TOO_LONG → GivesMore (S.left source.old) (S.left source.new) }
+    ensures within { result ≢ TOO_LONG → IfSome (style_asked words.now) (λ _.
+        GivesAtMost (S.left source.old) (S.left source.new)) }
     ensures sink_failed { result ≡ SINK_FAILED → HasFailed (K.faults sink.old) (K.faults sink.new) }
     ensures broken_off { result ≡ SINK_FAILED → IfSome (style_asked words.now) (λ style. BreaksOff (Prints style) Refuses
         (S.left source.old) (S.left source.new) (K.taken sink.old) (K.taken sink.new)) }
@@ -66,6 +70,20 @@ pub fn run_in_memory(
     ensures refused { result ≡ REFUSED → IsSomeAnd (style_asked words.now) (λ style. Serves Refuses
         (⟦<SureSource as Source>⟧.left source.old) (⟦<SureSource as Source>⟧.left source.new)
         (⟦<SureSink as Sink>⟧.taken sink.old) (⟦<SureSink as Sink>⟧.taken sink.new)) }
+
+    // The words.
+    ensures statuses { result ≤ TOO_LONG }
+    ensures usage_taken { result ≡ MISUSED
+        → Takes (⟦<SureSink as Sink>⟧.taken sink.old) (⟦<SureSink as Sink>⟧.taken sink.new) usage }
+    ensures unread { style_asked words.now ≡ None → source.new ≡ source.old }
+
+    // Nothing is written for want of memory, or of a long input.
+    ensures nothing_written { (result ≡ NO_MEMORY) ⊎ (result ≡ TOO_LONG) → sink.new ≡ sink.old }
+
+    // A long input is refused, and no other.
+    ensures long { result ≡ TOO_LONG → IsLong (⟦<SureSource as Source>⟧.left source.old) }
+    ensures too_long { style_asked words.now ≢ None → IsLong (⟦<SureSource as Source>⟧.left source.old)
+        → (result ≡ TOO_LONG) ⊎ (result ≡ NO_MEMORY) }
 {
     run(alloc, words, source, sink)
 }

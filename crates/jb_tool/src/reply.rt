@@ -9,7 +9,7 @@ use bytes::Bytes;
 use jb_print::{to_bytes, to_pretty};
 use jb_read::{ReadFault, from_bytes_whole};
 use jb_serve::{Command, Reply};
-use jb_tree::{Refused, Value};
+use jb_tree::{Memory, Refused, Value};
 use std::alloc::{AllocError, Global};
 
 impl Command for Style {
@@ -19,7 +19,7 @@ impl Command for Style {
 
     ghost refuses = { λ _. Refuses };
 
-    fn reply(&self, alloc: Global, bytes: &Bytes) -> Result<Reply, AllocError> {
+    fn reply(&self, alloc: Global, bytes: &Bytes) -> Result<Reply, Memory> {
         match from_bytes_whole(alloc, bytes) {
             Ok(value) => Ok(Reply::Answer(printed(alloc, *self, &value)?)),
             Err(Refused::Fault(fault)) => Ok(Reply::Refusal(fault_text(alloc, fault)?)),
@@ -28,7 +28,7 @@ impl Command for Style {
     }
 }
 
-fn printed(alloc: Global, style: Style, value: &Value) -> Result<Bytes, AllocError>
+fn printed(alloc: Global, style: Style, value: &Value) -> Result<Bytes, Memory>
     ensures { IfOk result (λ text. text ≡ printed style value.now) }
 {
     match style {
@@ -41,7 +41,7 @@ fn printed(alloc: Global, style: Style, value: &Value) -> Result<Bytes, AllocErr
 }
 
 /// The kind of a fault and its place.
-fn fault_text(alloc: Global, fault: ReadFault) -> Result<Bytes, AllocError>
+fn fault_text(alloc: Global, fault: ReadFault) -> Result<Bytes, Memory>
     ensures { IfOk result (λ text. text ≡ fault_text fault) }
 {
     let kind = fault.kind.name();

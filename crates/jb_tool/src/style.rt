@@ -1,3 +1,5 @@
+//! How a value is printed, and which words ask for it.
+
 ghost use Rattle.std.specs.Prelude.{◌≡◌};
 ghost use Rattle.jb_tool.specs.Style.{style_asked, style_named};
 
