@@ -21,13 +21,13 @@ module _ {W : Type 0} (ts : List (List ℕ)) (found : Option Value) (whole : W) 
   put_below (Ok stood) given after new written is =
       (ap (option_and_then (named ts)) is_found ∙ is.0, written ∙ ap with_part is.1 ∙ sym (ap (λ o. option_map_or (λ x. with_part (named_put ts x given)) o whole) is_found))
   put_below (Err back) given after new written is =
-      (ap (option_and_then (named ts)) is_found ∙ is.0, (is.1.0, written ∙ ap with_part is.1.1 ∙ same))
+      (ap (option_and_then (named ts)) is_found ∙ is.0, is.1, written ∙ ap with_part is.2 ∙ same)
 
 nothing_below : (ts : List (List ℕ)) (found : Option Value) → found ≡ None → option_and_then (named ts) found ≡ None
 nothing_below ts found none = ap (option_and_then (named ts)) none
 
 pub put_nowhere : {W : Type 0} (ts : List (List ℕ)) (found : Option Value) (given : Value) (whole changed : W) → found ≡ None → IsPut (Err given) given (option_and_then (named ts) found) whole changed whole
-put_nowhere ts found given whole changed none = (nothing_below ts found none, (refl, refl))
+put_nowhere ts found given whole changed none = (nothing_below ts found none, refl, refl)
 
 -- what is put below the outermost level is put in the value
 module _ (token : List ℕ) (ts : List (List ℕ)) (given : Value) where
@@ -47,7 +47,7 @@ module _ (token : List ℕ) (ts : List (List ℕ)) (given : Value) where
     ap (option_and_then (named ts)) (child_array token items) ∙ is.0,
     ap Array is.1 ∙ array_put items (item_named token 0 items) ∙ ap (λ o. option_map_or (λ x. child_put token (Array items) (named_put ts x given)) o (Array items)) (sym (child_array token items)),
   )
-  put_in_array (Err back) items new is = (ap (option_and_then (named ts)) (child_array token items) ∙ is.0, (is.1.0, ap Array is.1.1))
+  put_in_array (Err back) items new is = (ap (option_and_then (named ts)) (child_array token items) ∙ is.0, is.1, ap Array is.2)
 
   pub put_in_object : (r : Result Value Value) (members new : List (List ℕ × Value))
       → IsPut r given (option_and_then (named ts) (lookup (bytes_eq (decoded token)) members)) members
@@ -57,7 +57,7 @@ module _ (token : List ℕ) (ts : List (List ℕ)) (given : Value) where
     ap (option_and_then (named ts)) (child_object token members) ∙ is.0,
     ap Object is.1 ∙ object_put members (lookup (bytes_eq (decoded token)) members) ∙ ap (λ o. option_map_or (λ x. child_put token (Object members) (named_put ts x given)) o (Object members)) (sym (child_object token members)),
   )
-  put_in_object (Err back) members new is = (ap (option_and_then (named ts)) (child_object token members) ∙ is.0, (is.1.0, ap Object is.1.1))
+  put_in_object (Err back) members new is = (ap (option_and_then (named ts)) (child_object token members) ∙ is.0, is.1, ap Object is.2)
 
 within_most : (f : Value → ℕ) (xs : List Value) (i : ℕ) (x : Value) → slice_get xs i ≡ Some x → f x ≤ most f xs
 within_most f [] i x at = cc

@@ -16,20 +16,20 @@ module _ {S A : Type 0} (count : S → ℕ) where
     counted : (n : ℕ) (s t : S) (calls : List (Bool × Option A)) → count s ≡ n → Answers first last s calls t → ItemsThenNone n calls
     counted zero s t [] is gives = tt
     counted (suc n) s t [] is gives = tt
-    counted zero s t ((false, None) ∷ calls) is gives = (refl, counted zero gives.0 t calls ((at_first s gives.0).1 gives.1.0).1 gives.1.1)
-    counted zero s t ((true, None) ∷ calls) is gives = (refl, counted zero gives.0 t calls ((at_last s gives.0).1 gives.1.0).1 gives.1.1)
-    counted zero s t ((false, Some x) ∷ calls) is gives = let left = (at_first s gives.0).0 x gives.1.0 in absurd (omega (arith, is, left))
-    counted zero s t ((true, Some x) ∷ calls) is gives = let left = (at_last s gives.0).0 x gives.1.0 in absurd (omega (arith, is, left))
-    counted (suc n) s t ((false, None) ∷ calls) is gives = let left = ((at_first s gives.0).1 gives.1.0).0 in absurd (omega (arith, is, left))
-    counted (suc n) s t ((true, None) ∷ calls) is gives = let left = ((at_last s gives.0).1 gives.1.0).0 in absurd (omega (arith, is, left))
+    counted zero s t ((false, None) ∷ calls) is gives = (refl, counted zero gives.0 t calls ((at_first s gives.0).1 gives.1).1 gives.2)
+    counted zero s t ((true, None) ∷ calls) is gives = (refl, counted zero gives.0 t calls ((at_last s gives.0).1 gives.1).1 gives.2)
+    counted zero s t ((false, Some x) ∷ calls) is gives = let left = (at_first s gives.0).0 x gives.1 in absurd (omega (arith, is, left))
+    counted zero s t ((true, Some x) ∷ calls) is gives = let left = (at_last s gives.0).0 x gives.1 in absurd (omega (arith, is, left))
+    counted (suc n) s t ((false, None) ∷ calls) is gives = let left = ((at_first s gives.0).1 gives.1).0 in absurd (omega (arith, is, left))
+    counted (suc n) s t ((true, None) ∷ calls) is gives = let left = ((at_last s gives.0).1 gives.1).0 in absurd (omega (arith, is, left))
     counted (suc n) s t ((false, Some x) ∷ calls) is gives =
-        let left = (at_first s gives.0).0 x gives.1.0 in
+        let left = (at_first s gives.0).0 x gives.1 in
         let next : count gives.0 ≡ n = omega (arith, is, left) in
-        (refl, counted n gives.0 t calls next gives.1.1)
+        (refl, counted n gives.0 t calls next gives.2)
     counted (suc n) s t ((true, Some x) ∷ calls) is gives =
-        let left = (at_last s gives.0).0 x gives.1.0 in
+        let left = (at_last s gives.0).0 x gives.1 in
         let next : count gives.0 ≡ n = omega (arith, is, left) in
-        (refl, counted n gives.0 t calls next gives.1.1)
+        (refl, counted n gives.0 t calls next gives.2)
 
     pub ends : EndsForGood first last count
     ends s t calls gives = counted (count s) s t calls refl gives

@@ -2,7 +2,7 @@ use Rattle.std.proofs.Common.{ap, sym, ◌∙◌, Some, position, arith, ◌++�
 use Rattle.std.specs.Str.{bytes_eq}
 use Rattle.std.specs.Map.{keys_of}
 use Rattle.jb_map.proofs.Entries.{pair_at, new_at_place, take_pair}
-use Rattle.jb_map.proofs.copy.Pairs.copy.Goals as goal
+use Rattle.jb_map.proofs.pairs.Pairs.copy.Goals as goal
 
 pub insert_new-requires : goal.insert_new-requires
 insert_new-requires g c =
