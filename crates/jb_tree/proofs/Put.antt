@@ -1,12 +1,12 @@
 -- A value put in the place that tokens name, one token at a time.
-use Rattle.std.proofs.Common.{◌≡◌, ℕ, zero, suc, ◌+◌, ◌<◌, ◌≤◌, max, List, [], ◌∷◌, length, slice_get, slice_set, Option, Some, None, option_and_then, Result, Ok, Err, sym, ap, subst, refl, ◌∙◌, arith, rules}
+use Rattle.std.proofs.Common.{◌≡◌, ℕ, zero, suc, ◌≤◌, List, [], ◌∷◌, slice_get, slice_set, Option, Some, None, option_and_then, Result, Ok, Err, sym, ap, refl, ◌∙◌, arith}
 use denote.Param.Weighed.{most}
 use Rattle.std.specs.Option.{option_map_or}
 use Rattle.std.specs.Str.{bytes_eq}
 use Rattle.std.specs.Map.{lookup, set_value, values_of}
 use Rattle.jb_tree.specs.Index.{IsPut}
-use Rattle.jb_tree.specs.Pointer.{item_named, item_named_put, child, child_put, decoded, named, named_put, pointed, pointed_put}
-use Rattle.jb_tree.specs.declared.value.Value.{Value, Array, Object, size-Value, the_lemmas}
+use Rattle.jb_tree.specs.Pointer.{item_named, item_named_put, child_put, decoded, named, named_put}
+use Rattle.jb_tree.specs.declared.value.Value.{Value, Array, Object, size-Value}
 use Rattle.jb_tree.proofs.Levels.{child_array, child_object, child_put_array, child_put_object}
 
 pub same_item : (xs : List Value) (i : ℕ) (x : Value) → slice_get xs i ≡ Some x → slice_set xs i x ≡ xs

@@ -1,6 +1,5 @@
 -- What it is for two objects, or two arrays, to be the same, by their parts.
-use Rattle.std.proofs.Common.{◌≡◌, ◌↔◌, ℕ, Bool, true, List, [], ◌∷◌, map, Option, Some, None, sym, ap, refl, ◌∙◌}
-use Rattle.std.specs.Prelude.{IsTrue}
+use Rattle.std.proofs.Common.{◌≡◌, ◌↔◌, ℕ, true, List, [], ◌∷◌, map, Option, Some, None, sym, ap, refl, ◌∙◌}
 use Rattle.std.specs.Str.{bytes_eq}
 use Rattle.std.specs.List.{IsDistinct}
 use Rattle.std.specs.Option.{option_eq}
@@ -15,6 +14,7 @@ use Rattle.jb_tree.proofs.Equality.{equality_decides, eq-Object, sorted-Array, a
 
 -- lists of pairs that are compared as equal are the same as objects
 pub maps_decide : (es fs : List (List ℕ × Value)) → (same_pairs ghosts.eq es fs ≡ true) ↔ Same (Object es) (Object fs)
+unfolding roll-Value denote.Hole.Carrier.roll
 maps_decide es fs =
     let decided = equality_decides (Object es) (Object fs) in
     (λ t. decided.0 (eq-Object es fs ∙ t), λ s. sym (eq-Object es fs) ∙ decided.1 s)
@@ -54,6 +54,7 @@ sorted_from_items (x ∷ xs) [] s = absurd s
 sorted_from_items (x ∷ xs) (y ∷ ys) s = λ i. s.0 i ∷ sorted_from_items xs ys s.1 i
 
 pub arrays_by_items : (xs ys : List Value) → Same (Array xs) (Array ys) ↔ SameItems xs ys
+unfolding roll-Value denote.Hole.Carrier.roll
 arrays_by_items xs ys = (
   λ s. items_from_sorted xs ys (array_parts _ _ (sym (sorted-Array xs) ∙ s ∙ sorted-Array ys)),
   λ h. sorted-Array xs ∙ ap (λ l. roll-Value (Value-F.Array l)) (sorted_from_items xs ys h) ∙ sym (sorted-Array ys),

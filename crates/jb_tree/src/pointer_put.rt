@@ -31,7 +31,7 @@ impl Value {
 /// Puts a value in the place that the rest of a pointer names.
 #[cycle(putting)]
 fn put_named(place: &mut Value, rest: Option<&str>, value: Value) -> Result<Value, Value>
-    ensures { IsPut result value (named (tokens_left (option_copied rest)) place.old) place.old (named_put (tokens_left (option_copied rest)) place.old value) place.new }
+    ensures { IsPut result value (named (tokens_left (option_copied rest.entry)) place.old) place.old (named_put (tokens_left (option_copied rest.entry)) place.old value) place.new }
 {
     let Some(text) = rest else {
         return Ok(mem::replace(place, value));
@@ -52,7 +52,7 @@ fn put_in_items(
     more: Option<&str>,
     value: Value,
 ) -> Result<Value, Value>
-    ensures { IsPutBelow result value (tokens_left (option_copied more)) (item_named token.now 0 items.old) (item_named_put token.now 0 items.old) items.old items.new }
+    ensures { IsPutBelow result value (tokens_left (option_copied more.entry)) (item_named token.now 0 items.old) (item_named_put token.now 0 items.old) items.old items.new }
 {
     let Some(index) = item_place(items.len(), token) else {
         return Err(value);
@@ -71,7 +71,7 @@ fn put_in_members(
     more: Option<&str>,
     value: Value,
 ) -> Result<Value, Value>
-    ensures { IsPutBelow result value (tokens_left (option_copied more)) (lookup (bytes_eq (decoded token.now)) members.old) (set_value (bytes_eq (decoded token.now)) members.old) members.old members.new }
+    ensures { IsPutBelow result value (tokens_left (option_copied more.entry)) (lookup (bytes_eq (decoded token.now)) members.old) (set_value (bytes_eq (decoded token.now)) members.old) members.old members.new }
 {
     match member_place(members, token) {
         Some(index) => put_named(members.value_mut_at(index), more, value),
