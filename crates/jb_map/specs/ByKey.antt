@@ -39,11 +39,16 @@ module _ {X : Type 0} where
 
   -- equality of maps is symmetric and transitive where that of values is
   pub same_pairs_per : {E : X → X → Bool} → IsPartialEquivalence E → IsPartialEquivalence (same_pairs E)
-  same_pairs_per p = on_per by_key (lists_per (and_per (on_per (λ (e : List ℕ × X). e.0) (partial_equiv_from_equiv nat_list_eq_equiv)) (on_per (λ (e : List ℕ × X). e.1) p)))
+  same_pairs_per p =
+      on_per by_key (lists_per (and_per (on_per (λ (e : List ℕ × X). e.0) (partial_equiv_from_equiv nat_list_eq_equiv))
+      (on_per (λ (e : List ℕ × X). e.1) p)))
 
   pub same_pairs_equiv : {E : X → X → Bool} → IsEquivalence E → IsEquivalence (same_pairs E)
-  same_pairs_equiv e = on_equiv by_key (lists_equiv (and_equiv (on_equiv (λ (e : List ℕ × X). e.0) nat_list_eq_equiv) (on_equiv (λ (e : List ℕ × X). e.1) e)))
+  same_pairs_equiv e =
+      on_equiv by_key (lists_equiv (and_equiv (on_equiv (λ (e : List ℕ × X). e.0) nat_list_eq_equiv) (on_equiv (λ (e : List ℕ × X). e.1) e)))
 
   -- equal maps feed a hasher alike where equal values do
   pub same_pairs_Alike : {E : X → X → Bool} {F : X → HashWrites} → Alike E F → Alike (same_pairs E) (pairs_input F)
-  same_pairs_Alike a = on_Alike by_key (items_Alike (and-Alike (on_Alike (λ (e : List ℕ × X). e.0) (same_Alike fed_text bytes_decides)) (on_Alike (λ (e : List ℕ × X). e.1) a)))
+  same_pairs_Alike a =
+      on_Alike by_key (items_Alike (and-Alike (on_Alike (λ (e : List ℕ × X). e.0) (same_Alike fed_text bytes_decides))
+      (on_Alike (λ (e : List ℕ × X). e.1) a)))

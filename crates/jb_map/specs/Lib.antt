@@ -4,5 +4,4 @@ pub mod Entry
 pub mod Moved
 pub mod NextByKey
 pub mod Retained
-pub mod WalkMut
 pub mod formers

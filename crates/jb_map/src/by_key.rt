@@ -1,9 +1,10 @@
+//! The pairs of a map taken in the order of their keys.
 ghost use Rattle.std.specs.Prelude.{◌≡◌, ◌<◌, ℕ, List, Some, IfSome, length, slice_get};
 ghost use Rattle.std.specs.Option.{ForSome};
 ghost use Rattle.std.specs.Map.{keys_of};
 ghost use Rattle.jb_map.specs.NextByKey.{key_of, is_after, is_before, lesser_key, next_key};
 
-use super::pairs::Pairs;
+use crate::pairs::Pairs;
 
 impl<V> Pairs<V> {
     /// The place of the least key above the one at `last`, or of the least key of all.

@@ -5,8 +5,8 @@ ghost use Rattle.std.specs.Vec.{vec_capacity};
 ghost use Rattle.std.specs.Map.{keys_of, values_of};
 ghost use Rattle.jb_map.specs.Retained.{Keeps, Retains};
 
-use jb_text::ByteString;
-use std::alloc::{AllocError, Global};
+use jb_text::{ByteString, Memory};
+use std::alloc::Global;
 
 /// Takes the last pair out.
 pub(crate) fn pop_pair<V>(
@@ -50,13 +50,13 @@ pub(crate) fn keep_pairs<V: Drop, F: Fn(&ByteString, &V) -> bool>(
     values.truncate(kept);
 }
 
-/// Moves the keys and the values into one list of pairs, and leaves the room for them. `Err` only for want of memory,
+/// Moves the keys and the values into one list of pairs, and leaves the room for them. `Err` only when out of memory,
 /// with both as they were.
 pub(crate) fn join<V>(
     alloc: Global,
     texts: &mut Vec<ByteString>,
     values: &mut Vec<V>,
-) -> Result<Vec<(ByteString, V)>, AllocError>
+) -> Result<Vec<(ByteString, V)>, Memory>
     requires even { vec_len values.old ≡ vec_len texts.old }
     ensures pairs { IfOk result (λ pairs. pairs.items ≡ zip texts.old.items values.old.items) }
     ensures emptied { OnOk result ((texts.new.items ≡ []) × (values.new.items ≡ [])) }

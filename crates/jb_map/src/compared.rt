@@ -1,10 +1,11 @@
+//! Equality and hash of maps, which leave the order of pairs aside.
 ghost use Rattle.std.specs.Prelude.{◌≡◌, Some};
 ghost use Rattle.std.specs.Option.{option_eq};
 ghost use Rattle.std.specs.Str.{bytes_eq};
 ghost use Rattle.std.specs.Map.{lookup};
 ghost use Rattle.jb_map.specs.ByKey.{same_pairs, same_pairs_per, same_pairs_equiv, same_pairs_Alike, pairs_input};
 
-use super::pairs::Pairs;
+use crate::pairs::Pairs;
 use std::hash::{Hash, Hasher};
 
 /// Two maps are equal where they have the same pairs in any order.

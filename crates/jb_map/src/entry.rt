@@ -1,3 +1,4 @@
+//! The entry of a key: its place in a map, whether it is there or not.
 ghost use Rattle.std.specs.Prelude.{◌≡◌, ◌<◌, None, Some, IfOk, IsSome, OnErr, length, position, unwrap_or};
 ghost use Rattle.std.specs.Borrow.{sem, MutBor};
 ghost use Rattle.std.specs.Option.{UnwrapsOrElse};
@@ -6,9 +7,8 @@ ghost use Rattle.std.specs.Str.{bytes_eq};
 ghost use Rattle.std.specs.Map.{keys_of, lookup};
 ghost use Rattle.indexmap.specs.IndexMap.{insert_entry, swap_remove_entry};
 
-use super::pairs::Pairs;
-use jb_text::ByteString;
-use std::alloc::AllocError;
+use crate::pairs::Pairs;
+use jb_text::{ByteString, Memory};
 use std::mem;
 
 /// The place of a key in a map, which has the key or lacks it.
@@ -68,9 +68,9 @@ impl<'a, V: Drop> Entry<'a, V> {
         }
     }
 
-    /// The key's value, after `value` was inserted where there was none. `Err` only for want of memory, and never where
+    /// The key's value, after `value` was inserted where there was none. `Err` only when out of memory, and never where
     /// the key is there: the map is then as it was.
-    pub fn or_insert(self, value: V) -> Result<&'a mut V, AllocError>
+    pub fn or_insert(self, value: V) -> Result<&'a mut V, Memory>
         ensures* writes_back { sem 𝓛 (entry_lends_ok V.row self.entry result) }
         ensures value { IfOk result (λ place. place.now ≡ unwrap_or (entry_value self.entry) value) }
         ensures absent { OnErr result (entry_value self.entry ≡ None) }
@@ -82,7 +82,7 @@ impl<'a, V: Drop> Entry<'a, V> {
     }
 
     /// As [`Entry::or_insert`], with what `make` gives. It is called only where there is no value.
-    pub fn or_insert_with<F: FnOnce() -> V>(self, make: F) -> Result<&'a mut V, AllocError>
+    pub fn or_insert_with<F: FnOnce() -> V>(self, make: F) -> Result<&'a mut V, Memory>
         requires { entry_value self ≡ None → F.pre make }
         ensures* writes_back { sem 𝓛 (entry_lends_ok V.row self.entry result) }
         ensures value { IfOk result (λ place. UnwrapsOrElse (entry_value self.entry) (F.post make) place.now) }
@@ -122,8 +122,8 @@ impl<'a, V: Drop> VacantEntry<'a, V> {
         &self.key
     }
 
-    /// Inserts the key last, with `value`. `Err` only for want of memory, with the map as it was.
-    pub fn insert(self, value: V) -> Result<&'a mut V, AllocError>
+    /// Inserts the key last, with `value`. `Err` only when out of memory, with the map as it was.
+    pub fn insert(self, value: V) -> Result<&'a mut V, Memory>
         ensures* writes_back { sem 𝓛 (entry_lends_ok V.row (Vacant self.entry) result) }
         ensures value { IfOk result (λ place. place.now ≡ value) }
     {

@@ -1,11 +1,12 @@
+//! The keys of a map, as small as a pointer.
 ghost use Rattle.std.specs.Prelude.{◌≡◌, ◌<◌, None, Some, [], ◌∷◌, ◌++◌, IfOk, IfErr, OnOk, OnErr, length, position, slice_get, swap_remove};
 ghost use Rattle.std.specs.Option.{option_map_or};
 ghost use Rattle.std.specs.Str.{bytes_eq};
 ghost use Rattle.std.specs.List.{IsDistinct};
 
-use super::key_list::KeyList;
-use jb_text::ByteString;
-use std::alloc::{AllocError, Global};
+use crate::key_list::KeyList;
+use jb_text::{ByteString, Memory};
+use std::alloc::Global;
 use std::marker::Model;
 
 /// The keys of a map in order. Contracts see the list of their texts. It is as small as a pointer, and takes no
@@ -32,8 +33,8 @@ impl KeyColumn {
         KeyColumn { list: None }
     }
 
-    /// No keys, with room for `capacity` of them. `Err` only for want of memory.
-    pub fn with_capacity(alloc: Global, capacity: usize) -> Result<KeyColumn, AllocError>
+    /// No keys, with room for `capacity` of them. `Err` only when out of memory.
+    pub fn with_capacity(alloc: Global, capacity: usize) -> Result<KeyColumn, Memory>
         ensures { IfOk result (λ made. made ≡ []) }
     {
         if capacity == 0 {
@@ -101,7 +102,7 @@ impl KeyColumn {
         }
     }
 
-    /// Adds a key that is not there, last. `Err` only for want of memory: it hands the key back, with nothing changed.
+    /// Adds a key that is not there, last. `Err` only when out of memory: it hands the key back, with nothing changed.
     #[inline(always)]
     pub fn push(&mut self, alloc: Global, key: ByteString) -> Result<(), ByteString>
         requires { position (bytes_eq key) self.old ≡ None }
@@ -153,7 +154,7 @@ impl KeyColumn {
     }
 }
 
-/// A list of one key. `Err` only for want of memory: it hands the key back.
+/// A list of one key. `Err` only when out of memory: it hands the key back.
 fn first_key(alloc: Global, key: ByteString) -> Result<Box<KeyList>, ByteString>
     ensures made { IfOk result (λ list. list.value ≡ key ∷ []) }
     ensures returned { IfErr result (λ refused. refused ≡ key) }

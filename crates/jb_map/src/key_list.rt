@@ -1,10 +1,11 @@
+//! The keys of a map in order, with a table of their hashes where they are many.
 ghost use Rattle.std.specs.Prelude.{◌≡◌, ◌<◌, ℕ, List, None, Some, [], ◌∷◌, ◌++◌, IfOk, IfErr, IfSome, OnOk, OnErr, length, position, slice_get, swap_remove};
 ghost use Rattle.std.specs.Str.{bytes_eq};
 ghost use Rattle.std.specs.List.{IsDistinct};
 
-use super::key_table::KeyTable;
-use jb_text::ByteString;
-use std::alloc::{AllocError, Global};
+use crate::key_table::KeyTable;
+use jb_text::{ByteString, Memory};
+use std::alloc::Global;
 use std::marker::Model;
 use std::mem;
 
@@ -42,8 +43,8 @@ impl KeyList {
         }
     }
 
-    /// No keys, with room for `capacity` of them. `Err` only for want of memory.
-    pub fn with_capacity(alloc: Global, capacity: usize) -> Result<KeyList, AllocError>
+    /// No keys, with room for `capacity` of them. `Err` only when out of memory.
+    pub fn with_capacity(alloc: Global, capacity: usize) -> Result<KeyList, Memory>
         ensures { IfOk result (λ made. made ≡ []) }
     {
         Ok(KeyList {
@@ -86,7 +87,7 @@ impl KeyList {
         }
     }
 
-    /// Adds a key that is not there, last. `Err` only for want of memory: it hands the key back, with nothing changed.
+    /// Adds a key that is not there, last. `Err` only when out of memory: it hands the key back, with nothing changed.
     #[inline(always)]
     pub fn push(&mut self, alloc: Global, key: ByteString) -> Result<(), ByteString>
         requires { position (bytes_eq key) self.old ≡ None }
@@ -164,14 +165,14 @@ fn scan(texts: &[ByteString], key: &str) -> Option<usize>
 }
 
 /// Notes in the table, where there is one, that `key` comes last; makes the table where there are now too many
-/// keys to go through. `Err` only for want of memory, with the table as it was.
+/// keys to go through. `Err` only when out of memory, with the table as it was.
 #[inline(always)]
 fn note_key(
     alloc: Global,
     table: &mut Option<Box<KeyTable>>,
     texts: &[ByteString],
     key: &str,
-) -> Result<(), AllocError>
+) -> Result<(), Memory>
     requires distinct { IsDistinct bytes_eq texts.now }
     requires fits { IfSome table.old (λ t. t.value ≡ texts.now) }
     requires absent { position (bytes_eq key.now) texts.now ≡ None }
@@ -191,7 +192,7 @@ fn note_key(
 }
 
 /// The table of these texts.
-fn table_of(alloc: Global, texts: &[ByteString]) -> Result<KeyTable, AllocError>
+fn table_of(alloc: Global, texts: &[ByteString]) -> Result<KeyTable, Memory>
     requires { IsDistinct bytes_eq texts.now }
     ensures { IfOk result (λ keys. keys ≡ texts.now) }
 {

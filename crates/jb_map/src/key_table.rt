@@ -1,11 +1,12 @@
+//! The table of the hashes of a map's keys.
 ghost use Rattle.std.specs.Prelude.{◌≡◌, ◌<◌, ℕ, List, None, [], ◌∷◌, ◌++◌, OnOk, OnErr, length, position, swap_remove, swap, take, slice_index_or, true, false};
 ghost use Rattle.std.specs.Str.{bytes_eq};
 ghost use Rattle.std.specs.List.{IsDistinct, list_any};
 ghost use Rattle.jb_map.specs.Covers.{Covers};
 
 use indexmap::IndexSet;
-use jb_text::ByteString;
-use std::alloc::{AllocError, Global};
+use jb_text::{ByteString, Memory};
+use std::alloc::Global;
 use std::marker::Model;
 
 /// The texts of a map's keys in the map's order, found by hash. Contracts see the list of the texts.
@@ -40,8 +41,8 @@ impl KeyTable {
         self.texts.get_index_of(key)
     }
 
-    /// Adds a key that is not there, last. `Err` only for want of memory, with nothing changed.
-    pub fn push(&mut self, alloc: Global, key: &str) -> Result<(), AllocError>
+    /// Adds a key that is not there, last. `Err` only when out of memory, with nothing changed.
+    pub fn push(&mut self, alloc: Global, key: &str) -> Result<(), Memory>
         requires { position (bytes_eq key.now) self.old ≡ None }
         ensures pushed { OnOk result (self.new ≡ self.old ++ key.now ∷ []) }
         ensures refused { OnErr result (self.new ≡ self.old) }

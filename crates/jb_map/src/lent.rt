@@ -1,3 +1,4 @@
+//! The calls of a map that lend its values to be changed in place.
 ghost use Rattle.std.specs.Prelude.{◌≡◌, ◌<◌, Some, length, slice_get};
 ghost use Rattle.std.specs.Option.{option_copied_mut};
 ghost use Rattle.std.specs.Borrow.{Array, Lends, LendsIf, follows, sem};
@@ -5,11 +6,11 @@ ghost use Rattle.std.specs.Str.{bytes_eq};
 ghost use Rattle.std.specs.Map.{values_of, lookup, set_value};
 ghost use Rattle.indexmap.specs.IndexMap.{set_value_at};
 ghost use Rattle.indexmap.specs.Layout.{set_values};
-ghost use Rattle.jb_map.specs.WalkMut.{CanStep, pairs_left, pairs_name, values_left, values_name};
+ghost use Rattle.jb_walks.specs.WalkMut.{pairs_left, pairs_name, values_left, values_name};
 ghost use Rattle.jb_map.specs.contracts.pairs.Pairs.{the_row};
 
-use super::iter_mut::{IterMut, ValuesMut};
-use super::pairs::Pairs;
+use crate::pairs::Pairs;
+use jb_walks::{IterMut, ValuesMut};
 
 impl<V> Pairs<V> {
     /// The value at `key`, to be changed in place. What is written there changes that value alone.
@@ -35,7 +36,6 @@ impl<V> Pairs<V> {
     /// The pairs in order, the values to be changed in place. The keys stay, and so does their order.
     pub fn iter_mut(&mut self) -> IterMut<'_, V>
         ensures* writes_back { sem 𝓛 (follows (the_row V.row) (Array V.row 0) self.entry.ghost_name (pairs_name result) (set_values self.old)) }
-        ensures ready { CanStep result }
         ensures left { pairs_left result ≡ self.old }
     {
         IterMut::new(self.keys.as_slice(), self.values.as_mut_slice())

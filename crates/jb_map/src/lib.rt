@@ -6,21 +6,20 @@
 mod by_key;
 mod columns;
 mod compared;
+mod copy;
 mod entry;
 mod growth;
-mod iter;
-mod iter_mut;
+mod into_iter;
 mod key_column;
 mod key_list;
 mod key_table;
 mod lent;
 mod order;
 mod pairs;
-mod parts;
 mod removal;
 
+pub use copy::TryClone;
 pub use entry::{Entry, OccupiedEntry, VacantEntry};
-pub use iter::{IntoIter, Iter};
-pub use iter_mut::{IterMut, ValuesMut};
+pub use jb_text::Memory;
+pub use jb_walks::{IntoIter, Iter, IterMut, Keys, Values, ValuesMut};
 pub use pairs::Pairs;
-pub use parts::{Keys, Values};

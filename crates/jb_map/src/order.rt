@@ -1,3 +1,4 @@
+//! The calls of a map that keep some pairs or sort all.
 ghost use Rattle.std.specs.Prelude.{◌≡◌, IfSome, OnOk, OnErr, length, zip, vec_len};
 ghost use Rattle.std.specs.Str.{bytes_eq};
 ghost use Rattle.std.specs.List.{IsDistinct};
@@ -9,13 +10,13 @@ ghost use Rattle.jb_map.specs.ByKey.{by_key};
 ghost use Rattle.jb_map.specs.Covers.{Covers};
 ghost use Rattle.jb_map.specs.Retained.{Keeps, Retains};
 
-use super::columns::{join, keep_pairs, split};
-use super::key_column::KeyColumn;
-use super::key_list::KeyList;
-use super::key_table::KeyTable;
-use super::pairs::Pairs;
-use jb_text::ByteString;
-use std::alloc::{AllocError, Global};
+use crate::columns::{join, keep_pairs, split};
+use crate::key_column::KeyColumn;
+use crate::key_list::KeyList;
+use crate::key_table::KeyTable;
+use crate::pairs::Pairs;
+use jb_text::{ByteString, Memory};
+use std::alloc::Global;
 use std::cmp::Ordering;
 
 impl<V: Drop> Pairs<V> {
@@ -27,8 +28,8 @@ impl<V: Drop> Pairs<V> {
         self.keys.retain(&mut self.values, keep);
     }
 
-    /// Puts the pairs into the order of their keys' bytes. `Err` only for want of memory, with the map as it was.
-    pub fn sort_keys(&mut self) -> Result<(), AllocError>
+    /// Puts the pairs into the order of their keys' bytes. `Err` only when out of memory, with the map as it was.
+    pub fn sort_keys(&mut self) -> Result<(), Memory>
         ensures sorted { OnOk result (self.new ≡ by_key self.old) }
         ensures refused { OnErr result (self.new ≡ self.old) }
     {
@@ -50,9 +51,9 @@ impl KeyColumn {
         }
     }
 
-    /// Puts the keys and the values into the order of the keys' bytes. `Err` only for want of memory, with both as
+    /// Puts the keys and the values into the order of the keys' bytes. `Err` only when out of memory, with both as
     /// they were.
-    fn sort<V: Drop>(&mut self, alloc: Global, values: &mut Vec<V>) -> Result<(), AllocError>
+    fn sort<V: Drop>(&mut self, alloc: Global, values: &mut Vec<V>) -> Result<(), Memory>
         requires { length values.old.items ≡ length self.old }
         ensures sorted { OnOk result (zip self.new values.new.items ≡ by_key (zip self.old values.old.items)) }
         ensures refused { OnErr result (zip self.new values.new.items ≡ zip self.old values.old.items) }
@@ -78,7 +79,7 @@ impl KeyList {
     }
 
     /// As [`KeyColumn::sort`].
-    fn sort<V: Drop>(&mut self, alloc: Global, values: &mut Vec<V>) -> Result<(), AllocError>
+    fn sort<V: Drop>(&mut self, alloc: Global, values: &mut Vec<V>) -> Result<(), Memory>
         requires { length values.old.items ≡ length self.old }
         ensures sorted { OnOk result (zip self.new values.new.items ≡ by_key (zip self.old values.old.items)) }
         ensures refused { OnErr result (zip self.new values.new.items ≡ zip self.old values.old.items) }
@@ -106,7 +107,7 @@ fn sort_columns<V: Drop>(
     alloc: Global,
     texts: &mut Vec<ByteString>,
     values: &mut Vec<V>,
-) -> Result<(), AllocError>
+) -> Result<(), Memory>
     requires distinct { IsDistinct bytes_eq texts.old.items }
     requires even { vec_len values.old ≡ vec_len texts.old }
     ensures permutation { IsPermutation (zip texts.old.items values.old.items) (zip texts.new.items values.new.items) }
@@ -121,7 +122,7 @@ fn sort_columns<V: Drop>(
 }
 
 /// Puts pairs with distinct keys into the order of these.
-fn sort_pairs<V>(held: &mut Vec<(ByteString, V)>) -> Result<(), AllocError>
+fn sort_pairs<V>(held: &mut Vec<(ByteString, V)>) -> Result<(), Memory>
     requires { IsDistinct bytes_eq (keys_of held.old.items) }
     ensures permutation { IsPermutation held.old.items held.new.items }
     ensures sorted { OnOk result (held.new.items ≡ by_key held.old.items) }

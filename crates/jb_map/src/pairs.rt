@@ -1,3 +1,4 @@
+//! The map: its pairs read, found and inserted.
 ghost use Rattle.std.specs.Prelude.{◌≡◌, ◌<◌, ℕ, Some, None, [], ◌∷◌, ◌++◌, length, IfOk, IfErr, OnOk, OnErr, position, slice_get, ◌==◌, is_some};
 ghost use Rattle.std.specs.Option.{option_copied, option_map};
 ghost use Rattle.std.specs.Str.{bytes_eq};
@@ -6,10 +7,9 @@ ghost use Rattle.std.specs.Map.{keys_of, values_of, lookup, lookup_entry};
 ghost use Rattle.std.specs.Map.Iter.{deref_pair};
 ghost use Rattle.indexmap.specs.IndexMap.{insert_entry, set_value_at};
 
-use super::iter::Iter;
-use super::key_column::KeyColumn;
-use super::parts::{Keys, Values};
-use jb_text::ByteString;
+use crate::key_column::KeyColumn;
+use jb_text::{ByteString, Memory};
+use jb_walks::{Iter, Keys, Values};
 use std::alloc::{AllocError, Global};
 use std::marker::Model;
 use std::mem;
@@ -49,8 +49,8 @@ impl<V> Pairs<V> {
         }
     }
 
-    /// An empty map with room for `capacity` pairs. `Err` only for want of memory.
-    pub fn with_capacity(alloc: Global, capacity: usize) -> Result<Pairs<V>, AllocError>
+    /// An empty map with room for `capacity` pairs. `Err` only when out of memory.
+    pub fn with_capacity(alloc: Global, capacity: usize) -> Result<Pairs<V>, Memory>
         ensures { IfOk result (λ made. made ≡ []) }
     {
         Ok(Pairs {
@@ -157,12 +157,13 @@ impl<V: Drop> Pairs<V> {
     }
 
     /// Puts `value` at `key`. A new key goes last, and the answer is `Ok(None)`; a key that is there keeps its place
-    /// and its stored text, and the answer is its old value: this is never refused. `Err` only for want of memory:
+    /// and its stored text, and the answer is its old value: this is never refused. `Err` only when out of memory:
     /// it hands the pair back, and the map is as it was.
     #[inline(always)]
     pub fn insert(&mut self, key: ByteString, value: V) -> Result<Option<V>, (ByteString, V)>
         ensures old { IfOk result (λ old. old ≡ lookup (bytes_eq key) self.old) }
         ensures pairs { OnOk result (self.new ≡ insert_entry bytes_eq self.old key value) }
+        ensures absent { OnErr result (lookup (bytes_eq key) self.old ≡ None) }
         ensures returned { IfErr result (λ pair. pair ≡ (key, value)) }
         ensures unchanged { OnErr result (self.new ≡ self.old) }
     {
@@ -175,9 +176,9 @@ impl<V: Drop> Pairs<V> {
         }
     }
 
-    /// Adds a pair whose key is not there, last. `Err` only for want of memory: the pair is then dropped, and the map
+    /// Adds a pair whose key is not there, last. `Err` only when out of memory: the pair is then dropped, and the map
     /// is as it was.
-    pub fn insert_new(&mut self, key: ByteString, value: V) -> Result<(), AllocError>
+    pub fn insert_new(&mut self, key: ByteString, value: V) -> Result<(), Memory>
         requires { position (bytes_eq key) (keys_of self.old) ≡ None }
         ensures pairs { OnOk result (self.new ≡ self.old ++ (key, value) ∷ []) }
         ensures unchanged { OnErr result (self.new ≡ self.old) }

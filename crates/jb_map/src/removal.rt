@@ -1,9 +1,10 @@
+//! Pairs taken out of a map.
 ghost use Rattle.std.specs.Prelude.{◌≡◌, ◌<◌, Some, length, slice_get, swap_remove};
 ghost use Rattle.std.specs.Str.{bytes_eq};
 ghost use Rattle.std.specs.Map.{lookup, lookup_entry};
 ghost use Rattle.indexmap.specs.IndexMap.{swap_remove_entry};
 
-use super::pairs::Pairs;
+use crate::pairs::Pairs;
 use jb_text::ByteString;
 
 impl<V: Drop> Pairs<V> {

@@ -1,12 +1,14 @@
 -- What stands for a thing is read as it.
-use Rattle.std.proofs.Common.{◌≡◌, ap, ◌∙◌, Option, Some, ◌≤◌, ℕ, ℤ, pos, negsuc, nat_le, Bool, true, false, List, [], ◌∷◌, Ok, Err, Result, refl, arith, rules}
+use Rattle.std.proofs.Common.{◌≡◌, ap, ◌∙◌, Option, Some, ◌≤◌, ℕ, ℤ, pos, negsuc, nat_le, Bool, true, false, List, []}
+use Rattle.std.proofs.Common.{◌∷◌, Ok, Err, Result, refl, arith, rules}
 use Rattle.jb_tree.specs.declared.value.Value.TheVariants as value_variant
 use Rattle.std.proofs.lemmas.Bool.Decides.{nat_tests}
 use Rattle.jb_tree.specs.declared.value.Value.{Value, the_lemmas}
 use Rattle.jb_tree.specs.Value.{array_items, object_members, string_text, truth_value}
 use Rattle.jb_shape.specs.declared.shape_error.ShapeError.{ShapeError}
 use Rattle.jb_shape.specs.Outcome.{and_then, each, both}
-use Rattle.jb_shape.specs.Scalars.{of_kind, number_of, unsigned_within, signed_within, unsigned_value, signed_value, read_unsigned, read_signed, truth_value_of, read_truth, text_value, read_text}
+use Rattle.jb_shape.specs.Scalars.{of_kind, number_of, unsigned_within, signed_within, unsigned_value, signed_value, read_unsigned, read_signed}
+use Rattle.jb_shape.specs.Scalars.{truth_value_of, read_truth, text_value, read_text}
 use Rattle.jb_shape.specs.Lists.{two_of, list_value, read_list, pair_value, read_pair}
 use Rattle.jb_shape.specs.Faithful.{IsSigned, AllOf}
 
@@ -64,7 +66,8 @@ array_back reading (Ok values) xs h = ap (λ (found : Option (List Value)). and_
 array_back reading (Err e) xs h = cc
 
 pub list_back : {A : Type 0} (shape : A → Result Value ShapeError) (reading : Value → Result A ShapeError) (P : A → Type 0)
-    → ((x : A) → P x → and_then (shape x) reading ≡ Ok x) → (xs : List A) → AllOf P xs → and_then (list_value shape xs) (read_list reading) ≡ Ok xs
+    → ((x : A) → P x → and_then (shape x) reading ≡ Ok x) → (xs : List A) → AllOf P xs
+    → and_then (list_value shape xs) (read_list reading) ≡ Ok xs
 list_back shape reading P back xs all = array_back reading (each shape xs) xs (each_back reading shape P back xs all)
 
 pub both_ok : {A B : Type 0} (v : Result A ShapeError) (w : Result B ShapeError) (a : A) (b : B) → v ≡ Ok a → w ≡ Ok b → both v w ≡ Ok (a, b)
@@ -76,10 +79,13 @@ two_back : {A B : Type 0} (first : Value → Result A ShapeError) (second : Valu
 two_back first second (Err e) w a b h k = cc
 two_back first second (Ok v) (Err e) a b h k = cc
 two_back first second (Ok v) (Ok w) a b h k =
-    ap (λ (found : Option (List Value)). and_then (and_then (of_kind found) two_of) (λ items. both (first items.0) (second items.1))) (items-Array (v ∷ w ∷ []))
+    ap (λ (found : Option (List Value)). and_then (and_then (of_kind found) two_of)
+    (λ items. both (first items.0) (second items.1))) (items-Array (v ∷ w ∷ []))
     ∙ both_ok (first v) (second w) a b h k
 
-pub pair_back : {A B : Type 0} (shape : A → Result Value ShapeError) (first : Value → Result A ShapeError) (P : A → Type 0) → ((x : A) → P x → and_then (shape x) first ≡ Ok x)
-    → (form : B → Result Value ShapeError) (second : Value → Result B ShapeError) (Q : B → Type 0) → ((y : B) → Q y → and_then (form y) second ≡ Ok y)
+pub pair_back : {A B : Type 0} (shape : A → Result Value ShapeError) (first : Value → Result A ShapeError) (P : A → Type 0)
+    → ((x : A) → P x → and_then (shape x) first ≡ Ok x)
+    → (form : B → Result Value ShapeError) (second : Value → Result B ShapeError) (Q : B → Type 0)
+    → ((y : B) → Q y → and_then (form y) second ≡ Ok y)
     → (pair : A × B) → P pair.0 × Q pair.1 → and_then (pair_value shape form pair) (read_pair first second) ≡ Ok pair
 pair_back shape first P one form second Q two pair h = two_back first second (shape pair.0) (form pair.1) pair.0 pair.1 (one pair.0 h.0) (two pair.1 h.1)

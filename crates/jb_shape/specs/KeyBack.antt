@@ -1,5 +1,6 @@
 -- The text of a key is read as it.
-use Rattle.std.proofs.Common.{◌≡◌, ◌≢◌, ◌≤◌, ◌<◌, ◌^◌, ◌==◌, ◌&&◌, ap, ◌∙◌, ℕ, ℤ, pos, negsuc, suc, nat_lt, List, [], ◌∷◌, length, get_or, true, false, Ok, Result, refl, arith, rules}
+use Rattle.std.proofs.Common.{◌≡◌, ◌≢◌, ◌≤◌, ◌<◌, ◌^◌, ◌==◌, ◌&&◌, ap, ◌∙◌, ℕ, ℤ, pos, negsuc, suc}
+use Rattle.std.proofs.Common.{nat_lt, List, [], ◌∷◌, length, get_or, true, false, Ok, Result, refl, arith, rules}
 use Rattle.std.specs.Char.{is_ascii_digit}
 use Rattle.std.specs.Fmt.{decimal, signed_decimal}
 use Rattle.std.specs.List.{list_all}

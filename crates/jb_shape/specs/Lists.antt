@@ -32,16 +32,20 @@ read_pair first second value =
     and_then (and_then (of_kind (array_items value)) two_of) (λ items. both (first items.0) (second items.1))
 
 -- a key's text and its value
-abbrev pub member_value : {K V : Type 0} → (K → Result (List ℕ) ShapeError) → (V → Result Value ShapeError) → K × V → Result (List ℕ × Value) ShapeError
+abbrev pub member_value : {K V : Type 0} → (K → Result (List ℕ) ShapeError) → (V → Result Value ShapeError) → K × V
+    → Result (List ℕ × Value) ShapeError
 member_value key shape member = both (key member.0) (shape member.1)
 
 -- the object into which each member is put in turn
-abbrev pub members_value : {K V : Type 0} → (K → Result (List ℕ) ShapeError) → (V → Result Value ShapeError) → List (K × V) → Result Value ShapeError
+abbrev pub members_value : {K V : Type 0} → (K → Result (List ℕ) ShapeError) → (V → Result Value ShapeError) → List (K × V)
+    → Result Value ShapeError
 members_value key shape members =
     and_then (each (member_value key shape) members) (λ pairs. Ok (value_variant.Object (insert_all bytes_eq [] pairs)))
 
-abbrev pub read_member : {K V : Type 0} → (List ℕ → Result K ShapeError) → (Value → Result V ShapeError) → List ℕ × Value → Result (K × V) ShapeError
+abbrev pub read_member : {K V : Type 0} → (List ℕ → Result K ShapeError) → (Value → Result V ShapeError) → List ℕ × Value
+    → Result (K × V) ShapeError
 read_member key reading member = both (key member.0) (reading member.1)
 
-abbrev pub read_members_of : {K V : Type 0} → (List ℕ → Result K ShapeError) → (Value → Result V ShapeError) → Value → Result (List (K × V)) ShapeError
+abbrev pub read_members_of : {K V : Type 0} → (List ℕ → Result K ShapeError) → (Value → Result V ShapeError) → Value
+    → Result (List (K × V)) ShapeError
 read_members_of key reading value = and_then (of_kind (object_members value)) (each (read_member key reading))

@@ -15,7 +15,8 @@ use Rattle.jb_shape.specs.Members.{reading_of_members}
 use Rattle.jb_shape.specs.Faithful.{AllOf, AreMembers, HasDistinctKeys, IsNoKey}
 use Rattle.jb_shape.specs.Back.{both_ok, each_back, members-Object}
 
-and_then_ok : {A B : Type 0} (r : Result A ShapeError) (next : A → Result B ShapeError) (b : B) → and_then r next ≡ Ok b → (a : A) × (r ≡ Ok a) × (next a ≡ Ok b)
+and_then_ok : {A B : Type 0} (r : Result A ShapeError) (next : A → Result B ShapeError) (b : B) → and_then r next ≡ Ok b
+    → (a : A) × (r ≡ Ok a) × (next a ≡ Ok b)
 and_then_ok (Ok a) next b h = (a, refl, h)
 and_then_ok (Err e) next b h = cc
 
@@ -77,14 +78,18 @@ module _ {K V : Type 0} (key : List ℕ → Result K ShapeError) (reading : Valu
 
   object_back : (texts : Result (List (List ℕ × Value)) ShapeError) (pairs : List (K × V)) → and_then texts (each (read_member key reading)) ≡ Ok pairs
       → HasDistinctKeys pairs
-      → and_then (and_then texts (λ all. Ok (value_variant.Object (insert_all bytes_eq [] all)))) (reading_of_members key reading) ≡ Ok (record { pairs = pairs })
+      → and_then (and_then texts (λ all. Ok (value_variant.Object (insert_all bytes_eq [] all)))) (reading_of_members key reading)
+      ≡ Ok (record { pairs = pairs })
   object_back (Err e) pairs h distinct = cc
   object_back (Ok texts) pairs h distinct =
-      let whole : object_found (insert_all bytes_eq [] texts) ≡ Some texts = members-Object (insert_all bytes_eq [] texts) ∙ ap Some (in_turn texts pairs h distinct) in
-      ap (λ (found : Option (List (List ℕ × Value))). and_then (and_then (of_kind found) (each (read_member key reading))) (λ all. Ok (members_of all))) whole
+      let whole : object_found (insert_all bytes_eq [] texts) ≡ Some texts = members-Object (insert_all bytes_eq [] texts)
+      ∙ ap Some (in_turn texts pairs h distinct) in
+      ap (λ (found : Option (List (List ℕ × Value))). and_then (and_then (of_kind found) (each (read_member key reading)))
+      (λ all. Ok (members_of all))) whole
       ∙ ap (λ r. and_then r (λ all. Ok (members_of all))) h
 
-  member_back : (text : Result (List ℕ) ShapeError) (value : Result Value ShapeError) (k : K) (v : V) → and_then text key ≡ Ok k → and_then value reading ≡ Ok v
+  member_back : (text : Result (List ℕ) ShapeError) (value : Result Value ShapeError) (k : K) (v : V) → and_then text key ≡ Ok k
+      → and_then value reading ≡ Ok v
       → and_then (both text value) (read_member key reading) ≡ Ok (k, v)
   member_back (Err e) value k v h g = cc
   member_back (Ok text) (Err e) k v h g = cc
@@ -92,7 +97,8 @@ module _ {K V : Type 0} (key : List ℕ → Result K ShapeError) (reading : Valu
 
   pub members_back : (text : K → Result (List ℕ) ShapeError) (P : K → Type 0) → ((k : K) → P k → and_then (text k) key ≡ Ok k)
       → (shape : V → Result Value ShapeError) (Q : V → Type 0) → ((v : V) → Q v → and_then (shape v) reading ≡ Ok v)
-      → (members : Members K V) → AreMembers P Q members.pairs → and_then (members_value text shape members.pairs) (reading_of_members key reading) ≡ Ok members
+      → (members : Members K V) → AreMembers P Q members.pairs
+      → and_then (members_value text shape members.pairs) (reading_of_members key reading) ≡ Ok members
   members_back text P keys shape Q values members are =
       object_back (each (member_value text shape) members.pairs) members.pairs
       (each_back (read_member key reading) (member_value text shape) (λ pair. P pair.0 × Q pair.1)

@@ -36,7 +36,7 @@ pub trait FaithfulKey: MapKey {
 ///
 /// # Errors
 ///
-/// Only want of memory.
+/// Only when out of memory.
 pub fn comes_back<T: Faithful>(alloc: Global, given: &T) -> Result<T, Refused<ShapeError>>
     requires { T.held given.now }
     ensures { Answers (Ok given.now) result }

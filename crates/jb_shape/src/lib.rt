@@ -1,7 +1,7 @@
 //! Values of one's own types as JSON values, and back.
 //!
 //! A type that is [`ToValue`] says which value stands for it, one that is [`FromValue`] which values it reads, and
-//! one that is [`MapKey`] which texts are its keys. Each refusal but want of memory is a [`ShapeError`], and comes
+//! one that is [`MapKey`] which texts are its keys. Each refusal but that of memory is a [`ShapeError`], and comes
 //! exactly where its cause holds, for the first part that does not fit.
 #![tactic(auto)]
 
@@ -18,6 +18,7 @@ mod unsigned;
 mod variants;
 mod whole_keys;
 
+pub use jb_tree::Memory;
 pub use members::Members;
 pub use shape_error::ShapeError;
 pub use shapes::{FromValue, MapKey, ToValue, from_value, to_value};

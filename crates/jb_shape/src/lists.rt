@@ -1,3 +1,4 @@
+//! Lists and pairs, which are arrays.
 ghost use Rattle.jb_shape.specs.Lists.{list_value, read_list, pair_value, read_pair};
 
 use crate::shape_error::ShapeError;

@@ -1,3 +1,4 @@
+//! Lists of pairs that stand as objects.
 ghost use Rattle.std.specs.Prelude.{◌≡◌, OnOk};
 ghost use Rattle.std.specs.Str.{bytes_eq};
 ghost use Rattle.indexmap.specs.IndexMap.{insert_entry};
@@ -7,7 +8,7 @@ ghost use Rattle.jb_shape.specs.Members.{reading_of_members};
 
 use crate::shape_error::ShapeError;
 use crate::shapes::{FromValue, MapKey, ToValue};
-use jb_tree::{ByteString, Listed, Map, Refused, Value};
+use jb_tree::{ByteString, Listed, Map, Memory, Refused, Value};
 use std::alloc::{AllocError, Global};
 
 /// The members of an object as pairs of one's own types. Of pairs with one key the object has the place of the
@@ -49,7 +50,7 @@ fn member_value<K: MapKey, V: ToValue>(
     Ok((key.to_key(alloc)?, value.to_value(alloc)?))
 }
 
-fn put(members: &mut Map, key: ByteString, value: Value) -> Result<(), AllocError>
+fn put(members: &mut Map, key: ByteString, value: Value) -> Result<(), Memory>
     ensures { OnOk result (members.new ≡ insert_entry bytes_eq members.old key value) }
 {
     match members.insert(key, value) {

@@ -1,3 +1,4 @@
+//! Nulls, truth values, texts, values and options.
 ghost use Rattle.std.specs.Prelude.{Ok};
 ghost use Rattle.jb_shape.specs.Scalars.{unit_value, read_unit, truth_value_of, read_truth, text_value, read_text, option_value, read_option};
 

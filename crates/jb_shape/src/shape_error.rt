@@ -1,3 +1,4 @@
+//! Why something has no value, or a value no such shape.
 use jb_tree::Refused;
 use thiserror::Error;
 

@@ -1,3 +1,4 @@
+//! The traits of what has a shape, and the calls through them.
 ghost use Rattle.std.specs.Prelude.{ℕ, List, Result};
 ghost use Rattle.jb_tree.specs.declared.value.Value.{Value as JsonValue};
 ghost use Rattle.jb_shape.specs.declared.shape_error.ShapeError.{ShapeError as Cause};
@@ -16,7 +17,7 @@ pub trait ToValue {
     ///
     /// # Errors
     ///
-    /// `KeyNotText` where the type of some key has no texts, or want of memory.
+    /// `KeyNotText` where the type of some key has no texts, or out of memory.
     fn to_value(&self, alloc: Global) -> Result<Value, Refused<ShapeError>>
         ensures { Answers (shape self.now) result };
 }
@@ -30,7 +31,7 @@ pub trait FromValue: Sized + Drop {
     ///
     /// # Errors
     ///
-    /// The [`ShapeError`] of the first part that does not fit, or want of memory.
+    /// The [`ShapeError`] of the first part that does not fit, or out of memory.
     fn from_value(alloc: Global, value: &Value) -> Result<Self, Refused<ShapeError>>
         ensures { Answers (reading value.now) result };
 }
@@ -47,7 +48,7 @@ pub trait MapKey: Sized + Drop {
     ///
     /// # Errors
     ///
-    /// `KeyNotText` where the type has no texts, or want of memory.
+    /// `KeyNotText` where the type has no texts, or out of memory.
     fn to_key(&self, alloc: Global) -> Result<ByteString, Refused<ShapeError>>
         ensures { Answers (key_text self.now) result };
 
@@ -56,7 +57,7 @@ pub trait MapKey: Sized + Drop {
     /// # Errors
     ///
     /// `KeyNotText` where the type has no texts, `WrongKind` where the text is not of the type's form,
-    /// `NumberTooLarge` where it is a number outside the type, or want of memory.
+    /// `NumberTooLarge` where it is a number outside the type, or out of memory.
     fn from_key(alloc: Global, key: &str) -> Result<Self, Refused<ShapeError>>
         ensures { Answers (key_reading key.now) result };
 }

@@ -1,3 +1,4 @@
+//! The signed integer types.
 ghost use Rattle.std.specs.Prelude.{◌≡◌, ◌^◌, ◌-◌, ◌<◌, ◌≤ℤ◌, pos, negsuc, IfOk};
 ghost use Rattle.jb_shape.specs.Outcome.{Answers};
 ghost use Rattle.jb_shape.specs.Scalars.{signed_within, read_signed, signed_value};

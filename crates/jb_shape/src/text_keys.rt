@@ -1,3 +1,4 @@
+//! Texts and truth values as keys of members.
 ghost use Rattle.std.specs.Prelude.{Ok};
 ghost use Rattle.jb_shape.specs.Keys.{no_key_text, no_key};
 

@@ -1,3 +1,4 @@
+//! The unsigned integer types.
 ghost use Rattle.std.specs.Prelude.{◌≡◌, ◌≤◌, ◌^◌, ◌-◌, IfOk};
 ghost use Rattle.jb_shape.specs.Outcome.{Answers};
 ghost use Rattle.jb_shape.specs.Scalars.{number_of, unsigned_within, read_unsigned, unsigned_value};

@@ -1,3 +1,4 @@
+//! Integers as keys of members.
 ghost use Rattle.std.specs.Prelude.{◌^◌, ◌-◌};
 ghost use Rattle.jb_shape.specs.Keys.{unsigned_text, unsigned_key, signed_text, signed_key};
 

@@ -1,3 +1,4 @@
+//! Texts that are slices of a shared buffer.
 ghost use Rattle.std.specs.Prelude.{◌≡◌, ◌≤◌, IfOk, Some, length, nat_eq, slice_range, refl};
 ghost use Rattle.std.specs.Ordering.{nat_cmp};
 ghost use Rattle.std.specs.Hash as fed;
@@ -7,19 +8,21 @@ ghost use Rattle.std.specs.Cmp.Rules.{hashing};
 ghost use Rattle.std.proofs.Common.{rules};
 ghost use Rattle.jb_text.specs.ByteString.{IsSlice};
 
-use super::refused::Refused;
+use crate::refused::{Memory, Refused};
 use bytes::Bytes;
-use std::alloc::{AllocError, Global};
+use std::alloc::Global;
 use std::cmp::Ordering;
 use std::hash::{Hash, Hasher};
 use std::marker::Model;
 use std::ops::Range;
 use std::str;
+use thiserror::Error;
 
 /// Why some bytes of a buffer are no [`ByteString`].
-#[derive(Clone, Copy, Debug, PartialEq, Eq)]
+#[derive(Clone, Copy, Debug, PartialEq, Eq, Error)]
 pub enum SliceFault {
     /// The bytes are not UTF-8.
+    #[error("the bytes are no text")]
     NotText,
 }
 
@@ -41,8 +44,8 @@ impl Model for ByteString {
 }
 
 impl ByteString {
-    /// A copy of `text`. `Err` only for want of memory.
-    pub fn from_text(alloc: Global, text: &str) -> Result<ByteString, AllocError>
+    /// A copy of `text`. `Err` only when out of memory.
+    pub fn from_text(alloc: Global, text: &str) -> Result<ByteString, Memory>
         ensures { IfOk result (λ made. made ≡ text.now) }
     {
         Ok(ByteString {
@@ -67,8 +70,8 @@ impl ByteString {
         }
     }
 
-    /// The same text over the same buffer. `Err` only for want of memory.
-    pub fn copy(&self, _alloc: Global) -> Result<ByteString, AllocError>
+    /// The same text over the same buffer. `Err` only when out of memory.
+    pub fn copy(&self, _alloc: Global) -> Result<ByteString, Memory>
         ensures { IfOk result (λ copy. copy ≡ self.now) }
     {
         Ok(ByteString {

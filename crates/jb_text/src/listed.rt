@@ -1,3 +1,4 @@
+//! Growing lists, and the walk over one by value.
 ghost use Rattle.std.specs.Prelude.{◌≡◌, ◌↔◌, ◌+◌, [], ◌∷◌, ◌++◌, length, IsTrue, OnOk, OnErr, IfNone, option_to_list, slice_get, slice_set};
 ghost use Rattle.std.specs.Hash as fed;
 ghost use Rattle.std.specs.Hash.{items_Alike};
@@ -6,7 +7,8 @@ ghost use Rattle.std.specs.Option.{option_copied, option_copied_mut};
 ghost use Rattle.std.specs.Iterator.{at_most};
 ghost use Rattle.std.specs.Map.Iter.{TakesFirst, TakesLast};
 
-use std::alloc::{AllocError, Global};
+use crate::refused::Memory;
+use std::alloc::Global;
 use std::hash::{Hash, Hasher};
 use std::iter::FusedIterator;
 use std::marker::Model;
@@ -77,8 +79,8 @@ impl<T> Listed<T> {
 }
 
 impl<T: Drop> Listed<T> {
-    /// Adds `item` at the end. `Err` only for want of memory: the list is then as it was, and `item` is dropped.
-    pub fn push(&mut self, item: T) -> Result<(), AllocError>
+    /// Adds `item` at the end. `Err` only when out of memory: the list is then as it was, and `item` is dropped.
+    pub fn push(&mut self, item: T) -> Result<(), Memory>
         ensures pushed { OnOk result (self.new ≡ self.old ++ item ∷ []) }
         ensures refused { OnErr result (self.new ≡ self.old) }
     {

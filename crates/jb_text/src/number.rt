@@ -1,3 +1,4 @@
+//! Whole numbers that an `i64` or a `u64` holds.
 ghost use Rattle.std.specs.Prelude.{◌≡◌, ◌↔◌, ◌≤ℤ◌, IsTrue, false, pos, FitsSigned, IfNone};
 ghost use Rattle.std.specs.Int.{w64};
 ghost use Rattle.std.specs.Option.{SomeIff};

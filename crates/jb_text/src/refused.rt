@@ -1,9 +1,10 @@
+//! The refusals of calls that allocate: a fault of their own, or out of memory.
 use std::alloc::AllocError;
 
-/// Want of memory: the one refusal that every call that allocates has, and that is never merged with another.
+/// Out of memory: the one refusal that every call that allocates has, and that is never merged with another.
 pub type Memory = AllocError;
 
-/// Why a call that may run out of memory gave nothing: a fault of its own, or want of memory.
+/// Why a call that may run out of memory gave nothing: a fault of its own, or out of memory.
 #[derive(Clone, Copy, Debug, PartialEq, Eq, Drop)]
 pub enum Refused<E> {
     Fault(E),

@@ -1,8 +1,10 @@
+//! Texts that own their bytes.
 ghost use Rattle.std.specs.Prelude.{◌≡◌, IfOk, nat_eq, string_bytes};
 ghost use Rattle.std.specs.Cmp.Lexicographic.{pointwise, nat_list_eq_equiv};
 ghost use Rattle.std.specs.Cmp.{partial_equiv_from_equiv};
 
-use std::alloc::{AllocError, Global};
+use crate::refused::Memory;
+use std::alloc::Global;
 use std::marker::Model;
 
 /// An owned text, which contracts see as its UTF-8 bytes.
@@ -20,8 +22,8 @@ impl Model for Text {
 }
 
 impl Text {
-    /// A copy of `text`. `Err` only for want of memory.
-    pub fn from_str(alloc: Global, text: &str) -> Result<Text, AllocError>
+    /// A copy of `text`. `Err` only when out of memory.
+    pub fn from_str(alloc: Global, text: &str) -> Result<Text, Memory>
         ensures { IfOk result (λ made. made ≡ text.now) }
     {
         Ok(Text {
@@ -36,8 +38,8 @@ impl Text {
         Text { held }
     }
 
-    /// The same text in memory of its own. `Err` only for want of memory.
-    pub fn copy(&self, alloc: Global) -> Result<Text, AllocError>
+    /// The same text in memory of its own. `Err` only when out of memory.
+    pub fn copy(&self, alloc: Global) -> Result<Text, Memory>
         ensures { IfOk result (λ copy. copy ≡ self.now) }
     {
         Text::from_str(alloc, self.as_str())

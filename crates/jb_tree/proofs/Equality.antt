@@ -95,7 +95,7 @@ both false q A B a b = (λ e. absurd (cc), λ h. a.1 h.0)
 by : (p q : Bool) (A B : Type 0) → p ≡ q → Decides q A → (A → B) → (B → A) → Decides p B
 by p q A B e d f g = (λ t. f (d.0 (sym e ∙ t)), λ h. e ∙ d.1 (g h))
 
-parts : {X : Type 0} (x y : X) (xs ys : List X) → x ∷ xs ≡ y ∷ ys → (x ≡ y) × (xs ≡ ys)
+pub parts : {X : Type 0} (x y : X) (xs ys : List X) → x ∷ xs ≡ y ∷ ys → (x ≡ y) × (xs ≡ ys)
 parts x y xs ys e = (cc, cc)
 
 items_decide : (ys : List Child) (zs : List Value) → Decides (pointwise ghosts.eq (map (λ e. e.0) ys) zs) (map sorted (map (λ e. e.0) ys) ≡ map sorted zs)
@@ -120,7 +120,7 @@ members_decide (y ∷ ys) (z ∷ zs) =
     (both (bytes_eq y.0 z.0 && ghosts.eq y.1.0 z.1) (pointwise (same_pair ghosts.eq) (map plain ys) zs) _ _ (both (bytes_eq y.0 z.0) (ghosts.eq y.1.0 z.1) _ _ (bytes_eq-Decides y.0 z.0) (y.1.1 z.1)) (members_decide ys zs))
     (λ h i. (h.0.0 i, h.0.1 i) ∷ h.1 i) (λ e. let at = parts _ _ _ _ e in ((ap (λ p. p.0) at.0, ap (λ p. p.1) at.0), at.1))
 
-array_parts : (es fs : List Value) → roll-Value (Value-F.Array es) ≡ roll-Value (Value-F.Array fs) → es ≡ fs
+pub array_parts : (es fs : List Value) → roll-Value (Value-F.Array es) ≡ roll-Value (Value-F.Array fs) → es ≡ fs
 array_parts es fs e =
     let one : array_items (roll-Value (Value-F.Array es)) ≡ Some es = search (rules, the_lemmas) in
     let other : array_items (roll-Value (Value-F.Array fs)) ≡ Some fs = search (rules, the_lemmas) in

@@ -1,5 +1,7 @@
 pub mod Equality
 pub mod Levels
 pub mod Members
+pub mod Put
+pub mod Sameness
 pub mod Sorting
 pub mod Tokens

@@ -1,5 +1,5 @@
 -- The tokens of a pointer, one at a time, and what a token stands for, byte by byte.
-use Rattle.std.proofs.Common.{◌≡◌, ◌≢◌, ℕ, zero, suc, ◌^◌, Bool, cond, nat_lt, position, lt-ltb, le-ltb, slice_get, add-zero, decimal, ◌+◌, ◌<◌, ◌==◌, ◌&&◌, if◌then◌else◌, true, false, List, [], ◌∷◌, ◌++◌, length, get_or, Option, Some, None, option_and_then, refl, sym, ap, ◌∙◌, arith, append_assoc, append-nil, ne_eqb}
+use Rattle.std.proofs.Common.{◌≡◌, ◌≢◌, ℕ, zero, suc, ◌^◌, Bool, cond, nat_lt, position, lt-ltb, le-ltb, slice_get, slice_set, add-zero, decimal, ◌+◌, ◌<◌, ◌==◌, ◌&&◌, if◌then◌else◌, true, false, List, [], ◌∷◌, ◌++◌, length, get_or, Option, Some, None, option_and_then, refl, sym, ap, ◌∙◌, arith, append_assoc, append-nil, ne_eqb}
 use Rattle.std.specs.Str.{bytes_eq}
 use Rattle.std.specs.List.{position_or_len}
 use Rattle.std.proofs.lemmas.List.Sums.{position_or_len_is}
@@ -7,7 +7,7 @@ use Rattle.std.proofs.lemmas.Option.{get_or_from_slice_get}
 use Rattle.std.proofs.lemmas.Bool.{false_from_ne_true}
 use Rattle.std.proofs.lemmas.Slice.Eq.{bytes_eq-Decides}
 use Rattle.std.proofs.lemmas.Fmt.{decimal_injective}
-use Rattle.jb_tree.specs.Pointer.{item_named, tokens_from, replaced, decoded, named, child, pointed}
+use Rattle.jb_tree.specs.Pointer.{item_named, item_named_put, tokens_from, replaced, decoded, named, child, pointed}
 use Rattle.jb_tree.specs.declared.value.Value.{Value}
 
 abbrev pub Lacks : ℕ → List ℕ → Type 0
@@ -95,6 +95,18 @@ item_found token place (x ∷ xs) (suc i) is within fits =
     let other : bytes_eq token (decimal place) ≡ false = false_from_ne_true _ (λ e. let same : place + suc i ≡ place = decimal_injective _ _ (omega arith) (omega arith) (sym is ∙ (bytes_eq-Decides token (decimal place)).0 e) in omega (arith, same)) in
     let next : place + suc i ≡ (place + 1) + i = omega arith in
     rw other (item_found token (place + 1) xs i (is ∙ ap decimal next) (omega arith) (omega arith))
+
+-- the same of what is put in its place
+pub item_put_found : (token : List ℕ) (place : ℕ) (items : List Value) (i : ℕ) (w : Value) → token ≡ decimal (place + i) → i < length items → place + length items < 2 ^ 64
+    → item_named_put token place items w ≡ slice_set items i w
+item_put_found token place [] i w is within fits = absurd (omega arith)
+item_put_found token place (x ∷ xs) zero w is within fits =
+    let here : token ≡ decimal place = is ∙ ap decimal (add-zero place) in
+    rw ((bytes_eq-Decides token (decimal place)).1 here)
+item_put_found token place (x ∷ xs) (suc i) w is within fits =
+    let other : bytes_eq token (decimal place) ≡ false = false_from_ne_true _ (λ e. let same : place + suc i ≡ place = decimal_injective _ _ (omega arith) (omega arith) (sym is ∙ (bytes_eq-Decides token (decimal place)).0 e) in omega (arith, same)) in
+    let next : place + suc i ≡ (place + 1) + i = omega arith in
+    rw other (ap (λ l. x ∷ l) (item_put_found token (place + 1) xs i w (is ∙ ap decimal next) (omega arith) (omega arith)))
 
 -- no item where the token writes no place
 pub item_missing : (token : List ℕ) (place : ℕ) (items : List Value) → ((i : ℕ) → i < length items → token ≢ decimal (place + i)) → item_named token place items ≡ None

@@ -1,8 +1,11 @@
 -- What a JSON Pointer names in a value (RFC 6901).
-use Rattle.std.specs.Prelude.{ℕ, ◌+◌, ◌&&◌, ◌==◌, List, [], ◌∷◌, ◌++◌, Option, Some, None, option_and_then, if◌then◌else◌, decimal}
+use Rattle.std.specs.Prelude.{ℕ, ◌+◌, ◌&&◌, ◌==◌, List, [], ◌∷◌, ◌++◌, Option, Some, None, option_and_then}
+use Rattle.std.specs.Prelude.{Result, if◌then◌else◌, decimal}
+use Rattle.std.specs.Option.{option_map_or}
 use Rattle.std.specs.Str.{bytes_eq}
-use Rattle.std.specs.Map.{lookup}
-use Rattle.jb_tree.specs.declared.value.Value.{Value, out-Value}
+use Rattle.std.specs.Map.{lookup, set_value}
+use Rattle.jb_tree.specs.Index.{IsPut}
+use Rattle.jb_tree.specs.declared.value.Value.{Value, out-Value, Array, Object}
 use Rattle.jb_tree.specs.declared.value.Value.TheOpen.{Value-F}
 
 -- the tokens of a pointer behind its first `/`: the texts between slashes (section 3); `token` was read of the first one
@@ -44,3 +47,38 @@ named (token ∷ tokens) value = option_and_then (named tokens) (child token val
 abbrev pub pointed : List ℕ → Value → Option Value
 pointed [] value = Some value
 pointed (x ∷ rest) value = if x == 47 then named (tokens_from [] rest) value else None
+
+-- the items with w in the place of the one that the token names
+abbrev pub item_named_put : List ℕ → ℕ → List Value → Value → List Value
+item_named_put token place [] w = []
+item_named_put token place (item ∷ items) w = if bytes_eq token (decimal place) then w ∷ items else item ∷ item_named_put token (place + 1) items w
+
+-- one level with w in the place of what one token names
+abbrev pub child_put_at : List ℕ → Value-F Value → Value → Value → Value
+child_put_at token (Value-F.Array items) whole w = Array (item_named_put token 0 items w)
+child_put_at token (Value-F.Object members) whole w = Object (set_value (bytes_eq (decoded token)) members w)
+child_put_at token _ whole w = whole
+
+abbrev pub child_put : List ℕ → Value → Value → Value
+child_put token value w = child_put_at token (out-Value value) value w
+
+-- the value with w in the place of what tokens name, and all else as it was
+abbrev pub named_put : List (List ℕ) → Value → Value → Value
+named_put [] value w = w
+named_put (token ∷ tokens) value w = option_map_or (λ inner. child_put token value (named_put tokens inner w)) (child token value) value
+
+-- the value with w in the place of what a pointer names
+abbrev pub pointed_put : List ℕ → Value → Value → Value
+pointed_put [] value w = w
+pointed_put (x ∷ rest) value w = if x == 47 then named_put (tokens_from [] rest) value w else value
+
+-- the tokens of the rest of a pointer, none where it has ended
+abbrev pub tokens_left : Option (List ℕ) → List (List ℕ)
+tokens_left None = []
+tokens_left (Some rest) = tokens_from [] rest
+
+-- what it answers, and leaves, to put `given` where tokens lead from a part of a whole: `found` is that part, where there is one,
+-- and `with_part` gives the whole with another part in its place
+abbrev pub IsPutBelow : {W : Type 0} → Result Value Value → Value → List (List ℕ) → Option Value → (Value → W) → W → W → Type 0
+IsPutBelow result given tokens found with_part old new =
+    IsPut result given (option_and_then (named tokens) found) old (option_map_or (λ part. with_part (named_put tokens part given)) found old) new

@@ -1,7 +1,8 @@
+//! Values compared with a text, a number or a truth value.
 ghost use Rattle.std.specs.Prelude.{◌≡◌, ◌↔◌, Some, pos, IsTrue};
 ghost use Rattle.jb_tree.specs.Value.{string_text, whole_number, truth_value};
 
-use super::value::Value;
+use crate::value::Value;
 
 impl Value {
     /// Whether the value is this text.

@@ -1,16 +1,17 @@
+//! Values made of what Rust holds otherwise.
 ghost use Rattle.std.specs.Prelude.{◌≡◌, [], pos, IfOk, unwrap_or};
 ghost use Rattle.std.specs.Str.{bytes_eq};
 ghost use Rattle.indexmap.specs.IndexMap.{insert_all};
 ghost use Rattle.jb_tree.specs.declared.value.Value.{Null, Bool, Number, Object};
 
-use super::value::{Map, Value};
+use crate::value::{Map, Value};
 use jb_map::Pairs;
-use jb_text::{ByteString, Listed, Number};
-use std::alloc::{AllocError, Global};
+use jb_text::{ByteString, Listed, Memory, Number};
+use std::alloc::Global;
 
 impl Value {
-    /// The string of a copy of `text`. `Err` only for want of memory.
-    pub fn from_text(alloc: Global, text: &str) -> Result<Value, AllocError>
+    /// The string of a copy of `text`. `Err` only when out of memory.
+    pub fn from_text(alloc: Global, text: &str) -> Result<Value, Memory>
         ensures { IfOk result (λ made. made ≡ Value.String text.now) }
     {
         Ok(Value::String(ByteString::from_text(alloc, text)?))
@@ -23,11 +24,8 @@ impl Value {
         Value::Array(items)
     }
 
-    /// The object of these pairs, each inserted in turn. `Err` only for want of memory.
-    pub fn from_pairs(
-        alloc: Global,
-        pairs: Listed<(ByteString, Value)>,
-    ) -> Result<Value, AllocError>
+    /// The object of these pairs, each inserted in turn. `Err` only when out of memory.
+    pub fn from_pairs(alloc: Global, pairs: Listed<(ByteString, Value)>) -> Result<Value, Memory>
         ensures { IfOk result (λ made. made ≡ Value.Object (insert_all bytes_eq [] pairs)) }
     {
         Ok(Value::Object(Pairs::from_pairs(alloc, pairs)?))

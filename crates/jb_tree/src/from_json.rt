@@ -1,3 +1,4 @@
+//! Values made of the values of `serde_json`.
 ghost use Rattle.std.specs.Prelude.{◌≡◌, [], OnOk, option_map};
 ghost use Rattle.std.specs.Str.{bytes_eq};
 ghost use Rattle.indexmap.specs.IndexMap.{insert_all, insert_entry};
@@ -5,22 +6,24 @@ ghost use Rattle.serde_json.specs.View.{view, number_view, items_view, members_v
 ghost use Rattle.jb_tree.specs.declared.value.Value.{Number as whole};
 ghost use Rattle.jb_tree.specs.FromJson.{value_of, whole_of, items_of, members_of, IsTaken};
 
-use super::value::{Map, Value};
+use crate::value::{Map, Value};
 use jb_map::Pairs;
-use jb_text::{ByteString, Listed, Number, Refused};
+use jb_text::{ByteString, Listed, Memory, Number, Refused};
 use serde_json as json;
 use std::alloc::{AllocError, Global};
+use thiserror::Error;
 
 /// Why a JSON value of another make is no [`Value`].
-#[derive(Clone, Copy, Debug, PartialEq, Eq)]
+#[derive(Clone, Copy, Debug, PartialEq, Eq, Error)]
 pub enum FromJsonFault {
     /// Some number is neither an `i64` nor a `u64`.
+    #[error("a number is not whole or too large")]
     FloatInJson,
 }
 
 impl Value {
     /// The same value in memory of its own. `FloatInJson` exactly where some number in it is neither an `i64` nor a
-    /// `u64`; `Memory` only for want of memory.
+    /// `u64`; `Memory` only when out of memory.
     pub fn from_json(alloc: Global, value: &json::Value) -> Result<Value, Refused<FromJsonFault>>
         ensures { IsTaken result (value_of (view value.now)) }
     {
@@ -89,8 +92,8 @@ fn from_members(
     Ok(made)
 }
 
-/// Inserts the pair; what it replaces, or the pair itself for want of memory, is dropped.
-fn put<V: Drop>(members: &mut Pairs<V>, key: ByteString, value: V) -> Result<(), AllocError>
+/// Inserts the pair; what it replaces, or the pair itself when out of memory, is dropped.
+fn put<V: Drop>(members: &mut Pairs<V>, key: ByteString, value: V) -> Result<(), Memory>
     ensures { OnOk result (members.new ≡ insert_entry bytes_eq members.old key value) }
 {
     match members.insert(key, value) {

@@ -1,24 +1,30 @@
-ghost use Rattle.std.specs.Prelude.{◌≡◌, List, Option, Result, [], ◌∷◌, string_bytes, IsSome, IfOk, OnOk, OnErr};
+//! Places in a value, named by a number or a key.
+ghost use Rattle.std.specs.Prelude.{◌≡◌, List, Option, Result, [], ◌∷◌, string_bytes, IsSome, IfOk, OnOk, OnErr, slice_get, slice_set};
 ghost use Rattle.std.specs.Option.{option_copied, option_copied_mut};
 ghost use Rattle.std.specs.Str.{bytes_eq};
-ghost use Rattle.std.specs.Map.{lookup};
+ghost use Rattle.std.specs.Map.{lookup, set_value};
 ghost use Rattle.jb_tree.specs.declared.index.IndexError.{IndexError as Fault};
 ghost use Rattle.jb_tree.specs.declared.value.Value.{Value as Tree, Null};
-ghost use Rattle.jb_tree.specs.Index.{item_at, member_at, with_item, with_member, with_key, IsMade, IsLent};
+ghost use Rattle.jb_tree.specs.Index.{item_at, member_at, with_item, with_member, with_key, item_put, member_put, HasPlace, IsMade, IsLent, IsPut};
 
-use super::value::{Map, Value};
+use crate::value::{Map, Value};
 use jb_map::Pairs;
-use jb_text::{ByteString, Refused};
-use std::alloc::{AllocError, Global};
+use jb_text::{ByteString, Listed, Memory, Refused};
+use std::alloc::Global;
+use std::mem;
+use thiserror::Error;
 
 /// Why a value can have no place at an index.
-#[derive(Clone, Copy, Debug, PartialEq, Eq)]
+#[derive(Clone, Copy, Debug, PartialEq, Eq, Error)]
 pub enum IndexError {
     /// The array has `len` items, so there is none at `index`.
+    #[error("no item stands at {index} among {len}")]
     NoPlace { index: usize, len: usize },
     /// A place by number was asked for in what is no array.
+    #[error("the value is no array")]
     NotArray,
     /// A place by key was asked for in what is neither an object nor null.
+    #[error("the value is no object")]
     NotObject,
 }
 
@@ -28,6 +34,8 @@ pub trait Index: Drop {
 
     ghost makes: { Self → Tree → Result Tree Fault };
 
+    ghost puts: { Self → Tree → Tree → Tree };
+
     /// What is at the place, or `None` where there is no such place.
     fn index_into<'v>(&self, v: &'v Value) -> Option<&'v Value>
         ensures { option_copied result ≡ finds self.now v.now };
@@ -36,32 +44,28 @@ pub trait Index: Drop {
     fn index_into_mut<'v>(&self, v: &'v mut Value) -> Option<&'v mut Value>
         ensures { option_copied_mut result ≡ finds self.now v.old };
 
-    /// Makes the place where there is none: by key a null becomes an empty object, and a missing key is added last
-    /// with null; by number nothing is added. A refused call leaves the value as it was: `NotArray` and `NoPlace` by
-    /// number, `NotObject` by key, `Memory` for want of memory.
-    fn make_place(&self, alloc: Global, v: &mut Value) -> Result<(), Refused<IndexError>>
-        ensures made { IsMade result v.old v.new (makes self.now v.old) }
-        ensures there { OnOk result (IsSome (finds self.now v.new)) };
-
-    /// Makes the place as `make_place` does, and lends it. No clause says what a write there leaves of the rest.
+    /// Lends the place, and makes it where there is none: by key a null becomes an empty object, and a missing key is
+    /// added last with null; by number nothing is added. `NotArray` and `NoPlace` by number, `NotObject` by key,
+    /// `Memory` when out of memory. No clause says what a write there leaves of the rest.
     fn index_or_insert<'v>(
         &self,
         alloc: Global,
         v: &'v mut Value,
     ) -> Result<&'v mut Value, Refused<IndexError>>
-        ensures { IsLent result (makes self.now v.old) (finds self.now) }
-    {
-        match self.make_place(alloc, v) {
-            Ok(()) => Ok(self.index_into_mut(v).unwrap()),
-            Err(refused) => Err(refused),
-        }
-    }
+        ensures { IsLent result (makes self.now v.old) (finds self.now) };
+
+    /// Puts a value in the place, and gives what stood there: nothing else changes. Where there is no such place it
+    /// hands the value back, and nothing changes.
+    fn put_into(&self, v: &mut Value, value: Value) -> Result<Value, Value>
+        ensures { IsPut result value (finds self.now v.old) v.old (puts self.now v.old value) v.new };
 }
 
 impl Index for usize {
     ghost finds = { item_at };
 
     ghost makes = { with_item };
+
+    ghost puts = { item_put };
 
     fn index_into<'v>(&self, v: &'v Value) -> Option<&'v Value> {
         match v {
@@ -77,14 +81,21 @@ impl Index for usize {
         }
     }
 
-    fn make_place(&self, _alloc: Global, v: &mut Value) -> Result<(), Refused<IndexError>> {
+    fn index_or_insert<'v>(
+        &self,
+        _alloc: Global,
+        v: &'v mut Value,
+    ) -> Result<&'v mut Value, Refused<IndexError>> {
+        match test_item(v, *self) {
+            Ok(()) => Ok(self.index_into_mut(v).unwrap()),
+            Err(fault) => Err(Refused::Fault(fault)),
+        }
+    }
+
+    fn put_into(&self, v: &mut Value, value: Value) -> Result<Value, Value> {
         match v {
-            Value::Array(items) if *self < items.len() => Ok(()),
-            Value::Array(items) => Err(Refused::Fault(IndexError::NoPlace {
-                index: *self,
-                len: items.len(),
-            })),
-            _ => Err(Refused::Fault(IndexError::NotArray)),
+            Value::Array(items) => put_item(items, *self, value),
+            _ => Err(value),
         }
     }
 }
@@ -93,6 +104,8 @@ impl Index for &str {
     ghost finds = { λ key. member_at key.now };
 
     ghost makes = { λ key. with_member key.now };
+
+    ghost puts = { λ key. member_put key.now };
 
     fn index_into<'v>(&self, v: &'v Value) -> Option<&'v Value> {
         match v {
@@ -108,17 +121,21 @@ impl Index for &str {
         }
     }
 
-    fn make_place(&self, alloc: Global, v: &mut Value) -> Result<(), Refused<IndexError>> {
+    fn index_or_insert<'v>(
+        &self,
+        alloc: Global,
+        v: &'v mut Value,
+    ) -> Result<&'v mut Value, Refused<IndexError>> {
+        match make_member(alloc, v, *self) {
+            Ok(()) => Ok(self.index_into_mut(v).unwrap()),
+            Err(refused) => Err(refused),
+        }
+    }
+
+    fn put_into(&self, v: &mut Value, value: Value) -> Result<Value, Value> {
         match v {
-            Value::Null => {
-                *v = Value::Object(only_member(alloc, *self)?);
-                Ok(())
-            }
-            Value::Object(members) => {
-                add_member(alloc, members, *self)?;
-                Ok(())
-            }
-            _ => Err(Refused::Fault(IndexError::NotObject)),
+            Value::Object(members) => put_member(members, *self, value),
+            _ => Err(value),
         }
     }
 }
@@ -128,6 +145,8 @@ impl Index for &String {
 
     ghost makes = { λ key. with_member (string_bytes key.now) };
 
+    ghost puts = { λ key. member_put (string_bytes key.now) };
+
     fn index_into<'v>(&self, v: &'v Value) -> Option<&'v Value> {
         self.as_str().index_into(v)
     }
@@ -136,8 +155,16 @@ impl Index for &String {
         self.as_str().index_into_mut(v)
     }
 
-    fn make_place(&self, alloc: Global, v: &mut Value) -> Result<(), Refused<IndexError>> {
-        self.as_str().make_place(alloc, v)
+    fn index_or_insert<'v>(
+        &self,
+        alloc: Global,
+        v: &'v mut Value,
+    ) -> Result<&'v mut Value, Refused<IndexError>> {
+        self.as_str().index_or_insert(alloc, v)
+    }
+
+    fn put_into(&self, v: &mut Value, value: Value) -> Result<Value, Value> {
+        self.as_str().put_into(v, value)
     }
 }
 
@@ -156,10 +183,71 @@ impl Value {
     {
         index.index_into_mut(self)
     }
+
+    /// Puts a value in the place at the index, and gives what stood there: nothing else changes. Where there is no such
+    /// place the answer is `Err` with the value itself, and nothing changes. It takes no memory.
+    pub fn put<I: Index>(&mut self, index: I, value: Value) -> Result<Value, Value>
+        ensures { IsPut result value (I.Index.finds index self.old) self.old (I.Index.puts index self.old value) self.new }
+    {
+        index.put_into(self, value)
+    }
+}
+
+/// Whether an array has an item at a place. It is `Ok` where it has one.
+fn test_item(v: &Value, place: usize) -> Result<(), IndexError>
+    ensures made { HasPlace result (with_item place v.now) v.now }
+    ensures there { OnOk result (IsSome (item_at place v.now)) }
+{
+    match v {
+        Value::Array(items) if place < items.len() => Ok(()),
+        Value::Array(items) => Err(IndexError::NoPlace {
+            index: place,
+            len: items.len(),
+        }),
+        _ => Err(IndexError::NotArray),
+    }
+}
+
+/// Makes a member at a key, as `index_or_insert` does. A refused call leaves the value as it was.
+fn make_member(alloc: Global, v: &mut Value, key: &str) -> Result<(), Refused<IndexError>>
+    ensures made { IsMade result v.old v.new (with_member key.now v.old) }
+    ensures there { OnOk result (IsSome (member_at key.now v.new)) }
+{
+    match v {
+        Value::Null => {
+            *v = Value::Object(only_member(alloc, key)?);
+            Ok(())
+        }
+        Value::Object(members) => {
+            add_member(alloc, members, key)?;
+            Ok(())
+        }
+        _ => Err(Refused::Fault(IndexError::NotObject)),
+    }
+}
+
+/// Puts a value in the place of an item.
+fn put_item(items: &mut Listed<Value>, place: usize, value: Value) -> Result<Value, Value>
+    ensures { IsPut result value (slice_get items.old place) items.old (slice_set items.old place value) items.new }
+{
+    match items.get_mut(place) {
+        Some(item) => Ok(mem::replace(item, value)),
+        None => Err(value),
+    }
+}
+
+/// Puts a value in the place of a member.
+fn put_member(members: &mut Map, key: &str, value: Value) -> Result<Value, Value>
+    ensures { IsPut result value (lookup (bytes_eq key.now) members.old) members.old (set_value (bytes_eq key.now) members.old value) members.new }
+{
+    match members.get_mut(key) {
+        Some(member) => Ok(mem::replace(member, value)),
+        None => Err(value),
+    }
 }
 
 /// The object of this one key, with null.
-fn only_member(alloc: Global, key: &str) -> Result<Map, AllocError>
+fn only_member(alloc: Global, key: &str) -> Result<Map, Memory>
     ensures { IfOk result (λ members. members ≡ (key.now, Null) ∷ []) }
 {
     let mut members = Pairs::new(alloc);
@@ -167,8 +255,8 @@ fn only_member(alloc: Global, key: &str) -> Result<Map, AllocError>
     Ok(members)
 }
 
-/// Adds the key last, with null, where it is missing. `Err` only for want of memory: the object is then as it was.
-fn add_member(alloc: Global, members: &mut Map, key: &str) -> Result<(), AllocError>
+/// Adds the key last, with null, where it is missing. `Err` only when out of memory: the object is then as it was.
+fn add_member(alloc: Global, members: &mut Map, key: &str) -> Result<(), Memory>
     ensures added { OnOk result (members.new ≡ with_key key.now members.old) }
     ensures there { OnOk result (IsSome (lookup (bytes_eq key.now) members.new)) }
     ensures refused { OnErr result (members.new ≡ members.old) }

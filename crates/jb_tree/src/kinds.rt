@@ -1,8 +1,9 @@
+//! Tests of a value's kind.
 ghost use Rattle.std.specs.Prelude.{◌≡◌, ◌↔◌, ◌≤ℤ◌, pos, false, is_some, FitsSigned, IsSomeAnd, IsTrue};
 ghost use Rattle.std.specs.Int.{w64};
 ghost use Rattle.jb_tree.specs.Value.{object_members, array_items, string_text, whole_number, truth_value, is_null};
 
-use super::value::Value;
+use crate::value::Value;
 
 impl Value {
     /// Whether this is an object.

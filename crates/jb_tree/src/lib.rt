@@ -13,13 +13,15 @@ mod kinds;
 pub mod laws;
 mod parts;
 mod pointer;
+mod pointer_put;
 mod sort;
 mod value;
 
 pub use from_json::FromJsonFault;
 pub use index::{Index, IndexError};
 pub use jb_map::{
-    Entry, IntoIter, Iter, IterMut, Keys, OccupiedEntry, Pairs, VacantEntry, Values, ValuesMut,
+    Entry, IntoIter, Iter, IterMut, Keys, OccupiedEntry, Pairs, TryClone, VacantEntry, Values,
+    ValuesMut,
 };
 pub use jb_text::{ByteString, Listed, ListedIter, Memory, Number, Refused, SliceFault, Text};
 pub use value::{Map, Value};

@@ -1,3 +1,4 @@
+//! What a value holds, by its kind.
 ghost use Rattle.std.specs.Prelude.{◌≡◌, None, is_some, MatchOption, FitsSigned};
 ghost use Rattle.std.specs.Borrow.{LendsIf, sem};
 ghost use Rattle.std.specs.Int.{w64};
@@ -8,7 +9,7 @@ ghost use Rattle.jb_tree.specs.Rows.{list_row, map_row};
 ghost use Rattle.jb_tree.specs.contracts.value.Value.{the_row};
 ghost use Rattle.jb_tree.specs.declared.value.Value.{Array, Object};
 
-use super::value::{Map, Value};
+use crate::value::{Map, Value};
 use jb_text::{Listed, Number};
 use std::mem;
 

@@ -1,10 +1,11 @@
+//! What a JSON Pointer names in a value (RFC 6901).
 ghost use Rattle.std.specs.Prelude.{◌≡◌, ◌<◌, ℕ, [], ◌∷◌, length, position, decimal, MatchOption};
 ghost use Rattle.std.specs.Option.{option_copied, option_copied_mut};
 ghost use Rattle.std.specs.Str.{bytes_eq};
 ghost use Rattle.std.specs.Map.{keys_of, lookup};
 ghost use Rattle.jb_tree.specs.Pointer.{decoded, item_named, child as named_child, pointed};
 
-use super::value::{Map, Value};
+use crate::value::{Map, Value};
 use itoa::Buffer;
 use jb_text::Listed;
 
@@ -91,7 +92,7 @@ fn member_mut<'v>(members: &'v mut Map, token: &str) -> Option<&'v mut Value>
 }
 
 /// The place below `len` that the token writes.
-fn item_place(len: usize, token: &str) -> Option<usize>
+pub(crate) fn item_place(len: usize, token: &str) -> Option<usize>
     ensures { MatchOption result ((i : ℕ) → i < len → ¬ (token.now ≡ decimal i)) (λ i. (i < len) × (token.now ≡ decimal i)) }
 {
     let Ok(place) = token.parse::<usize>() else {
@@ -105,7 +106,7 @@ fn item_place(len: usize, token: &str) -> Option<usize>
 }
 
 /// The place of the member that the token names.
-fn member_place(members: &Map, token: &str) -> Option<usize>
+pub(crate) fn member_place(members: &Map, token: &str) -> Option<usize>
     ensures { result ≡ position (bytes_eq (decoded token.now)) (keys_of members.now) }
 {
     if !token.contains('~') {

@@ -1,8 +1,9 @@
+//! The JSON value, and copies of it (RFC 8259, section 3).
 ghost use Rattle.std.specs.Prelude.{◌≡◌, IfOk};
 
-use jb_map::Pairs;
-use jb_text::{ByteString, Listed, Number};
-use std::alloc::{AllocError, Global};
+use jb_map::{Pairs, TryClone};
+use jb_text::{ByteString, Listed, Memory, Number};
+use std::alloc::Global;
 
 /// A JSON object: pairs of text and value with distinct texts, in order of insertion.
 pub type Map = Pairs<Value>;
@@ -30,9 +31,9 @@ impl Default for Value {
 }
 
 impl Value {
-    /// The same tree in memory of its own; texts share their buffers. `Err` only for want of memory.
+    /// The same tree in memory of its own; texts share their buffers. `Err` only when out of memory.
     #[cycle(copy)]
-    pub fn copy(&self, alloc: Global) -> Result<Value, AllocError>
+    pub fn copy(&self, alloc: Global) -> Result<Value, Memory>
         ensures { IfOk result (λ copy. copy ≡ self.now) }
     {
         match self {
@@ -46,8 +47,14 @@ impl Value {
     }
 }
 
+impl TryClone for Value {
+    fn try_clone(&self, alloc: Global) -> Result<Value, Memory> {
+        self.copy(alloc)
+    }
+}
+
 #[cycle(copy)]
-fn copy_items(alloc: Global, items: &Listed<Value>) -> Result<Listed<Value>, AllocError>
+fn copy_items(alloc: Global, items: &Listed<Value>) -> Result<Listed<Value>, Memory>
     ensures { IfOk result (λ copy. copy ≡ items.now) }
 {
     let mut copies = Listed::new(alloc);
@@ -58,7 +65,7 @@ fn copy_items(alloc: Global, items: &Listed<Value>) -> Result<Listed<Value>, All
 }
 
 #[cycle(copy)]
-fn copy_members(alloc: Global, members: &Map) -> Result<Map, AllocError>
+fn copy_members(alloc: Global, members: &Map) -> Result<Map, Memory>
     ensures { IfOk result (λ copy. copy ≡ members.now) }
 {
     let mut copies = Pairs::new(alloc);

@@ -1,19 +1,19 @@
 //! Maps of numbers: calls succeed with ample memory, on both sides of sixteen pairs, from where on there is a table of
 //! the keys.
 use jb_map::Pairs;
-use jb_text::{ByteString, Listed};
+use jb_text::{ByteString, Listed, Memory};
 use std::alloc::{AllocError, Global};
 use std::mem;
 use std::process::Abort;
 
 /// A key of the tests.
-fn key(alloc: Global, number: u64) -> Result<ByteString, AllocError> {
+fn key(alloc: Global, number: u64) -> Result<ByteString, Memory> {
     let text = format!(in alloc; "key {number}")?;
     ByteString::from_text(alloc, text.as_str())
 }
 
 /// The map of these pairs, with a key for each first number.
-fn map_of(alloc: Global, pairs: &[(u64, u64)]) -> Result<Pairs<u64>, AllocError> {
+fn map_of(alloc: Global, pairs: &[(u64, u64)]) -> Result<Pairs<u64>, Memory> {
     let mut list = Listed::new(alloc);
     for (number, value) in pairs {
         list.push((key(alloc, *number)?, *value))?;
@@ -27,7 +27,7 @@ fn put(
     map: &mut Pairs<u64>,
     number: u64,
     value: u64,
-) -> Result<Option<u64>, AllocError> {
+) -> Result<Option<u64>, Memory> {
     match map.insert(key(alloc, number)?, value) {
         Ok(old) => Ok(old),
         Err(_) => Err(AllocError),
@@ -35,7 +35,7 @@ fn put(
 }
 
 /// The pairs in order, as one text.
-fn shown(alloc: Global, map: &Pairs<u64>) -> Result<String, AllocError> {
+fn shown(alloc: Global, map: &Pairs<u64>) -> Result<String, Memory> {
     let mut text = String::new(alloc);
     for (key, value) in map.iter() {
         text.push_str(key.as_str())?;
@@ -49,14 +49,14 @@ fn assert_shows(
     alloc: Global,
     map: &Pairs<u64>,
     wanted: &str,
-) -> Result<(), AllocError> {
+) -> Result<(), Memory> {
     assert_eq!(*rt; shown(alloc, map)?.as_str(), wanted);
     Ok(())
 }
 
 /// Puts each number below forty at its own key and then 0 at the key of its half: whether only the second of these keys
 /// was there each time.
-fn put_forty(alloc: Global, map: &mut Pairs<u64>) -> Result<bool, AllocError> {
+fn put_forty(alloc: Global, map: &mut Pairs<u64>) -> Result<bool, Memory> {
     let mut is_right = true;
     for number in 0..40u64 {
         let own = put(alloc, map, number, number)?;
@@ -67,7 +67,7 @@ fn put_forty(alloc: Global, map: &mut Pairs<u64>) -> Result<bool, AllocError> {
 }
 
 /// How many pairs there are, where their keys count up from 0.
-fn count_in_order(alloc: Global, map: &Pairs<u64>) -> Result<Option<u64>, AllocError> {
+fn count_in_order(alloc: Global, map: &Pairs<u64>) -> Result<Option<u64>, Memory> {
     let mut place = 0u64;
     for (text, _) in map.iter() {
         if text.as_str() != key(alloc, place)?.as_str() {
@@ -88,7 +88,7 @@ fn found(map: &Pairs<u64>, keys: [&str; 3]) -> [Option<u64>; 3] {
     ]
 }
 
-fn check_places(rt: &impl Abort, alloc: Global, map: &mut Pairs<u64>) -> Result<(), AllocError> {
+fn check_places(rt: &impl Abort, alloc: Global, map: &mut Pairs<u64>) -> Result<(), Memory> {
     assert!(*rt; map.is_empty());
     assert!(*rt; put_forty(alloc, map)?);
     assert_eq!(*rt; map.len(), 40);
@@ -99,38 +99,38 @@ fn check_places(rt: &impl Abort, alloc: Global, map: &mut Pairs<u64>) -> Result<
 }
 
 #[test]
-fn a_key_keeps_its_place(rt: HostRuntime) -> Result<(), AllocError> {
+fn a_key_keeps_its_place(rt: HostRuntime) -> Result<(), Memory> {
     check_places(&rt, rt.alloc(), &mut Pairs::new(rt.alloc()))
 }
 
-fn check_removal(rt: &impl Abort, alloc: Global, map: &mut Pairs<u64>) -> Result<(), AllocError> {
+fn check_removal(rt: &impl Abort, alloc: Global, map: &mut Pairs<u64>) -> Result<(), Memory> {
     assert_shows(rt, alloc, map, "key 5=5;key 3=3;key 9=9;")?;
     assert_eq!(*rt; map.remove("key 5"), Some(5));
     assert_shows(rt, alloc, map, "key 9=9;key 3=3;")
 }
 
 #[test]
-fn a_removal_moves_the_last_pair_into_the_gap(rt: HostRuntime) -> Result<(), AllocError> {
+fn a_removal_moves_the_last_pair_into_the_gap(rt: HostRuntime) -> Result<(), Memory> {
     let alloc = rt.alloc();
     let mut map = map_of(alloc, &[(5, 4), (3, 3), (9, 9), (5, 5)])?;
     check_removal(&rt, alloc, &mut map)
 }
 
 /// Puts 8 at the key of 7 where there is none.
-fn enter(alloc: Global, map: &mut Pairs<u64>) -> Result<(), AllocError> {
+fn enter(alloc: Global, map: &mut Pairs<u64>) -> Result<(), Memory> {
     let place = map.entry(key(alloc, 7)?).or_insert(1)?;
     *place = 8;
     Ok(())
 }
 
-fn check_entry(rt: &impl Abort, alloc: Global, map: &mut Pairs<u64>) -> Result<(), AllocError> {
+fn check_entry(rt: &impl Abort, alloc: Global, map: &mut Pairs<u64>) -> Result<(), Memory> {
     enter(alloc, map)?;
     map.sort_keys()?;
     assert_shows(rt, alloc, map, "key 3=3;key 7=8;key 9=9;")
 }
 
 #[test]
-fn pairs_are_entered_and_sorted(rt: HostRuntime) -> Result<(), AllocError> {
+fn pairs_are_entered_and_sorted(rt: HostRuntime) -> Result<(), Memory> {
     let alloc = rt.alloc();
     let mut map = map_of(alloc, &[(9, 9), (3, 3)])?;
     check_entry(&rt, alloc, &mut map)
@@ -142,11 +142,7 @@ fn last(map: &Pairs<u64>) -> Option<u64> {
     Some(*value)
 }
 
-fn check_moves(
-    rt: &impl Abort,
-    from: &mut Pairs<u64>,
-    to: &mut Pairs<u64>,
-) -> Result<(), AllocError> {
+fn check_moves(rt: &impl Abort, from: &mut Pairs<u64>, to: &mut Pairs<u64>) -> Result<(), Memory> {
     from.retain(|_, value| *value != 8);
     to.append(from)?;
     assert!(*rt; from.is_empty());
@@ -155,7 +151,7 @@ fn check_moves(
 }
 
 #[test]
-fn pairs_are_kept_and_moved(rt: HostRuntime) -> Result<(), AllocError> {
+fn pairs_are_kept_and_moved(rt: HostRuntime) -> Result<(), Memory> {
     let alloc = rt.alloc();
     let mut map = map_of(alloc, &[(3, 3), (9, 9), (7, 8)])?;
     check_moves(&rt, &mut map, &mut Pairs::new(alloc))
@@ -168,7 +164,7 @@ fn write_pair<'a>(pair: (&'a ByteString, &mut u64), value: u64) -> &'a str {
 }
 
 /// Writes 22 to the last pair, 20 to the first and 21 to the one between: whether a walk from both ends gave these, and
-/// then no more.
+/// then no more, at either end.
 fn write_pairs(map: &mut Pairs<u64>) -> Option<bool> {
     let mut walk = map.iter_mut();
     let mut is_right = walk.len() == 3;
@@ -177,11 +173,12 @@ fn write_pairs(map: &mut Pairs<u64>) -> Option<bool> {
     is_right &= walk.len() == 1;
     is_right &= write_pair(walk.next_back()?, 21) == "key 1";
     is_right &= walk.next().is_none();
+    is_right &= walk.next_back().is_none();
     Some(is_right && walk.len() == 0)
 }
 
 /// That the walks' values are there, in order and by key.
-fn check_written(rt: &impl Abort, alloc: Global, map: &Pairs<u64>) -> Result<(), AllocError> {
+fn check_written(rt: &impl Abort, alloc: Global, map: &Pairs<u64>) -> Result<(), Memory> {
     assert_shows(rt, alloc, map, "key 0=20;key 1=21;key 2=22;")?;
     let values = found(map, ["key 0", "key 1", "key 2"]);
     assert_eq!(*rt; values, [Some(20), Some(21), Some(22)]);
@@ -190,7 +187,7 @@ fn check_written(rt: &impl Abort, alloc: Global, map: &Pairs<u64>) -> Result<(),
 
 /// What a walk from both ends writes is found by key.
 #[test]
-fn a_walk_writes_pairs(rt: HostRuntime) -> Result<(), AllocError> {
+fn a_walk_writes_pairs(rt: HostRuntime) -> Result<(), Memory> {
     let alloc = rt.alloc();
     let mut map = map_of(alloc, &[(0, 0), (1, 1), (2, 2)])?;
     assert_eq!(rt; write_pairs(&mut map), Some(true));
@@ -218,7 +215,7 @@ fn write_values(map: &mut Pairs<u64>) -> bool {
 
 /// The same of the walk that gives the values alone, which ends for good.
 #[test]
-fn a_walk_writes_values(rt: HostRuntime) -> Result<(), AllocError> {
+fn a_walk_writes_values(rt: HostRuntime) -> Result<(), Memory> {
     let alloc = rt.alloc();
     let mut map = map_of(alloc, &[(0, 0), (1, 1), (2, 2)])?;
     assert!(rt; write_values(&mut map));

@@ -2,8 +2,8 @@
 use crate::fixtures::shown;
 use jb_print::{to_bytes, to_pretty};
 use jb_read::{ReadFault, from_str};
-use jb_tree::{Number, Refused, Value};
-use std::alloc::{AllocError, Global};
+use jb_tree::{Memory, Number, Refused, Value};
+use std::alloc::Global;
 use std::process::Abort;
 
 const STRINGS: &[(&str, &str)] = &[
@@ -18,30 +18,30 @@ const STRINGS: &[(&str, &str)] = &[
 ];
 
 /// Whether a value has this text.
-fn prints(alloc: Global, value: &Value, wanted: &str) -> Result<bool, AllocError> {
+fn prints(alloc: Global, value: &Value, wanted: &str) -> Result<bool, Memory> {
     let text = shown(alloc, value)?;
     Ok(text.as_str() == wanted)
 }
 
-fn prints_string(alloc: Global, text: &str, wanted: &str) -> Result<bool, AllocError> {
+fn prints_string(alloc: Global, text: &str, wanted: &str) -> Result<bool, Memory> {
     let value = Value::from_text(alloc, text)?;
     prints(alloc, &value, wanted)
 }
 
 #[test]
-fn strings(rt: HostRuntime) -> Result<(), AllocError> {
+fn strings(rt: HostRuntime) -> Result<(), Memory> {
     for (text, wanted) in STRINGS {
         assert!(rt; prints_string(rt.alloc(), text, wanted)?, "{text}");
     }
     Ok(())
 }
 
-fn prints_number(alloc: Global, number: Number, wanted: &str) -> Result<bool, AllocError> {
+fn prints_number(alloc: Global, number: Number, wanted: &str) -> Result<bool, Memory> {
     prints(alloc, &Value::from(number), wanted)
 }
 
 #[test]
-fn numbers(rt: HostRuntime) -> Result<(), AllocError> {
+fn numbers(rt: HostRuntime) -> Result<(), Memory> {
     for (number, wanted) in [
         (Number::from_i64(i64::MIN), "-9223372036854775808"),
         (Number::from_i64(-1), "-1"),
@@ -60,17 +60,17 @@ const TREE: &str = r#"{"a":[],"b":{"c":1},"d":[null,true,[false,{}]]}"#;
 const PRETTY_TREE: &str =
     "{\n  \"a\": [],\n  \"b\": {\n    \"c\": 1\n  },\n  \"d\": [\n    null,\n    true,\n    [\n      false,\n      {}\n    ]\n  ]\n}";
 
-fn is_bytes(alloc: Global, value: &Value) -> Result<bool, AllocError> {
+fn is_bytes(alloc: Global, value: &Value) -> Result<bool, Memory> {
     let bytes = to_bytes(alloc, value)?;
     Ok(bytes.as_slice() == TREE.as_bytes())
 }
 
-fn is_pretty(alloc: Global, value: &Value) -> Result<bool, AllocError> {
+fn is_pretty(alloc: Global, value: &Value) -> Result<bool, Memory> {
     let text = to_pretty(alloc, value)?;
     Ok(text.as_str() == PRETTY_TREE)
 }
 
-fn check_tree(rt: &impl Abort, alloc: Global, value: &Value) -> Result<(), AllocError> {
+fn check_tree(rt: &impl Abort, alloc: Global, value: &Value) -> Result<(), Memory> {
     assert!(*rt; prints(alloc, value, TREE)?);
     assert!(*rt; is_bytes(alloc, value)?);
     assert!(*rt; is_pretty(alloc, value)?);

@@ -2,8 +2,8 @@
 use crate::fixtures::shown;
 use bytes::Bytes;
 use jb_read::{FaultKind, ReadFault, from_bytes, from_bytes_whole, from_str};
-use jb_tree::{Refused, Text, Value};
-use std::alloc::{AllocError, Global};
+use jb_tree::{Memory, Refused, Text, Value};
+use std::alloc::Global;
 
 /// Where each text breaks first.
 const BROKEN: &[(&[u8], FaultKind, usize)] = &[
@@ -112,7 +112,7 @@ fn faults_stand_where_the_text_breaks(rt: HostRuntime) {
 }
 
 /// So many lists, one in the other.
-fn nested(alloc: Global, count: usize) -> Result<Vec<u8>, AllocError> {
+fn nested(alloc: Global, count: usize) -> Result<Vec<u8>, Memory> {
     let mut text = vec![in alloc; b'['; count]?;
     for _ in 0..count {
         text.push(b']')?;
@@ -121,7 +121,7 @@ fn nested(alloc: Global, count: usize) -> Result<Vec<u8>, AllocError> {
 }
 
 #[test]
-fn nesting_ends_at_level_127(rt: HostRuntime) -> Result<(), AllocError> {
+fn nesting_ends_at_level_127(rt: HostRuntime) -> Result<(), Memory> {
     let alloc = rt.alloc();
     assert!(rt; read(alloc, nested(alloc, 127)?.as_slice()).is_ok());
     let deep = vec![in alloc; b'['; 128]?;

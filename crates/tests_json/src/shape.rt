@@ -5,8 +5,8 @@ use jb_shape::{
     FromValue, MapKey, Members, ShapeError, ToValue, from_value, laws, member, read_members,
     read_variant, to_value,
 };
-use jb_tree::{Listed, Map, Refused, Text, Value};
-use std::alloc::{AllocError, Global};
+use jb_tree::{Listed, Map, Memory, Refused, Text, Value};
+use std::alloc::Global;
 
 /// What the value of a JSON text is read as, if it is.
 fn read<T: FromValue>(alloc: Global, text: &str) -> Option<T> {
@@ -99,7 +99,7 @@ fn gives<T: ToValue>(alloc: Global, thing: &T, wanted: &str) -> bool {
 }
 
 /// The list of these bytes.
-fn bytes_of(alloc: Global, bytes: &[u8]) -> Result<Listed<u8>, AllocError> {
+fn bytes_of(alloc: Global, bytes: &[u8]) -> Result<Listed<u8>, Memory> {
     let mut list = Listed::new(alloc);
     for byte in bytes {
         list.push(*byte)?;
@@ -108,7 +108,7 @@ fn bytes_of(alloc: Global, bytes: &[u8]) -> Result<Listed<u8>, AllocError> {
 }
 
 #[test]
-fn lists_and_pairs_are_arrays(rt: HostRuntime) -> Result<(), AllocError> {
+fn lists_and_pairs_are_arrays(rt: HostRuntime) -> Result<(), Memory> {
     let alloc = rt.alloc();
     assert!(rt; gives(alloc, &u64::MAX, "18446744073709551615"));
     assert!(rt; gives(alloc, &(false, ()), "[false,null]"));
@@ -201,7 +201,7 @@ fn keys_have_texts(rt: HostRuntime) {
 }
 
 /// The members of these pairs.
-fn members_of(alloc: Global, pairs: &[(u8, u8)]) -> Result<Members<u8, u8>, AllocError> {
+fn members_of(alloc: Global, pairs: &[(u8, u8)]) -> Result<Members<u8, u8>, Memory> {
     let mut list = Listed::new(alloc);
     for pair in pairs {
         list.push(*pair)?;
@@ -210,7 +210,7 @@ fn members_of(alloc: Global, pairs: &[(u8, u8)]) -> Result<Members<u8, u8>, Allo
 }
 
 #[test]
-fn members_are_an_object(rt: HostRuntime) -> Result<(), AllocError> {
+fn members_are_an_object(rt: HostRuntime) -> Result<(), Memory> {
     let alloc = rt.alloc();
     let cause = ShapeError::KeyNotText;
     assert!(rt; refuses::<Members<bool, u8>>(alloc, "{\"1\":30}", cause));
@@ -234,7 +234,7 @@ fn an_object_is_read_as_members(rt: HostRuntime) {
 }
 
 /// The names of the tests' variants and fields.
-fn names(alloc: Global) -> Result<Listed<Text>, AllocError> {
+fn names(alloc: Global) -> Result<Listed<Text>, Memory> {
     let mut all = Listed::new(alloc);
     for name in ["A", "C"] {
         all.push(Text::from_str(alloc, name)?)?;
@@ -270,7 +270,7 @@ const VARIANTS: &[(&str, Result<(usize, bool), ShapeError>)] = &[
 ];
 
 #[test]
-fn variants_have_names(rt: HostRuntime) -> Result<(), AllocError> {
+fn variants_have_names(rt: HostRuntime) -> Result<(), Memory> {
     let names = names(rt.alloc())?;
     for (text, wanted) in VARIANTS {
         assert!(rt; is_variant(rt.alloc(), &names, text, *wanted), "{text}");
@@ -308,7 +308,7 @@ const FIELDS: &[(&str, Result<usize, ShapeError>)] = &[
 ];
 
 #[test]
-fn fields_have_names(rt: HostRuntime) -> Result<(), AllocError> {
+fn fields_have_names(rt: HostRuntime) -> Result<(), Memory> {
     let alloc = rt.alloc();
     let refused = missing(&Map::new(alloc));
     assert_eq!(rt; refused, Some(ShapeError::MissingField));

@@ -1,7 +1,6 @@
 //! Sinks: what each takes and holds, and each call that fails.
 use jb_io::{MemorySink, Sink, SinkFault, SureSink, WriterSink};
-use jb_tree::Listed;
-use std::alloc::AllocError;
+use jb_tree::{Listed, Memory};
 use std::io;
 use std::io::{ErrorKind, Write};
 
@@ -14,7 +13,7 @@ const SURE_WRITES: &[(&str, &str, bool)] = &[
 ];
 
 #[test]
-fn a_sure_sink_holds_what_fits(rt: HostRuntime) -> Result<(), AllocError> {
+fn a_sure_sink_holds_what_fits(rt: HostRuntime) -> Result<(), Memory> {
     let mut sink = SureSink::new(rt.alloc(), 5)?;
     for (bytes, held, is_whole) in SURE_WRITES {
         assert_eq!(rt; sink.write(bytes.as_bytes()), Ok(bytes.len()));
@@ -25,7 +24,7 @@ fn a_sure_sink_holds_what_fits(rt: HostRuntime) -> Result<(), AllocError> {
 }
 
 #[test]
-fn a_small_sure_sink_holds_the_first_bytes(rt: HostRuntime) -> Result<(), AllocError> {
+fn a_small_sure_sink_holds_the_first_bytes(rt: HostRuntime) -> Result<(), Memory> {
     let mut small = SureSink::new(rt.alloc(), 2)?;
     assert_eq!(rt; small.write(b"abc"), Ok(3));
     assert!(rt; !small.is_whole());
@@ -117,7 +116,7 @@ const MEMORY_WRITES: &[(&str, Result<usize, SinkFault>)] = &[
 ];
 
 #[test]
-fn listed_calls_fail_and_so_does_a_full_sink(rt: HostRuntime) -> Result<(), AllocError> {
+fn listed_calls_fail_and_so_does_a_full_sink(rt: HostRuntime) -> Result<(), Memory> {
     let mut fails = Listed::new(rt.alloc());
     fails.push(2)?;
     let mut sink = MemorySink::new(rt.alloc(), 5, 3, fails)?;

@@ -1,8 +1,8 @@
 //! Sources: each piece that is given, and each call that fails.
 use bytes::Bytes;
 use jb_io::{MemorySource, ReaderSource, Source, SourceFault, SureSource};
-use jb_tree::Listed;
-use std::alloc::{AllocError, Global};
+use jb_tree::{Listed, Memory};
+use std::alloc::Global;
 use std::io;
 use std::io::{ErrorKind, Read};
 
@@ -56,7 +56,7 @@ fn a_reader_source_goes_on_past_what_fails(rt: HostRuntime) {
 }
 
 /// The second and the fourth call.
-fn two_calls(alloc: Global) -> Result<Listed<u64>, AllocError> {
+fn two_calls(alloc: Global) -> Result<Listed<u64>, Memory> {
     let mut fails = Listed::new(alloc);
     fails.push(2)?;
     fails.push(4)?;
@@ -73,7 +73,7 @@ const ANSWERS: &[(Result<usize, SourceFault>, [u8; 4])] = &[
 ];
 
 #[test]
-fn listed_calls_fail_and_take_nothing(rt: HostRuntime) -> Result<(), AllocError> {
+fn listed_calls_fail_and_take_nothing(rt: HostRuntime) -> Result<(), Memory> {
     let fails = two_calls(rt.alloc())?;
     let mut source = MemorySource::new(Bytes::from_static(b"abcde"), 2, fails);
     for wanted in ANSWERS {

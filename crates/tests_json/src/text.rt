@@ -1,15 +1,15 @@
 //! What no clause says: that calls succeed with ample memory.
 use bytes::Bytes;
-use jb_text::{ByteString, Listed, Number, Refused, SliceFault, Text};
-use std::alloc::{AllocError, Global};
+use jb_text::{ByteString, Listed, Memory, Number, Refused, SliceFault, Text};
+use std::alloc::Global;
 use std::process::Abort;
 
-fn is_copied(alloc: Global, text: &str) -> Result<bool, AllocError> {
+fn is_copied(alloc: Global, text: &str) -> Result<bool, Memory> {
     let copy = Text::from_str(alloc, text)?.copy(alloc)?;
     Ok(copy.as_str() == text)
 }
 
-fn is_kept(alloc: Global, text: &str) -> Result<bool, AllocError> {
+fn is_kept(alloc: Global, text: &str) -> Result<bool, Memory> {
     let kept = Text::from_string(String::from_str(alloc, text)?);
     Ok(kept.as_str() == text)
 }
@@ -29,7 +29,7 @@ fn check_list(rt: &impl Abort, list: &Listed<u8>) {
 }
 
 /// The list of 7 and 8.
-fn list_of(alloc: Global) -> Result<Listed<u8>, AllocError> {
+fn list_of(alloc: Global) -> Result<Listed<u8>, Memory> {
     let mut list = Listed::new(alloc);
     list.push(7)?;
     list.push(8)?;
@@ -37,7 +37,7 @@ fn list_of(alloc: Global) -> Result<Listed<u8>, AllocError> {
 }
 
 #[test]
-fn texts_and_lists(rt: HostRuntime) -> Result<(), AllocError> {
+fn texts_and_lists(rt: HostRuntime) -> Result<(), Memory> {
     let alloc = rt.alloc();
     assert!(rt; is_copied(alloc, "größer")?);
     assert!(rt; is_kept(alloc, "a")?);

@@ -1,10 +1,11 @@
 //! The program of JSON texts: its statuses and what it writes.
 use bytes::Bytes;
 use jb_io::{INPUT_LIMIT, SureSink, SureSource, WriterSink};
+use jb_text::Memory;
 use jb_tool::{run, run_in_memory};
-use std::alloc::{AllocError, Global};
+use std::alloc::Global;
 
-fn words_of(alloc: Global, words: &[&str]) -> Result<Vec<String>, AllocError> {
+fn words_of(alloc: Global, words: &[&str]) -> Result<Vec<String>, Memory> {
     let mut all = Vec::new(alloc);
     for word in words {
         all.push(String::from_str(alloc, word)?)?;
@@ -13,12 +14,7 @@ fn words_of(alloc: Global, words: &[&str]) -> Result<Vec<String>, AllocError> {
 }
 
 /// The status of a run over these words and this input, seven bytes at a time, and whether it wrote just `output`.
-fn ran(
-    alloc: Global,
-    words: &[&str],
-    input: Bytes,
-    output: &str,
-) -> Result<(u8, bool), AllocError> {
+fn ran(alloc: Global, words: &[&str], input: Bytes, output: &str) -> Result<(u8, bool), Memory> {
     let words = words_of(alloc, words)?;
     let mut source = SureSource::new(input, 7);
     let mut sink = SureSink::new(alloc, 64)?;
@@ -31,7 +27,7 @@ const USAGE: &str = "usage: jb_program compact | pretty\n";
 const NO_COMMANDS: &[&[&str]] = &[&[], &["compacts"], &["Pretty"], &["compact", "pretty"]];
 
 #[test]
-fn words_that_are_no_command_get_the_usage_line(rt: HostRuntime) -> Result<(), AllocError> {
+fn words_that_are_no_command_get_the_usage_line(rt: HostRuntime) -> Result<(), Memory> {
     for words in NO_COMMANDS {
         let answer = ran(rt.alloc(), words, Bytes::from_static(b"{}"), USAGE)?;
         assert_eq!(rt; answer, (2, true), "{words:?}");
@@ -72,7 +68,7 @@ const RUNS: &[(&str, &str, u8, &str)] = &[
 ];
 
 #[test]
-fn texts_are_printed_or_refused(rt: HostRuntime) -> Result<(), AllocError> {
+fn texts_are_printed_or_refused(rt: HostRuntime) -> Result<(), Memory> {
     for (word, text, status, line) in RUNS {
         let input = Bytes::copy_from_slice(rt.alloc(), text.as_bytes())?;
         let answer = ran(rt.alloc(), &[*word], input, line)?;
@@ -82,12 +78,12 @@ fn texts_are_printed_or_refused(rt: HostRuntime) -> Result<(), AllocError> {
 }
 
 /// So many times the same byte.
-fn filled(alloc: Global, byte: u8, count: usize) -> Result<Bytes, AllocError> {
+fn filled(alloc: Global, byte: u8, count: usize) -> Result<Bytes, Memory> {
     Ok(Bytes::from_vec(vec![in alloc; byte; count]?)?)
 }
 
 #[test]
-fn input_has_limits(rt: HostRuntime) -> Result<(), AllocError> {
+fn input_has_limits(rt: HostRuntime) -> Result<(), Memory> {
     for (byte, count, status, line) in [
         (b'[', 128, 1, "depth at byte 127\n"),
         (b' ', INPUT_LIMIT + 1, 6, ""),
@@ -100,7 +96,7 @@ fn input_has_limits(rt: HostRuntime) -> Result<(), AllocError> {
 }
 
 #[test]
-fn a_full_sink_has_its_own_status(rt: HostRuntime) -> Result<(), AllocError> {
+fn a_full_sink_has_its_own_status(rt: HostRuntime) -> Result<(), Memory> {
     let words = words_of(rt.alloc(), &["compact"])?;
     let mut room = [0; 5];
     for (asked, wanted) in [(words.as_slice(), b"[1,2,"), (&[], b"usage")] {

@@ -1,9 +1,9 @@
 //! Values: that calls succeed with ample memory, the sizes, and the standard's own examples.
 use crate::fixtures::{key, shown};
 use jb_read::{ReadFault, from_str};
-use jb_tree::{ByteString, FromJsonFault, Listed, Map, Number, Refused, Text, Value, laws};
+use jb_tree::{ByteString, FromJsonFault, Listed, Map, Memory, Number, Refused, Text, Value, laws};
 use serde_json as json;
-use std::alloc::{AllocError, Global};
+use std::alloc::Global;
 use std::mem::size_of;
 use std::process::Abort;
 
@@ -15,7 +15,7 @@ fn a_value_is_small(rt: HostRuntime) {
 }
 
 /// `[null,"x"]`
-fn items(alloc: Global) -> Result<Listed<Value>, AllocError> {
+fn items(alloc: Global) -> Result<Listed<Value>, Memory> {
     let mut items = Listed::new(alloc);
     items.push(Value::default())?;
     items.push(Value::from_text(alloc, "x")?)?;
@@ -23,7 +23,7 @@ fn items(alloc: Global) -> Result<Listed<Value>, AllocError> {
 }
 
 /// `{"key 1":[null,"x"]}`, made part by part.
-fn made(alloc: Global) -> Result<Value, AllocError> {
+fn made(alloc: Global) -> Result<Value, Memory> {
     let name = key(alloc, "key 1")?;
     let list = Value::from_list(items(alloc)?);
     let mut members = Map::new(alloc);
@@ -39,11 +39,11 @@ fn found(value: &Value) -> Option<(usize, bool)> {
 }
 
 /// A copy, of which what it was made from is gone.
-fn copied(alloc: Global) -> Result<Value, AllocError> {
+fn copied(alloc: Global) -> Result<Value, Memory> {
     made(alloc)?.copy(alloc)
 }
 
-fn check_copy(rt: &impl Abort, alloc: Global, copy: &Value) -> Result<(), AllocError> {
+fn check_copy(rt: &impl Abort, alloc: Global, copy: &Value) -> Result<(), Memory> {
     assert_eq!(*rt; found(copy), Some((2, true)));
     assert_eq!(*rt; shown(alloc, copy)?.as_str(), "{\"key 1\":[null,\"x\"]}");
     let again = copy.copy(alloc)?;
@@ -53,7 +53,7 @@ fn check_copy(rt: &impl Abort, alloc: Global, copy: &Value) -> Result<(), AllocE
 }
 
 #[test]
-fn a_copy_is_equal(rt: HostRuntime) -> Result<(), AllocError> {
+fn a_copy_is_equal(rt: HostRuntime) -> Result<(), Memory> {
     let copy = copied(rt.alloc())?;
     check_copy(&rt, rt.alloc(), &copy)
 }
@@ -80,14 +80,14 @@ const POINTERS: &[(&str, &str)] = &[
 ];
 
 /// Whether a pointer leads to the value of this text.
-fn leads_to(alloc: Global, whole: &Value, pointer: &str, text: &str) -> Result<bool, AllocError> {
+fn leads_to(alloc: Global, whole: &Value, pointer: &str, text: &str) -> Result<bool, Memory> {
     match whole.pointer(pointer) {
         Some(place) => Ok(shown(alloc, place)?.as_str() == text),
         None => Ok(false),
     }
 }
 
-fn check_pointers(rt: &impl Abort, alloc: Global, whole: &Value) -> Result<(), AllocError> {
+fn check_pointers(rt: &impl Abort, alloc: Global, whole: &Value) -> Result<(), Memory> {
     for (pointer, text) in POINTERS {
         assert!(*rt; leads_to(alloc, whole, pointer, text)?, "{pointer}");
     }
@@ -231,7 +231,7 @@ fn remove_empty(value: &mut Value) -> bool {
 }
 
 /// Adds a null to a list, and gives the list away: how many items it had.
-fn take_longer(list: &mut Value) -> Result<usize, AllocError> {
+fn take_longer(list: &mut Value) -> Result<usize, Memory> {
     if let Some(items) = list.as_array_mut() {
         items.push(Value::Null)?;
     }
@@ -246,7 +246,7 @@ fn count_items(list: &Value) -> usize {
 }
 
 /// Does so with the list at "foo".
-fn take_foo(value: &mut Value) -> Result<usize, AllocError> {
+fn take_foo(value: &mut Value) -> Result<usize, Memory> {
     match value.pointer_mut("/foo") {
         Some(list) => take_longer(list),
         None => Ok(0),
@@ -272,7 +272,7 @@ fn change_item(value: &mut Value) -> bool {
     }
 }
 
-fn check_changes(rt: &impl Abort, alloc: Global, value: &mut Value) -> Result<(), AllocError> {
+fn check_changes(rt: &impl Abort, alloc: Global, value: &mut Value) -> Result<(), Memory> {
     assert!(*rt; remove_empty(value));
     assert_eq!(*rt; take_foo(value)?, 3);
     assert!(*rt; change_item(value));

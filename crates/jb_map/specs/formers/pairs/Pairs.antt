@@ -52,7 +52,8 @@ the_items_listed X d = values_listed Bytes X d
 
 -- the keys are no part of what a map holds: they are texts alone
 abbrev fields : Former {0}
-fields = via (pair (const (List Bytes)) (vec.the_former this Global)) Inside (λ X a. (a.keys, a.values)) (λ X v. record { keys = v.0; values = v.1 }) (λ X a. refl) (λ X v. refl)
+fields = via (pair (const (List Bytes)) (vec.the_former this Global)) Inside (λ X a. (a.keys, a.values))
+    (λ X v. record { keys = v.0; values = v.1 }) (λ X a. refl) (λ X v. refl)
 
 zip-map : {X Y : Type 0} (h : X → Y) (ks : List Bytes) (vs : List X) → zip ks (map h vs) ≡ map (on_value h) (zip ks vs)
 zip-map h [] vs = refl

@@ -25,3 +25,8 @@ returns-in-Ok-clause-pairs g c =
     let gone = ap (λ k. position (bytes_eq k) (keys_of c.args.self.now)) (sym c.as_str.ensures) ∙ sym c.in-None.ensures in
     let absent = (Missing-position (bytes_eq c.args.key) c.args.self.now gone).absent in
     c.in-Ok.ensures.pairs ∙ sym (insert_entry-absent bytes_eq c.args.key c.args.value c.args.self.now absent)
+
+pub returns-in-Err-clause-absent : goal.returns-in-Err-clause-absent
+returns-in-Err-clause-absent g c =
+    let gone = ap (λ k. position (bytes_eq k) (keys_of c.args.self.now)) (sym c.as_str.ensures) ∙ sym c.in-None.ensures in
+    (Missing-position (bytes_eq c.args.key) c.args.self.now gone).value

@@ -12,4 +12,4 @@ pub returns : goal.returns
 returns g c =
     let o = parts _ _ _ c.self.view_is c.self.invariant in
     let count = c.self.inside.values.ok.0 ∙ o.values_length in
-    ((sym c.new.ensures.name, λ w j. zip (o.keys j) (refill (count j) (o.values j) w)), record { writes_back = tt; ready = c.new.ensures.ready; left = c.new.ensures.left ∙ (λ j. zip (c.as_slice.ensures j) (c.as_mut_slice.ensures.value j)) ∙ c.self.view_is })
+    ((sym c.new.ensures.name, λ w j. zip (o.keys j) (refill (count j) (o.values j) w)), record { writes_back = tt; left = c.new.ensures.left ∙ (λ j. zip (c.as_slice.ensures j) (c.as_mut_slice.ensures.value j)) ∙ c.self.view_is })
