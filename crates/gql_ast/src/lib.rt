@@ -16,7 +16,7 @@ mod document;
 
 pub use definition::Definition;
 pub use document::Document;
-pub use gql_ast_base::{Convert, Copying, Name, NameFault, OperationType};
+pub use gql_ast_base::{Convert, Copying, Name, NameFault, OperationType, Source};
 pub use gql_ast_definitions::{
     DirectiveDefinition, DirectiveLocation, EnumTypeDefinition, EnumTypeExtension,
     EnumValueDefinition, FieldDefinition, InputObjectTypeDefinition, InputObjectTypeExtension,
