@@ -21,7 +21,7 @@ use Rattle.gql_ast_laws.proofs.DirectiveMeaning.{description-bare, directives-ba
 use Rattle.gql_ast_laws.proofs.OperationMeaning.{operation_type-bare}
 use Rattle.gql_ast_laws.proofs.FieldMeaning.{argument_definitions-bare}
 
--- ---- the trees after_word a name
+-- ---- the trees after a name
 
 passed : (text : Text) (n : ℕ) (k : SyntaxKind) (start end : ℕ) (children rest : Forest) → name_text text (tree k start end children) ≡ None
     → after_word text n (tree_then k start end children rest) ≡ after_word text n rest
@@ -39,20 +39,20 @@ met : (text : Text) (n : ℕ) (k : SyntaxKind) (start end : ℕ) (children other
 met text n k start end children other rest after e a r =
     rw e (chosen (is_some (name_text text (tree k start end children))) (n == 0) after rest (after_word text (n - 1) after) (after_word text (n - 1) rest) (after_word text n after) (after_word text n rest) a (r (n - 1)) (r n))
 
-behind_then : (text : Text) (n : ℕ) (part : Part) (k : SyntaxKind) (start end : ℕ) (children rest : Forest) → is_kind k kind.Token ≡ is_word_part part
+after_word_then : (text : Text) (n : ℕ) (part : Part) (k : SyntaxKind) (start end : ℕ) (children rest : Forest) → is_kind k kind.Token ≡ is_word_part part
     → (part ≡ word → name_text text (tree k start end nothing) ≡ name_text text (tree k start end children))
     → ((m : ℕ) → after_word text m (bare rest) ≡ bare (after_word text m rest))
     → after_word text n (bare_then part k start end (bare children) (bare rest)) ≡ bare (after_word text n (tree_then k start end children rest))
-behind_then text n word k start end children rest e w r = met text n k start end children nothing rest (bare rest) (w refl) refl r
-behind_then text n ignored k start end children rest e w r = r n ∙ sym (ap bare (passed text n k start end children rest (no_text text k start end children e)))
-behind_then text n node k start end children rest e w r =
+after_word_then text n word k start end children rest e w r = met text n k start end children nothing rest (bare rest) (w refl) refl r
+after_word_then text n ignored k start end children rest e w r = r n ∙ sym (ap bare (passed text n k start end children rest (no_text text k start end children e)))
+after_word_then text n node k start end children rest e w r =
     passed text n k 0 0 (bare children) (bare rest) (no_text text k 0 0 (bare children) e) ∙ r n
     ∙ sym (ap bare (passed text n k start end children rest (no_text text k start end children e)))
 
 after_word_bare : (text : Text) (row : Forest) (n : ℕ) → after_word text n (bare row) ≡ bare (after_word text n row)
 after_word_bare text nothing n = refl
 after_word_bare text (tree_then k start end children rest) n =
-    behind_then text n (part_of k) k start end children rest (token_kind k) (name_text-at text k start end children).as_word (after_word_bare text rest)
+    after_word_then text n (part_of k) k start end children rest (token_kind k) (name_text-at text k start end children).as_word (after_word_bare text rest)
 
 chosen_ends : (a b : Bool) (x y z : Forest) → TokensEnd x → TokensEnd y → TokensEnd z → TokensEnd (if a then (if b then x else y) else z)
 chosen_ends true true x y z p q r = p
