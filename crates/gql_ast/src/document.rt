@@ -7,10 +7,10 @@ ghost use Rattle.gql_cst.specs.Forest.{plain};
 ghost use Rattle.gql_ast.specs.Documents as spec;
 
 use crate::definition::Definition;
-use gql_ast_base::gather;
+use gql_ast_base::{Source, gather};
 use gql_cst::Tree;
 use gql_source::{FileId, SourceMap};
-use jb_text::{Listed, Memory};
+use jb_text::{ByteString, Listed, Memory};
 use std::alloc::Global;
 
 /// A document: its definitions, and the files that their locations speak of.
@@ -23,7 +23,7 @@ pub struct Document {
 impl Document {
     /// The document of a concrete tree, which is one of the text of the file `file_id` of `sources`.
     ///
-    /// Definitions that lack a required part are left out. `Err` only for want of memory.
+    /// Definitions that lack a required part are left out. `Err` only where memory runs out.
     pub fn from_cst(
         alloc: Global,
         tree: &Tree,
@@ -53,7 +53,10 @@ fn definitions(
     ensures { IfOk result (λ made. made ≡ spec.definitions (spec.text_of file_id sources.now) file_id (plain tree.now)) }
 {
     let file = sources.get(file_id).unwrap();
-    let text = file.source_text();
-    let list = gather(alloc, tree.children().as_slice(), text, file_id)?;
+    let text = ByteString::from_text(alloc, file.source_text())?;
+    let list = gather(
+        &Source::sharing(alloc, &text, file_id),
+        tree.children().as_slice(),
+    )?;
     Ok(list)
 }

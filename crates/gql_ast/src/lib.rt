@@ -16,12 +16,7 @@ mod document;
 
 pub use definition::Definition;
 pub use document::Document;
-pub use gql_ast_base::{Convert, Copying, Name, NameFault, OperationType};
-pub use gql_ast_operations::{
-    Field, FragmentDefinition, FragmentSpread, InlineFragment, OperationDefinition, Selection,
-    VariableDefinition,
-};
-pub use gql_ast_print::{print_type, print_value};
+pub use gql_ast_base::{Convert, Copying, Name, NameFault, OperationType, Source};
 pub use gql_ast_definitions::{
     DirectiveDefinition, DirectiveLocation, EnumTypeDefinition, EnumTypeExtension,
     EnumValueDefinition, FieldDefinition, InputObjectTypeDefinition, InputObjectTypeExtension,
@@ -29,4 +24,9 @@ pub use gql_ast_definitions::{
     ObjectTypeExtension, ScalarTypeDefinition, ScalarTypeExtension, SchemaDefinition,
     SchemaExtension, UnionTypeDefinition, UnionTypeExtension,
 };
+pub use gql_ast_operations::{
+    Field, FragmentDefinition, FragmentSpread, InlineFragment, OperationDefinition, Selection,
+    VariableDefinition,
+};
+pub use gql_ast_print::{print_type, print_value};
 pub use gql_ast_values::{Argument, Boxed, Directive, TypeRef, Value, ValueKind};

@@ -129,10 +129,10 @@ abbrev pub is_word : Option Text → Text → Bool
 is_word None expected = false
 is_word (Some found) expected = bytes_eq found expected
 
--- the trees behind the nth name of a row
-abbrev pub behind : Text → ℕ → Forest → Forest
-behind text n nothing = nothing
-behind text n (tree_then kind start end children rest) =
+-- the trees after the nth name of a row
+abbrev pub after_word : Text → ℕ → Forest → Forest
+after_word text n nothing = nothing
+after_word text n (tree_then kind start end children rest) =
     if is_some (word text (record { kind = kind; start = start; end = end; children = children }))
-    then (if n == 0 then rest else behind text (n - 1) rest)
-    else behind text n rest
+    then (if n == 0 then rest else after_word text (n - 1) rest)
+    else after_word text n rest

@@ -1,6 +1,7 @@
 //! The trait [`Convert`], and what the syntax trees of GraphQL documents begin with: names, texts and operation types.
 //!
-//! What a concrete tree stands for is a definition, kind by kind of its nodes, and a conversion gives exactly that.
+//! What a concrete tree stands for is a definition, kind by kind of its nodes, and a conversion gives exactly that. A
+//! [`Source`] is what trees are read by: their text, the number of its file, and where memory comes from.
 //! [`gather`] and [`first`] convert the trees of a row, [`child`] and [`inside`] find one by its kind, [`nth_name`] and its
 //! like find one by its place among the names. [`location`] runs from the first to the last token that is not ignored.
 //! [`both`] and its like bring together the parts of a tree. [`Copying`] gives an equal tree, locations included.
@@ -13,15 +14,17 @@ mod name;
 mod named_type;
 mod node;
 mod operation_type;
+mod source;
 mod together;
 mod token;
 
-pub use convert::{Convert, first, gather, keep};
+pub use convert::{Convert, first, gather, push_found};
 pub use copying::Copying;
 pub use literal::{description, has_part, opens_number, opens_string, string_text};
 pub use name::{Name, NameFault};
 pub use named_type::{named_type_in, named_types};
 pub use node::{child, inside, is_of, location};
 pub use operation_type::{OperationType, operation_type_in};
+pub use source::Source;
 pub use together::{all_four, all_three, both};
-pub use token::{behind, is_word, nth_name, nth_text, token_text, word};
+pub use token::{after_word, is_word, nth_name, nth_text, token_text, word};

@@ -7,9 +7,9 @@ ghost use Rattle.gql_ast_base.specs.Literals as spec;
 
 use crate::convert::{Convert, first};
 use crate::node::inside;
+use crate::source::Source;
 use crate::token::token_text;
 use gql_cst::{SyntaxKind, Tree, block_string_value, is_block_string, string_value};
-use gql_source::FileId;
 use jb_text::{Memory, Text};
 use std::alloc::Global;
 
@@ -39,7 +39,7 @@ fn first_byte(token: &str) -> u8
     }
 }
 
-/// The characters that a string stands for.
+/// The characters that a string stands for (GraphQL October 2021, section 2.9.4). `Err` only where memory runs out.
 #[tactic(auto, unfolding(crate::specs::Literals::string_text))]
 pub fn string_text(alloc: Global, token: &str) -> Result<Text, Memory>
     requires { spec.opens_string token.now ≡ true }
@@ -63,11 +63,11 @@ pub fn has_part(token: &str) -> bool
 }
 
 /// The characters of a token that is a string.
-fn string_of(alloc: Global, tree: &Tree, text: &str) -> Result<Option<Text>, Memory>
-    ensures { IfOk result (λ made. made ≡ spec.string_of text.now (plain tree.now)) }
+fn string_of(source: &Source<'_>, tree: &Tree) -> Result<Option<Text>, Memory>
+    ensures { IfOk result (λ made. made ≡ spec.string_of source.now.text.now (plain tree.now)) }
 {
-    match token_text(text, tree) {
-        Some(token) if opens_string(token) => Ok(Some(string_text(alloc, token)?)),
+    match token_text(source.text, tree) {
+        Some(token) if opens_string(token) => Ok(Some(string_text(source.alloc, token)?)),
         _ => Ok(None),
     }
 }
@@ -76,27 +76,18 @@ impl Convert for Text {
     ghost meaning = { λ text _ tree. spec.string_of text tree };
 
     /// The characters of a token that is a string.
-    fn convert(
-        alloc: Global,
-        tree: &Tree,
-        text: &str,
-        _file_id: FileId,
-    ) -> Result<Option<Text>, Memory> {
-        let made = string_of(alloc, tree, text)?;
+    fn read(source: &Source<'_>, tree: &Tree) -> Result<Option<Text>, Memory> {
+        let made = string_of(source, tree)?;
         Ok(made)
     }
 }
 
-/// The description among the parts of a definition.
+/// The description among the parts of a definition (GraphQL October 2021, section 3.1). `Err` only where memory runs
+/// out.
 #[tactic(auto, unfolding(crate::specs::Literals::description))]
-pub fn description(
-    alloc: Global,
-    nodes: &[Tree],
-    text: &str,
-    file_id: FileId,
-) -> Result<Option<Text>, Memory>
-    ensures { IfOk result (λ made. made ≡ spec.description text.now (forest nodes.now)) }
+pub fn description(source: &Source<'_>, nodes: &[Tree]) -> Result<Option<Text>, Memory>
+    ensures { IfOk result (λ made. made ≡ spec.description source.now.text.now (forest nodes.now)) }
 {
-    let made = first(alloc, inside(nodes, SyntaxKind::Description), text, file_id)?;
+    let made = first(source, inside(nodes, SyntaxKind::Description))?;
     Ok(made)
 }

@@ -8,9 +8,10 @@ ghost use Rattle.gql_ast_base.specs.Parts as parts;
 
 use crate::convert::Convert;
 use crate::copying::Copying;
+use crate::source::Source;
 use crate::token::name_of;
 use gql_cst::Tree;
-use gql_source::{FileId, SourceSpan};
+use gql_source::SourceSpan;
 use jb_text::{ByteString, Memory, Refused};
 use std::alloc::Global;
 use std::cmp::Ordering;
@@ -45,8 +46,8 @@ impl Model for Name {
 }
 
 impl Name {
-    /// The name with this text, from no place. `InvalidName` exactly where the text is no name; else `Err` only for
-    /// want of memory.
+    /// The name with this text, from no place. `InvalidName` exactly where the text is no name; else `Err` only where
+    /// memory runs out.
     pub fn new(alloc: Global, text: &str) -> Result<Name, Refused<NameFault>>
         ensures { IsNamed text.now result }
     {
@@ -60,6 +61,14 @@ impl Name {
             }),
             Err(_) => Err(Refused::Memory),
         }
+    }
+
+    /// The name with this text, read from this place.
+    pub(crate) fn at(text: ByteString, location: Option<SourceSpan>) -> Name
+        requires { is_name text ≡ true }
+        ensures { result ≡ record { text = text; location = location } }
+    {
+        Name { text, location }
     }
 
     /// Whether the text is a name: a letter or `_`, and then letters, digits and `_` alone.
@@ -104,7 +113,7 @@ impl Name {
 }
 
 impl Copying for Name {
-    /// The same name from the same place, whose text is shared. `Err` only for want of memory.
+    /// The same name from the same place, whose text is shared. `Err` only where memory runs out.
     fn copy(&self, alloc: Global) -> Result<Name, Memory> {
         Ok(Name {
             text: self.text.copy(alloc)?,
@@ -117,13 +126,8 @@ impl Convert for Name {
     ghost meaning = { parts.name_of };
 
     /// The name that a token is.
-    fn convert(
-        alloc: Global,
-        tree: &Tree,
-        text: &str,
-        file_id: FileId,
-    ) -> Result<Option<Name>, Memory> {
-        let made = name_of(alloc, tree, text, file_id)?;
+    fn read(source: &Source<'_>, tree: &Tree) -> Result<Option<Name>, Memory> {
+        let made = name_of(source, tree)?;
         Ok(made)
     }
 }

@@ -9,9 +9,9 @@ use crate::copying::Copying;
 use crate::name::Name;
 use crate::named_type::named_type_in;
 use crate::node::is_of;
+use crate::source::Source;
 use crate::token::nth_text;
 use gql_cst::{SyntaxKind, Tree};
-use gql_source::FileId;
 use jb_text::Memory;
 use std::alloc::Global;
 
@@ -71,13 +71,8 @@ pub fn operation_type_in(nodes: &[Tree], text: &str) -> Option<OperationType>
 impl Convert for OperationType {
     ghost meaning = { λ text _ tree. spec.operation_type_of text tree };
 
-    fn convert(
-        _alloc: Global,
-        tree: &Tree,
-        text: &str,
-        _file_id: FileId,
-    ) -> Result<Option<OperationType>, Memory> {
-        Ok(operation_type_of(tree, text))
+    fn read(source: &Source<'_>, tree: &Tree) -> Result<Option<OperationType>, Memory> {
+        Ok(operation_type_of(tree, source.text))
     }
 }
 
@@ -86,20 +81,15 @@ impl Convert for (OperationType, Name) {
     ghost meaning = { spec.root_operation_of };
 
     #[tactic(auto, unfolding(crate::specs::OperationTypes::root_operation_of))]
-    fn convert(
-        alloc: Global,
-        tree: &Tree,
-        text: &str,
-        file_id: FileId,
-    ) -> Result<Option<(OperationType, Name)>, Memory> {
+    fn read(source: &Source<'_>, tree: &Tree) -> Result<Option<(OperationType, Name)>, Memory> {
         if !is_of(tree, SyntaxKind::RootOperationTypeDefinition) {
             return Ok(None);
         }
         let nodes = tree.children().as_slice();
-        let Some(operation) = operation_type_in(nodes, text) else {
+        let Some(operation) = operation_type_in(nodes, source.text) else {
             return Ok(None);
         };
-        match named_type_in(alloc, nodes, text, file_id)? {
+        match named_type_in(source, nodes)? {
             Some(name) => Ok(Some((operation, name))),
             None => Ok(None),
         }

@@ -1,16 +1,15 @@
 //! The tokens of concrete trees.
 
-ghost use Rattle.std.specs.Prelude.{◌≡◌, IfOk, None};
+ghost use Rattle.std.specs.Prelude.{◌≡◌, IfOk};
 ghost use Rattle.std.specs.Option.{option_map, option_copied};
 ghost use Rattle.gql_cst.specs.Forest.{plain, forest};
 ghost use Rattle.gql_ast_base.specs.Parts as parts;
 
 use crate::name::Name;
 use crate::node::{is_of, location};
+use crate::source::Source;
 use gql_cst::{SyntaxKind, Tree};
-use gql_source::{FileId, SourceSpan};
-use jb_text::{Memory, Refused};
-use std::alloc::{AllocError, Global};
+use jb_text::Memory;
 
 /// Whether the place lies between two characters, or at an end of the text.
 fn is_boundary(text: &str, at: usize) -> bool
@@ -57,35 +56,19 @@ pub fn word<'a>(text: &'a str, tree: &Tree) -> Option<&'a str>
     }
 }
 
-/// A name without a place, with this one.
-fn placed(name: Name, location: Option<SourceSpan>) -> Name
-    requires { name.location ≡ None }
-    ensures { result ≡ record { text = name.text; location = location } }
-{
-    match location {
-        Some(location) => name.with_location(location),
-        None => name,
-    }
-}
-
 /// The name that a token is.
 #[tactic(auto, unfolding(crate::specs::Parts::name_of, crate::specs::Parts::word))]
-pub(crate) fn name_of(
-    alloc: Global,
-    tree: &Tree,
-    text: &str,
-    file_id: FileId,
-) -> Result<Option<Name>, Memory>
-    ensures { IfOk result (λ made. made ≡ parts.name_of text.now file_id (plain tree.now)) }
+pub(crate) fn name_of(source: &Source<'_>, tree: &Tree) -> Result<Option<Name>, Memory>
+    ensures { IfOk result (λ made. made ≡ parts.name_of source.now.text.now source.now.file_id (plain tree.now)) }
 {
-    let Some(found) = token_text(text, tree) else {
+    let Some(found) = token_text(source.text, tree) else {
         return Ok(None);
     };
-    match Name::new(alloc, found) {
-        Ok(name) => Ok(Some(placed(name, location(file_id, tree)))),
-        Err(Refused::Fault(_)) => Ok(None),
-        Err(Refused::Memory) => Err(AllocError),
+    if !Name::is_valid_syntax(found) {
+        return Ok(None);
     }
+    let text = source.cut(tree.range(), found)?;
+    Ok(Some(Name::at(text, location(source.file_id, tree))))
 }
 
 /// The nth name among the trees, counted from 0.
@@ -104,7 +87,7 @@ pub(crate) fn nth_word<'a>(nodes: &'a [Tree], text: &str, n: usize) -> Option<&'
     None
 }
 
-/// The text of the nth name among the trees.
+/// The text of the nth name among the trees, counted from 0.
 #[must_use]
 pub fn nth_text<'a>(nodes: &[Tree], text: &'a str, n: usize) -> Option<&'a str>
     ensures { option_copied result ≡ parts.nth_text text.now n (forest nodes.now) }
@@ -115,21 +98,16 @@ pub fn nth_text<'a>(nodes: &[Tree], text: &'a str, n: usize) -> Option<&'a str>
     }
 }
 
-/// The nth name among the trees.
+/// The nth name among the trees, counted from 0 (GraphQL October 2021, section 2.1.9). `Err` only where memory runs
+/// out.
 #[tactic(auto, unfolding(crate::specs::Parts::nth_name))]
-pub fn nth_name(
-    alloc: Global,
-    nodes: &[Tree],
-    text: &str,
-    file_id: FileId,
-    n: usize,
-) -> Result<Option<Name>, Memory>
-    ensures { IfOk result (λ made. made ≡ parts.nth_name text.now file_id n (forest nodes.now)) }
+pub fn nth_name(source: &Source<'_>, nodes: &[Tree], n: usize) -> Result<Option<Name>, Memory>
+    ensures { IfOk result (λ made. made ≡ parts.nth_name source.now.text.now source.now.file_id n (forest nodes.now)) }
 {
-    let Some(tree) = nth_word(nodes, text, n) else {
+    let Some(tree) = nth_word(nodes, source.text, n) else {
         return Ok(None);
     };
-    let name = name_of(alloc, tree, text, file_id)?;
+    let name = name_of(source, tree)?;
     Ok(name)
 }
 
@@ -144,10 +122,10 @@ pub fn is_word(nodes: &[Tree], text: &str, n: usize, word: &str) -> bool
     }
 }
 
-/// The trees behind the nth name among them.
+/// The trees after the nth name among them, counted from 0; none where there is no such name.
 #[must_use]
-pub fn behind<'a>(nodes: &'a [Tree], text: &str, n: usize) -> &'a [Tree]
-    ensures { forest result.now ≡ parts.behind text.now n (forest nodes.now) }
+pub fn after_word<'a>(nodes: &'a [Tree], text: &str, n: usize) -> &'a [Tree]
+    ensures { forest result.now ≡ parts.after_word text.now n (forest nodes.now) }
 {
     let mut left = n;
     for (index, node) in nodes.iter().enumerate() {

@@ -31,35 +31,72 @@ module _ (text : Text) (file : FileId) where
   unfoldable pub scalar_of : Plain → Option ScalarTypeDefinition
   scalar_of tree =
       if is_kind tree.kind kind.ScalarTypeDefinition then
-      option_map (λ name. record { description = description text tree.children; name = name; directives = directives text file tree.children; location = location file tree }) (nth_name text file 1 tree.children)
+      option_map (λ name. record {
+        description = description text tree.children;
+        name = name;
+        directives = directives text file tree.children;
+        location = location file tree;
+      }) (nth_name text file 1 tree.children)
       else None
 
   unfoldable pub object_of : Plain → Option ObjectTypeDefinition
   object_of tree =
       if is_kind tree.kind kind.ObjectTypeDefinition then
-      option_map (λ name. record { description = description text tree.children; name = name; implements_interfaces = interfaces text file tree.children; directives = directives text file tree.children; fields = fields text file tree.children; location = location file tree }) (nth_name text file 1 tree.children)
+      option_map (λ name. record {
+        description = description text tree.children;
+        name = name;
+        implements_interfaces = interfaces text file tree.children;
+        directives = directives text file tree.children;
+        fields = fields text file tree.children;
+        location = location file tree;
+      }) (nth_name text file 1 tree.children)
       else None
 
   unfoldable pub interface_of : Plain → Option InterfaceTypeDefinition
   interface_of tree =
       if is_kind tree.kind kind.InterfaceTypeDefinition then
-      option_map (λ name. record { description = description text tree.children; name = name; implements_interfaces = interfaces text file tree.children; directives = directives text file tree.children; fields = fields text file tree.children; location = location file tree }) (nth_name text file 1 tree.children)
+      option_map (λ name. record {
+        description = description text tree.children;
+        name = name;
+        implements_interfaces = interfaces text file tree.children;
+        directives = directives text file tree.children;
+        fields = fields text file tree.children;
+        location = location file tree;
+      }) (nth_name text file 1 tree.children)
       else None
 
   unfoldable pub union_of : Plain → Option UnionTypeDefinition
   union_of tree =
       if is_kind tree.kind kind.UnionTypeDefinition then
-      option_map (λ name. record { description = description text tree.children; name = name; directives = directives text file tree.children; members = members text file tree.children; location = location file tree }) (nth_name text file 1 tree.children)
+      option_map (λ name. record {
+        description = description text tree.children;
+        name = name;
+        directives = directives text file tree.children;
+        members = members text file tree.children;
+        location = location file tree;
+      }) (nth_name text file 1 tree.children)
       else None
 
   unfoldable pub enum_of : Plain → Option EnumTypeDefinition
   enum_of tree =
       if is_kind tree.kind kind.EnumTypeDefinition then
-      option_map (λ name. record { description = description text tree.children; name = name; directives = directives text file tree.children; values = enum_values text file tree.children; location = location file tree }) (nth_name text file 1 tree.children)
+      option_map (λ name. record {
+        description = description text tree.children;
+        name = name;
+        directives = directives text file tree.children;
+        values = enum_values text file tree.children;
+        location = location file tree;
+      }) (nth_name text file 1 tree.children)
       else None
 
   unfoldable pub input_object_of : Plain → Option InputObjectTypeDefinition
   input_object_of tree =
       if is_kind tree.kind kind.InputObjectTypeDefinition then
-      option_map (λ name. record { description = description text tree.children; name = name; directives = directives text file tree.children; fields = input_fields text file tree.children; location = location file tree }) (nth_name text file 1 tree.children)
+      option_map (λ name. record {
+        description = description text tree.children;
+        name = name;
+        directives = directives text file tree.children;
+        fields = input_fields text file tree.children;
+        location = location file tree;
+      }) (nth_name text file 1 tree.children)
       else None

@@ -27,41 +27,76 @@ module _ (text : Text) (file : FileId) where
   unfoldable pub schema_extension_of : Plain → Option SchemaExtension
   schema_extension_of tree =
       if extends text (codes "schema") tree then
-      Some (record { directives = directives text file tree.children; root_operations = root_operations text file tree.children; location = location file tree })
+      Some (record {
+        directives = directives text file tree.children;
+        root_operations = root_operations text file tree.children;
+        location = location file tree;
+      })
       else None
 
   unfoldable pub scalar_extension_of : Plain → Option ScalarTypeExtension
   scalar_extension_of tree =
       if extends text (codes "scalar") tree then
-      option_map (λ name. record { name = name; directives = directives text file tree.children; location = location file tree }) (nth_name text file 2 tree.children)
+      option_map (λ name. record {
+        name = name;
+        directives = directives text file tree.children;
+        location = location file tree;
+      }) (nth_name text file 2 tree.children)
       else None
 
   unfoldable pub object_extension_of : Plain → Option ObjectTypeExtension
   object_extension_of tree =
       if extends text (codes "type") tree then
-      option_map (λ name. record { name = name; implements_interfaces = interfaces text file tree.children; directives = directives text file tree.children; fields = fields text file tree.children; location = location file tree }) (nth_name text file 2 tree.children)
+      option_map (λ name. record {
+        name = name;
+        implements_interfaces = interfaces text file tree.children;
+        directives = directives text file tree.children;
+        fields = fields text file tree.children;
+        location = location file tree;
+      }) (nth_name text file 2 tree.children)
       else None
 
   unfoldable pub interface_extension_of : Plain → Option InterfaceTypeExtension
   interface_extension_of tree =
       if extends text (codes "interface") tree then
-      option_map (λ name. record { name = name; implements_interfaces = interfaces text file tree.children; directives = directives text file tree.children; fields = fields text file tree.children; location = location file tree }) (nth_name text file 2 tree.children)
+      option_map (λ name. record {
+        name = name;
+        implements_interfaces = interfaces text file tree.children;
+        directives = directives text file tree.children;
+        fields = fields text file tree.children;
+        location = location file tree;
+      }) (nth_name text file 2 tree.children)
       else None
 
   unfoldable pub union_extension_of : Plain → Option UnionTypeExtension
   union_extension_of tree =
       if extends text (codes "union") tree then
-      option_map (λ name. record { name = name; directives = directives text file tree.children; members = members text file tree.children; location = location file tree }) (nth_name text file 2 tree.children)
+      option_map (λ name. record {
+        name = name;
+        directives = directives text file tree.children;
+        members = members text file tree.children;
+        location = location file tree;
+      }) (nth_name text file 2 tree.children)
       else None
 
   unfoldable pub enum_extension_of : Plain → Option EnumTypeExtension
   enum_extension_of tree =
       if extends text (codes "enum") tree then
-      option_map (λ name. record { name = name; directives = directives text file tree.children; values = enum_values text file tree.children; location = location file tree }) (nth_name text file 2 tree.children)
+      option_map (λ name. record {
+        name = name;
+        directives = directives text file tree.children;
+        values = enum_values text file tree.children;
+        location = location file tree;
+      }) (nth_name text file 2 tree.children)
       else None
 
   unfoldable pub input_object_extension_of : Plain → Option InputObjectTypeExtension
   input_object_extension_of tree =
       if extends text (codes "input") tree then
-      option_map (λ name. record { name = name; directives = directives text file tree.children; fields = input_fields text file tree.children; location = location file tree }) (nth_name text file 2 tree.children)
+      option_map (λ name. record {
+        name = name;
+        directives = directives text file tree.children;
+        fields = input_fields text file tree.children;
+        location = location file tree;
+      }) (nth_name text file 2 tree.children)
       else None

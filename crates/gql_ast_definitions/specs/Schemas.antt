@@ -16,7 +16,7 @@ use Rattle.gql_ast_values.specs.Directives.{directives}
 use Rattle.gql_ast_definitions.specs.Fields.{argument_definitions}
 use Rattle.gql_ast_base.specs.Literals.{description}
 use Rattle.gql_ast_base.specs.OperationTypes.{root_operation_of}
-use Rattle.gql_ast_base.specs.Parts.{Text, or_else, gather, nth_name, nth_text, word, is_word, behind, location}
+use Rattle.gql_ast_base.specs.Parts.{Text, or_else, gather, nth_name, nth_text, word, is_word, after_word, location}
 
 -- ExecutableDirectiveLocation
 abbrev pub executable_location : Text → Option DirectiveLocation
@@ -61,7 +61,7 @@ directive_location_of text tree = option_and_then location_word (word text tree)
 
 -- the places among the parts of a directive's definition, which stand behind its name
 unfoldable pub directive_locations : Text → Forest → List DirectiveLocation
-directive_locations text row = gather (directive_location_of text) (behind text 1 row)
+directive_locations text row = gather (directive_location_of text) (after_word text 1 row)
 
 module _ (text : Text) (file : FileId) where
   unfoldable pub root_operations : Forest → List (OperationType × Named)

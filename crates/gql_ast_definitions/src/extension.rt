@@ -10,13 +10,12 @@ use crate::field_definition::{
 use crate::schema_definition::root_operations;
 use crate::type_definition::{interfaces, members};
 use gql_ast_base::{
-    Convert, Name, OperationType, all_three, both, is_of, is_word, location, nth_name,
+    Convert, Name, OperationType, Source, all_three, both, is_of, is_word, location, nth_name,
 };
 use gql_ast_values::{Directive, directives};
 use gql_cst::{SyntaxKind, Tree};
-use gql_source::{FileId, SourceSpan};
+use gql_source::SourceSpan;
 use jb_text::{Listed, Memory};
-use std::alloc::Global;
 
 mod copying;
 
@@ -95,24 +94,19 @@ impl Convert for SchemaExtension {
     ghost meaning = { spec.schema_extension_of };
 
     #[tactic(auto, unfolding(crate::specs::Extensions::schema_extension_of))]
-    fn convert(
-        alloc: Global,
-        tree: &Tree,
-        text: &str,
-        file_id: FileId,
-    ) -> Result<Option<SchemaExtension>, Memory> {
-        if !extends(tree, text, "schema") {
+    fn read(source: &Source<'_>, tree: &Tree) -> Result<Option<SchemaExtension>, Memory> {
+        if !extends(tree, source.text, "schema") {
             return Ok(None);
         }
         let nodes = tree.children().as_slice();
         let (directives, root_operations) = both(
-            directives(alloc, nodes, text, file_id),
-            root_operations(alloc, nodes, text, file_id),
+            directives(source, nodes),
+            root_operations(source, nodes),
         )?;
         Ok(Some(SchemaExtension {
             directives,
             root_operations,
-            location: location(file_id, tree),
+            location: location(source.file_id, tree),
         }))
     }
 }
@@ -121,23 +115,18 @@ impl Convert for ScalarTypeExtension {
     ghost meaning = { spec.scalar_extension_of };
 
     #[tactic(auto, unfolding(crate::specs::Extensions::scalar_extension_of))]
-    fn convert(
-        alloc: Global,
-        tree: &Tree,
-        text: &str,
-        file_id: FileId,
-    ) -> Result<Option<ScalarTypeExtension>, Memory> {
-        if !extends(tree, text, "scalar") {
+    fn read(source: &Source<'_>, tree: &Tree) -> Result<Option<ScalarTypeExtension>, Memory> {
+        if !extends(tree, source.text, "scalar") {
             return Ok(None);
         }
         let nodes = tree.children().as_slice();
-        let Some(name) = nth_name(alloc, nodes, text, file_id, 2)? else {
+        let Some(name) = nth_name(source, nodes, 2)? else {
             return Ok(None);
         };
         Ok(Some(ScalarTypeExtension {
             name,
-            directives: directives(alloc, nodes, text, file_id)?,
-            location: location(file_id, tree),
+            directives: directives(source, nodes)?,
+            location: location(source.file_id, tree),
         }))
     }
 }
@@ -146,30 +135,25 @@ impl Convert for ObjectTypeExtension {
     ghost meaning = { spec.object_extension_of };
 
     #[tactic(auto, unfolding(crate::specs::Extensions::object_extension_of))]
-    fn convert(
-        alloc: Global,
-        tree: &Tree,
-        text: &str,
-        file_id: FileId,
-    ) -> Result<Option<ObjectTypeExtension>, Memory> {
-        if !extends(tree, text, "type") {
+    fn read(source: &Source<'_>, tree: &Tree) -> Result<Option<ObjectTypeExtension>, Memory> {
+        if !extends(tree, source.text, "type") {
             return Ok(None);
         }
         let nodes = tree.children().as_slice();
-        let Some(name) = nth_name(alloc, nodes, text, file_id, 2)? else {
+        let Some(name) = nth_name(source, nodes, 2)? else {
             return Ok(None);
         };
         let (implements_interfaces, directives, fields) = all_three(
-            interfaces(alloc, nodes, text, file_id),
-            directives(alloc, nodes, text, file_id),
-            fields(alloc, nodes, text, file_id),
+            interfaces(source, nodes),
+            directives(source, nodes),
+            fields(source, nodes),
         )?;
         Ok(Some(ObjectTypeExtension {
             name,
             implements_interfaces,
             directives,
             fields,
-            location: location(file_id, tree),
+            location: location(source.file_id, tree),
         }))
     }
 }
@@ -178,30 +162,25 @@ impl Convert for InterfaceTypeExtension {
     ghost meaning = { spec.interface_extension_of };
 
     #[tactic(auto, unfolding(crate::specs::Extensions::interface_extension_of))]
-    fn convert(
-        alloc: Global,
-        tree: &Tree,
-        text: &str,
-        file_id: FileId,
-    ) -> Result<Option<InterfaceTypeExtension>, Memory> {
-        if !extends(tree, text, "interface") {
+    fn read(source: &Source<'_>, tree: &Tree) -> Result<Option<InterfaceTypeExtension>, Memory> {
+        if !extends(tree, source.text, "interface") {
             return Ok(None);
         }
         let nodes = tree.children().as_slice();
-        let Some(name) = nth_name(alloc, nodes, text, file_id, 2)? else {
+        let Some(name) = nth_name(source, nodes, 2)? else {
             return Ok(None);
         };
         let (implements_interfaces, directives, fields) = all_three(
-            interfaces(alloc, nodes, text, file_id),
-            directives(alloc, nodes, text, file_id),
-            fields(alloc, nodes, text, file_id),
+            interfaces(source, nodes),
+            directives(source, nodes),
+            fields(source, nodes),
         )?;
         Ok(Some(InterfaceTypeExtension {
             name,
             implements_interfaces,
             directives,
             fields,
-            location: location(file_id, tree),
+            location: location(source.file_id, tree),
         }))
     }
 }
@@ -210,28 +189,20 @@ impl Convert for UnionTypeExtension {
     ghost meaning = { spec.union_extension_of };
 
     #[tactic(auto, unfolding(crate::specs::Extensions::union_extension_of))]
-    fn convert(
-        alloc: Global,
-        tree: &Tree,
-        text: &str,
-        file_id: FileId,
-    ) -> Result<Option<UnionTypeExtension>, Memory> {
-        if !extends(tree, text, "union") {
+    fn read(source: &Source<'_>, tree: &Tree) -> Result<Option<UnionTypeExtension>, Memory> {
+        if !extends(tree, source.text, "union") {
             return Ok(None);
         }
         let nodes = tree.children().as_slice();
-        let Some(name) = nth_name(alloc, nodes, text, file_id, 2)? else {
+        let Some(name) = nth_name(source, nodes, 2)? else {
             return Ok(None);
         };
-        let (directives, members) = both(
-            directives(alloc, nodes, text, file_id),
-            members(alloc, nodes, text, file_id),
-        )?;
+        let (directives, members) = both(directives(source, nodes), members(source, nodes))?;
         Ok(Some(UnionTypeExtension {
             name,
             directives,
             members,
-            location: location(file_id, tree),
+            location: location(source.file_id, tree),
         }))
     }
 }
@@ -240,28 +211,20 @@ impl Convert for EnumTypeExtension {
     ghost meaning = { spec.enum_extension_of };
 
     #[tactic(auto, unfolding(crate::specs::Extensions::enum_extension_of))]
-    fn convert(
-        alloc: Global,
-        tree: &Tree,
-        text: &str,
-        file_id: FileId,
-    ) -> Result<Option<EnumTypeExtension>, Memory> {
-        if !extends(tree, text, "enum") {
+    fn read(source: &Source<'_>, tree: &Tree) -> Result<Option<EnumTypeExtension>, Memory> {
+        if !extends(tree, source.text, "enum") {
             return Ok(None);
         }
         let nodes = tree.children().as_slice();
-        let Some(name) = nth_name(alloc, nodes, text, file_id, 2)? else {
+        let Some(name) = nth_name(source, nodes, 2)? else {
             return Ok(None);
         };
-        let (directives, values) = both(
-            directives(alloc, nodes, text, file_id),
-            enum_values(alloc, nodes, text, file_id),
-        )?;
+        let (directives, values) = both(directives(source, nodes), enum_values(source, nodes))?;
         Ok(Some(EnumTypeExtension {
             name,
             directives,
             values,
-            location: location(file_id, tree),
+            location: location(source.file_id, tree),
         }))
     }
 }
@@ -270,28 +233,20 @@ impl Convert for InputObjectTypeExtension {
     ghost meaning = { spec.input_object_extension_of };
 
     #[tactic(auto, unfolding(crate::specs::Extensions::input_object_extension_of))]
-    fn convert(
-        alloc: Global,
-        tree: &Tree,
-        text: &str,
-        file_id: FileId,
-    ) -> Result<Option<InputObjectTypeExtension>, Memory> {
-        if !extends(tree, text, "input") {
+    fn read(source: &Source<'_>, tree: &Tree) -> Result<Option<InputObjectTypeExtension>, Memory> {
+        if !extends(tree, source.text, "input") {
             return Ok(None);
         }
         let nodes = tree.children().as_slice();
-        let Some(name) = nth_name(alloc, nodes, text, file_id, 2)? else {
+        let Some(name) = nth_name(source, nodes, 2)? else {
             return Ok(None);
         };
-        let (directives, fields) = both(
-            directives(alloc, nodes, text, file_id),
-            input_fields(alloc, nodes, text, file_id),
-        )?;
+        let (directives, fields) = both(directives(source, nodes), input_fields(source, nodes))?;
         Ok(Some(InputObjectTypeExtension {
             name,
             directives,
             fields,
-            location: location(file_id, tree),
+            location: location(source.file_id, tree),
         }))
     }
 }

@@ -5,12 +5,12 @@ ghost use Rattle.gql_cst.specs.Forest.{forest};
 ghost use Rattle.gql_ast_definitions.specs.Fields as spec;
 
 use gql_ast_base::{
-    Convert, Copying, Name, all_three, both, description, first, gather, inside, is_of, location,
-    nth_name,
+    Convert, Copying, Name, Source, all_three, both, description, first, gather, inside, is_of,
+    location, nth_name,
 };
 use gql_ast_values::{Directive, TypeRef, Value, default_value, directives};
 use gql_cst::{SyntaxKind, Tree};
-use gql_source::{FileId, SourceSpan};
+use gql_source::SourceSpan;
 use jb_text::{Listed, Memory, Text};
 use std::alloc::Global;
 
@@ -103,27 +103,19 @@ impl Convert for InputValueDefinition {
     ghost meaning = { spec.input_value_of };
 
     #[tactic(auto, unfolding(crate::specs::Fields::input_value_of))]
-    fn convert(
-        alloc: Global,
-        tree: &Tree,
-        text: &str,
-        file_id: FileId,
-    ) -> Result<Option<InputValueDefinition>, Memory> {
+    fn read(source: &Source<'_>, tree: &Tree) -> Result<Option<InputValueDefinition>, Memory> {
         if !is_of(tree, SyntaxKind::InputValueDefinition) {
             return Ok(None);
         }
         let nodes = tree.children().as_slice();
-        let (name, ty) = both(
-            nth_name(alloc, nodes, text, file_id, 0),
-            first(alloc, nodes, text, file_id),
-        )?;
+        let (name, ty) = both(nth_name(source, nodes, 0), first(source, nodes))?;
         let Some((name, ty)) = name.zip(ty) else {
             return Ok(None);
         };
         let (description, default_value, directives) = all_three(
-            description(alloc, nodes, text, file_id),
-            default_value(alloc, nodes, text, file_id),
-            directives(alloc, nodes, text, file_id),
+            description(source, nodes),
+            default_value(source, nodes),
+            directives(source, nodes),
         )?;
         Ok(Some(InputValueDefinition {
             description,
@@ -131,7 +123,7 @@ impl Convert for InputValueDefinition {
             ty,
             default_value,
             directives,
-            location: location(file_id, tree),
+            location: location(source.file_id, tree),
         }))
     }
 }
@@ -140,27 +132,19 @@ impl Convert for FieldDefinition {
     ghost meaning = { spec.field_of };
 
     #[tactic(auto, unfolding(crate::specs::Fields::field_of))]
-    fn convert(
-        alloc: Global,
-        tree: &Tree,
-        text: &str,
-        file_id: FileId,
-    ) -> Result<Option<FieldDefinition>, Memory> {
+    fn read(source: &Source<'_>, tree: &Tree) -> Result<Option<FieldDefinition>, Memory> {
         if !is_of(tree, SyntaxKind::FieldDefinition) {
             return Ok(None);
         }
         let nodes = tree.children().as_slice();
-        let (name, ty) = both(
-            nth_name(alloc, nodes, text, file_id, 0),
-            first(alloc, nodes, text, file_id),
-        )?;
+        let (name, ty) = both(nth_name(source, nodes, 0), first(source, nodes))?;
         let Some((name, ty)) = name.zip(ty) else {
             return Ok(None);
         };
         let (description, arguments, directives) = all_three(
-            description(alloc, nodes, text, file_id),
-            argument_definitions(alloc, nodes, text, file_id),
-            directives(alloc, nodes, text, file_id),
+            description(source, nodes),
+            argument_definitions(source, nodes),
+            directives(source, nodes),
         )?;
         Ok(Some(FieldDefinition {
             description,
@@ -168,7 +152,7 @@ impl Convert for FieldDefinition {
             arguments,
             ty,
             directives,
-            location: location(file_id, tree),
+            location: location(source.file_id, tree),
         }))
     }
 }
@@ -177,29 +161,24 @@ impl Convert for EnumValueDefinition {
     ghost meaning = { spec.enum_value_of };
 
     #[tactic(auto, unfolding(crate::specs::Fields::enum_value_of))]
-    fn convert(
-        alloc: Global,
-        tree: &Tree,
-        text: &str,
-        file_id: FileId,
-    ) -> Result<Option<EnumValueDefinition>, Memory> {
+    fn read(source: &Source<'_>, tree: &Tree) -> Result<Option<EnumValueDefinition>, Memory> {
         if !is_of(tree, SyntaxKind::EnumValueDefinition) {
             return Ok(None);
         }
         let nodes = tree.children().as_slice();
         let names = inside(nodes, SyntaxKind::EnumValue);
-        let Some(value) = nth_name(alloc, names, text, file_id, 0)? else {
+        let Some(value) = nth_name(source, names, 0)? else {
             return Ok(None);
         };
         let (description, directives) = both(
-            description(alloc, nodes, text, file_id),
-            directives(alloc, nodes, text, file_id),
+            description(source, nodes),
+            directives(source, nodes),
         )?;
         Ok(Some(EnumValueDefinition {
             description,
             value,
             directives,
-            location: location(file_id, tree),
+            location: location(source.file_id, tree),
         }))
     }
 }
@@ -207,75 +186,44 @@ impl Convert for EnumValueDefinition {
 /// The arguments among the parts of a definition.
 #[tactic(auto, unfolding(crate::specs::Fields::argument_definitions))]
 pub(crate) fn argument_definitions(
-    alloc: Global,
+    source: &Source<'_>,
     nodes: &[Tree],
-    text: &str,
-    file_id: FileId,
 ) -> Result<Listed<InputValueDefinition>, Memory>
-    ensures { IfOk result (λ made. made ≡ spec.argument_definitions text.now file_id (forest nodes.now)) }
+    ensures { IfOk result (λ made. made ≡ spec.argument_definitions source.now.text.now source.now.file_id (forest nodes.now)) }
 {
-    let list = gather(
-        alloc,
-        inside(nodes, SyntaxKind::ArgumentsDefinition),
-        text,
-        file_id,
-    )?;
+    let list = gather(source, inside(nodes, SyntaxKind::ArgumentsDefinition))?;
     Ok(list)
 }
 
 /// The fields among the parts of an input object type.
 #[tactic(auto, unfolding(crate::specs::Fields::input_fields))]
 pub(crate) fn input_fields(
-    alloc: Global,
+    source: &Source<'_>,
     nodes: &[Tree],
-    text: &str,
-    file_id: FileId,
 ) -> Result<Listed<InputValueDefinition>, Memory>
-    ensures { IfOk result (λ made. made ≡ spec.input_fields text.now file_id (forest nodes.now)) }
+    ensures { IfOk result (λ made. made ≡ spec.input_fields source.now.text.now source.now.file_id (forest nodes.now)) }
 {
-    let list = gather(
-        alloc,
-        inside(nodes, SyntaxKind::InputFieldsDefinition),
-        text,
-        file_id,
-    )?;
+    let list = gather(source, inside(nodes, SyntaxKind::InputFieldsDefinition))?;
     Ok(list)
 }
 
 /// The fields among the parts of an object type or an interface type.
 #[tactic(auto, unfolding(crate::specs::Fields::fields))]
-pub(crate) fn fields(
-    alloc: Global,
-    nodes: &[Tree],
-    text: &str,
-    file_id: FileId,
-) -> Result<Listed<FieldDefinition>, Memory>
-    ensures { IfOk result (λ made. made ≡ spec.fields text.now file_id (forest nodes.now)) }
+pub(crate) fn fields(source: &Source<'_>, nodes: &[Tree]) -> Result<Listed<FieldDefinition>, Memory>
+    ensures { IfOk result (λ made. made ≡ spec.fields source.now.text.now source.now.file_id (forest nodes.now)) }
 {
-    let list = gather(
-        alloc,
-        inside(nodes, SyntaxKind::FieldsDefinition),
-        text,
-        file_id,
-    )?;
+    let list = gather(source, inside(nodes, SyntaxKind::FieldsDefinition))?;
     Ok(list)
 }
 
 /// The values among the parts of an enum type.
 #[tactic(auto, unfolding(crate::specs::Fields::enum_values))]
 pub(crate) fn enum_values(
-    alloc: Global,
+    source: &Source<'_>,
     nodes: &[Tree],
-    text: &str,
-    file_id: FileId,
 ) -> Result<Listed<EnumValueDefinition>, Memory>
-    ensures { IfOk result (λ made. made ≡ spec.enum_values text.now file_id (forest nodes.now)) }
+    ensures { IfOk result (λ made. made ≡ spec.enum_values source.now.text.now source.now.file_id (forest nodes.now)) }
 {
-    let list = gather(
-        alloc,
-        inside(nodes, SyntaxKind::EnumValuesDefinition),
-        text,
-        file_id,
-    )?;
+    let list = gather(source, inside(nodes, SyntaxKind::EnumValuesDefinition))?;
     Ok(list)
 }

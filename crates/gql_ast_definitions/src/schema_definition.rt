@@ -6,12 +6,12 @@ ghost use Rattle.gql_ast_definitions.specs.Schemas as spec;
 
 use crate::field_definition::{InputValueDefinition, argument_definitions};
 use gql_ast_base::{
-    Convert, Copying, Name, OperationType, all_four, all_three, behind, description, gather, is_of,
-    is_word, location, nth_name, word,
+    Convert, Copying, Name, OperationType, Source, after_word, all_four, all_three, description,
+    gather, is_of, is_word, location, nth_name, word,
 };
 use gql_ast_values::{Directive, directives};
 use gql_cst::{SyntaxKind, Tree};
-use gql_source::{FileId, SourceSpan};
+use gql_source::SourceSpan;
 use jb_text::{Listed, Memory, Text};
 use std::alloc::Global;
 
@@ -165,13 +165,8 @@ impl Convert for DirectiveLocation {
 
     /// The place that a token names.
     #[tactic(auto, unfolding(crate::specs::Schemas::directive_location_of))]
-    fn convert(
-        _alloc: Global,
-        tree: &Tree,
-        text: &str,
-        _file_id: FileId,
-    ) -> Result<Option<DirectiveLocation>, Memory> {
-        match word(text, tree) {
+    fn read(source: &Source<'_>, tree: &Tree) -> Result<Option<DirectiveLocation>, Memory> {
+        match word(source.text, tree) {
             Some(found) => Ok(location_word(found)),
             None => Ok(None),
         }
@@ -181,28 +176,24 @@ impl Convert for DirectiveLocation {
 /// The places among the parts of a directive's definition, which stand behind its name.
 #[tactic(auto, unfolding(crate::specs::Schemas::directive_locations))]
 fn directive_locations(
-    alloc: Global,
+    source: &Source<'_>,
     nodes: &[Tree],
-    text: &str,
-    file_id: FileId,
 ) -> Result<Listed<DirectiveLocation>, Memory>
-    ensures { IfOk result (λ made. made ≡ spec.directive_locations text.now (forest nodes.now)) }
+    ensures { IfOk result (λ made. made ≡ spec.directive_locations source.now.text.now (forest nodes.now)) }
 {
-    let list = gather(alloc, behind(nodes, text, 1), text, file_id)?;
+    let list = gather(source, after_word(nodes, source.text, 1))?;
     Ok(list)
 }
 
 /// The root operations among the parts of a schema.
 #[tactic(auto, unfolding(crate::specs::Schemas::root_operations))]
 pub(crate) fn root_operations(
-    alloc: Global,
+    source: &Source<'_>,
     nodes: &[Tree],
-    text: &str,
-    file_id: FileId,
 ) -> Result<Listed<(OperationType, Name)>, Memory>
-    ensures { IfOk result (λ made. made ≡ spec.root_operations text.now file_id (forest nodes.now)) }
+    ensures { IfOk result (λ made. made ≡ spec.root_operations source.now.text.now source.now.file_id (forest nodes.now)) }
 {
-    let list = gather(alloc, nodes, text, file_id)?;
+    let list = gather(source, nodes)?;
     Ok(list)
 }
 
@@ -210,26 +201,21 @@ impl Convert for SchemaDefinition {
     ghost meaning = { spec.schema_of };
 
     #[tactic(auto, unfolding(crate::specs::Schemas::schema_of))]
-    fn convert(
-        alloc: Global,
-        tree: &Tree,
-        text: &str,
-        file_id: FileId,
-    ) -> Result<Option<SchemaDefinition>, Memory> {
+    fn read(source: &Source<'_>, tree: &Tree) -> Result<Option<SchemaDefinition>, Memory> {
         if !is_of(tree, SyntaxKind::SchemaDefinition) {
             return Ok(None);
         }
         let nodes = tree.children().as_slice();
         let (description, directives, root_operations) = all_three(
-            description(alloc, nodes, text, file_id),
-            directives(alloc, nodes, text, file_id),
-            root_operations(alloc, nodes, text, file_id),
+            description(source, nodes),
+            directives(source, nodes),
+            root_operations(source, nodes),
         )?;
         Ok(Some(SchemaDefinition {
             description,
             directives,
             root_operations,
-            location: location(file_id, tree),
+            location: location(source.file_id, tree),
         }))
     }
 }
@@ -238,31 +224,26 @@ impl Convert for DirectiveDefinition {
     ghost meaning = { spec.directive_definition_of };
 
     #[tactic(auto, unfolding(crate::specs::Schemas::directive_definition_of))]
-    fn convert(
-        alloc: Global,
-        tree: &Tree,
-        text: &str,
-        file_id: FileId,
-    ) -> Result<Option<DirectiveDefinition>, Memory> {
+    fn read(source: &Source<'_>, tree: &Tree) -> Result<Option<DirectiveDefinition>, Memory> {
         if !is_of(tree, SyntaxKind::DirectiveDefinition) {
             return Ok(None);
         }
         let nodes = tree.children().as_slice();
-        let Some(name) = nth_name(alloc, nodes, text, file_id, 1)? else {
+        let Some(name) = nth_name(source, nodes, 1)? else {
             return Ok(None);
         };
         let (description, arguments, locations) = all_three(
-            description(alloc, nodes, text, file_id),
-            argument_definitions(alloc, nodes, text, file_id),
-            directive_locations(alloc, nodes, text, file_id),
+            description(source, nodes),
+            argument_definitions(source, nodes),
+            directive_locations(source, nodes),
         )?;
         Ok(Some(DirectiveDefinition {
             description,
             name,
             arguments,
-            repeatable: is_word(nodes, text, 2, "repeatable"),
+            repeatable: is_word(nodes, source.text, 2, "repeatable"),
             locations,
-            location: location(file_id, tree),
+            location: location(source.file_id, tree),
         }))
     }
 }

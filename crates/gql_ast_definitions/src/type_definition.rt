@@ -8,14 +8,13 @@ use crate::field_definition::{
     EnumValueDefinition, FieldDefinition, InputValueDefinition, enum_values, fields, input_fields,
 };
 use gql_ast_base::{
-    Convert, Name, all_four, all_three, both, description, inside, is_of, location, named_types,
-    nth_name,
+    Convert, Name, Source, all_four, all_three, both, description, inside, is_of, location,
+    named_types, nth_name,
 };
 use gql_ast_values::{Directive, directives};
 use gql_cst::{SyntaxKind, Tree};
-use gql_source::{FileId, SourceSpan};
+use gql_source::SourceSpan;
 use jb_text::{Listed, Memory, Text};
-use std::alloc::Global;
 
 mod copying;
 
@@ -82,39 +81,19 @@ pub struct InputObjectTypeDefinition {
 
 /// The interfaces among the parts of an object type or an interface type.
 #[tactic(auto, unfolding(crate::specs::Definitions::interfaces))]
-pub(crate) fn interfaces(
-    alloc: Global,
-    nodes: &[Tree],
-    text: &str,
-    file_id: FileId,
-) -> Result<Listed<Name>, Memory>
-    ensures { IfOk result (λ made. made ≡ spec.interfaces text.now file_id (forest nodes.now)) }
+pub(crate) fn interfaces(source: &Source<'_>, nodes: &[Tree]) -> Result<Listed<Name>, Memory>
+    ensures { IfOk result (λ made. made ≡ spec.interfaces source.now.text.now source.now.file_id (forest nodes.now)) }
 {
-    let list = named_types(
-        alloc,
-        inside(nodes, SyntaxKind::ImplementsInterfaces),
-        text,
-        file_id,
-    )?;
+    let list = named_types(source, inside(nodes, SyntaxKind::ImplementsInterfaces))?;
     Ok(list)
 }
 
 /// The members among the parts of a union type.
 #[tactic(auto, unfolding(crate::specs::Definitions::members))]
-pub(crate) fn members(
-    alloc: Global,
-    nodes: &[Tree],
-    text: &str,
-    file_id: FileId,
-) -> Result<Listed<Name>, Memory>
-    ensures { IfOk result (λ made. made ≡ spec.members text.now file_id (forest nodes.now)) }
+pub(crate) fn members(source: &Source<'_>, nodes: &[Tree]) -> Result<Listed<Name>, Memory>
+    ensures { IfOk result (λ made. made ≡ spec.members source.now.text.now source.now.file_id (forest nodes.now)) }
 {
-    let list = named_types(
-        alloc,
-        inside(nodes, SyntaxKind::UnionMemberTypes),
-        text,
-        file_id,
-    )?;
+    let list = named_types(source, inside(nodes, SyntaxKind::UnionMemberTypes))?;
     Ok(list)
 }
 
@@ -122,28 +101,23 @@ impl Convert for ScalarTypeDefinition {
     ghost meaning = { spec.scalar_of };
 
     #[tactic(auto, unfolding(crate::specs::Definitions::scalar_of))]
-    fn convert(
-        alloc: Global,
-        tree: &Tree,
-        text: &str,
-        file_id: FileId,
-    ) -> Result<Option<ScalarTypeDefinition>, Memory> {
+    fn read(source: &Source<'_>, tree: &Tree) -> Result<Option<ScalarTypeDefinition>, Memory> {
         if !is_of(tree, SyntaxKind::ScalarTypeDefinition) {
             return Ok(None);
         }
         let nodes = tree.children().as_slice();
-        let Some(name) = nth_name(alloc, nodes, text, file_id, 1)? else {
+        let Some(name) = nth_name(source, nodes, 1)? else {
             return Ok(None);
         };
         let (description, directives) = both(
-            description(alloc, nodes, text, file_id),
-            directives(alloc, nodes, text, file_id),
+            description(source, nodes),
+            directives(source, nodes),
         )?;
         Ok(Some(ScalarTypeDefinition {
             description,
             name,
             directives,
-            location: location(file_id, tree),
+            location: location(source.file_id, tree),
         }))
     }
 }
@@ -152,24 +126,19 @@ impl Convert for ObjectTypeDefinition {
     ghost meaning = { spec.object_of };
 
     #[tactic(auto, unfolding(crate::specs::Definitions::object_of))]
-    fn convert(
-        alloc: Global,
-        tree: &Tree,
-        text: &str,
-        file_id: FileId,
-    ) -> Result<Option<ObjectTypeDefinition>, Memory> {
+    fn read(source: &Source<'_>, tree: &Tree) -> Result<Option<ObjectTypeDefinition>, Memory> {
         if !is_of(tree, SyntaxKind::ObjectTypeDefinition) {
             return Ok(None);
         }
         let nodes = tree.children().as_slice();
-        let Some(name) = nth_name(alloc, nodes, text, file_id, 1)? else {
+        let Some(name) = nth_name(source, nodes, 1)? else {
             return Ok(None);
         };
         let (description, implements_interfaces, directives, fields) = all_four(
-            description(alloc, nodes, text, file_id),
-            interfaces(alloc, nodes, text, file_id),
-            directives(alloc, nodes, text, file_id),
-            fields(alloc, nodes, text, file_id),
+            description(source, nodes),
+            interfaces(source, nodes),
+            directives(source, nodes),
+            fields(source, nodes),
         )?;
         Ok(Some(ObjectTypeDefinition {
             description,
@@ -177,7 +146,7 @@ impl Convert for ObjectTypeDefinition {
             implements_interfaces,
             directives,
             fields,
-            location: location(file_id, tree),
+            location: location(source.file_id, tree),
         }))
     }
 }
@@ -186,24 +155,19 @@ impl Convert for InterfaceTypeDefinition {
     ghost meaning = { spec.interface_of };
 
     #[tactic(auto, unfolding(crate::specs::Definitions::interface_of))]
-    fn convert(
-        alloc: Global,
-        tree: &Tree,
-        text: &str,
-        file_id: FileId,
-    ) -> Result<Option<InterfaceTypeDefinition>, Memory> {
+    fn read(source: &Source<'_>, tree: &Tree) -> Result<Option<InterfaceTypeDefinition>, Memory> {
         if !is_of(tree, SyntaxKind::InterfaceTypeDefinition) {
             return Ok(None);
         }
         let nodes = tree.children().as_slice();
-        let Some(name) = nth_name(alloc, nodes, text, file_id, 1)? else {
+        let Some(name) = nth_name(source, nodes, 1)? else {
             return Ok(None);
         };
         let (description, implements_interfaces, directives, fields) = all_four(
-            description(alloc, nodes, text, file_id),
-            interfaces(alloc, nodes, text, file_id),
-            directives(alloc, nodes, text, file_id),
-            fields(alloc, nodes, text, file_id),
+            description(source, nodes),
+            interfaces(source, nodes),
+            directives(source, nodes),
+            fields(source, nodes),
         )?;
         Ok(Some(InterfaceTypeDefinition {
             description,
@@ -211,7 +175,7 @@ impl Convert for InterfaceTypeDefinition {
             implements_interfaces,
             directives,
             fields,
-            location: location(file_id, tree),
+            location: location(source.file_id, tree),
         }))
     }
 }
@@ -220,30 +184,25 @@ impl Convert for UnionTypeDefinition {
     ghost meaning = { spec.union_of };
 
     #[tactic(auto, unfolding(crate::specs::Definitions::union_of))]
-    fn convert(
-        alloc: Global,
-        tree: &Tree,
-        text: &str,
-        file_id: FileId,
-    ) -> Result<Option<UnionTypeDefinition>, Memory> {
+    fn read(source: &Source<'_>, tree: &Tree) -> Result<Option<UnionTypeDefinition>, Memory> {
         if !is_of(tree, SyntaxKind::UnionTypeDefinition) {
             return Ok(None);
         }
         let nodes = tree.children().as_slice();
-        let Some(name) = nth_name(alloc, nodes, text, file_id, 1)? else {
+        let Some(name) = nth_name(source, nodes, 1)? else {
             return Ok(None);
         };
         let (description, directives, members) = all_three(
-            description(alloc, nodes, text, file_id),
-            directives(alloc, nodes, text, file_id),
-            members(alloc, nodes, text, file_id),
+            description(source, nodes),
+            directives(source, nodes),
+            members(source, nodes),
         )?;
         Ok(Some(UnionTypeDefinition {
             description,
             name,
             directives,
             members,
-            location: location(file_id, tree),
+            location: location(source.file_id, tree),
         }))
     }
 }
@@ -252,30 +211,25 @@ impl Convert for EnumTypeDefinition {
     ghost meaning = { spec.enum_of };
 
     #[tactic(auto, unfolding(crate::specs::Definitions::enum_of))]
-    fn convert(
-        alloc: Global,
-        tree: &Tree,
-        text: &str,
-        file_id: FileId,
-    ) -> Result<Option<EnumTypeDefinition>, Memory> {
+    fn read(source: &Source<'_>, tree: &Tree) -> Result<Option<EnumTypeDefinition>, Memory> {
         if !is_of(tree, SyntaxKind::EnumTypeDefinition) {
             return Ok(None);
         }
         let nodes = tree.children().as_slice();
-        let Some(name) = nth_name(alloc, nodes, text, file_id, 1)? else {
+        let Some(name) = nth_name(source, nodes, 1)? else {
             return Ok(None);
         };
         let (description, directives, values) = all_three(
-            description(alloc, nodes, text, file_id),
-            directives(alloc, nodes, text, file_id),
-            enum_values(alloc, nodes, text, file_id),
+            description(source, nodes),
+            directives(source, nodes),
+            enum_values(source, nodes),
         )?;
         Ok(Some(EnumTypeDefinition {
             description,
             name,
             directives,
             values,
-            location: location(file_id, tree),
+            location: location(source.file_id, tree),
         }))
     }
 }
@@ -284,30 +238,25 @@ impl Convert for InputObjectTypeDefinition {
     ghost meaning = { spec.input_object_of };
 
     #[tactic(auto, unfolding(crate::specs::Definitions::input_object_of))]
-    fn convert(
-        alloc: Global,
-        tree: &Tree,
-        text: &str,
-        file_id: FileId,
-    ) -> Result<Option<InputObjectTypeDefinition>, Memory> {
+    fn read(source: &Source<'_>, tree: &Tree) -> Result<Option<InputObjectTypeDefinition>, Memory> {
         if !is_of(tree, SyntaxKind::InputObjectTypeDefinition) {
             return Ok(None);
         }
         let nodes = tree.children().as_slice();
-        let Some(name) = nth_name(alloc, nodes, text, file_id, 1)? else {
+        let Some(name) = nth_name(source, nodes, 1)? else {
             return Ok(None);
         };
         let (description, directives, fields) = all_three(
-            description(alloc, nodes, text, file_id),
-            directives(alloc, nodes, text, file_id),
-            input_fields(alloc, nodes, text, file_id),
+            description(source, nodes),
+            directives(source, nodes),
+            input_fields(source, nodes),
         )?;
         Ok(Some(InputObjectTypeDefinition {
             description,
             name,
             directives,
             fields,
-            location: location(file_id, tree),
+            location: location(source.file_id, tree),
         }))
     }
 }

@@ -8,7 +8,7 @@ use Rattle.gql_cst.specs.Forest.{Forest, nothing, tree_then}
 use Rattle.gql_cst.specs.Leaves.{Part, word, ignored, node, part_of}
 use Rattle.gql_cst_laws.specs.Bare.{bare_then, bare, TokensEnd}
 use Rattle.gql_ast_base.specs.Kinds.{is_kind}
-use Rattle.gql_ast_base.specs.Parts.{Text, gather, word as name_text, behind}
+use Rattle.gql_ast_base.specs.Parts.{Text, gather, word as name_text, after_word}
 use Rattle.gql_ast_definitions.specs.Schemas.{location_word, directive_location_of, directive_locations, root_operations, schema_of, directive_definition_of}
 use Rattle.gql_ast_base.specs.OperationTypes.{root_operation_of}
 use Rattle.gql_ast_laws.proofs.TokenKinds.{is_word_part, token_kind}
@@ -21,10 +21,10 @@ use Rattle.gql_ast_laws.proofs.DirectiveMeaning.{description-bare, directives-ba
 use Rattle.gql_ast_laws.proofs.OperationMeaning.{operation_type-bare}
 use Rattle.gql_ast_laws.proofs.FieldMeaning.{argument_definitions-bare}
 
--- ---- the trees behind a name
+-- ---- the trees after a name
 
 passed : (text : Text) (n : ℕ) (k : SyntaxKind) (start end : ℕ) (children rest : Forest) → name_text text (tree k start end children) ≡ None
-    → behind text n (tree_then k start end children rest) ≡ behind text n rest
+    → after_word text n (tree_then k start end children rest) ≡ after_word text n rest
 passed text n k start end children rest e = rw e refl
 
 chosen : (a b : Bool) (x x2 y y2 z z2 : Forest) → x ≡ bare x2 → y ≡ bare y2 → z ≡ bare z2
@@ -34,36 +34,36 @@ chosen true false x x2 y y2 z z2 p q r = q
 chosen false b x x2 y y2 z z2 p q r = r
 
 met : (text : Text) (n : ℕ) (k : SyntaxKind) (start end : ℕ) (children other rest after : Forest) → name_text text (tree k start end other) ≡ name_text text (tree k start end children)
-    → after ≡ bare rest → ((m : ℕ) → behind text m after ≡ bare (behind text m rest))
-    → behind text n (tree_then k start end other after) ≡ bare (behind text n (tree_then k start end children rest))
+    → after ≡ bare rest → ((m : ℕ) → after_word text m after ≡ bare (after_word text m rest))
+    → after_word text n (tree_then k start end other after) ≡ bare (after_word text n (tree_then k start end children rest))
 met text n k start end children other rest after e a r =
-    rw e (chosen (is_some (name_text text (tree k start end children))) (n == 0) after rest (behind text (n - 1) after) (behind text (n - 1) rest) (behind text n after) (behind text n rest) a (r (n - 1)) (r n))
+    rw e (chosen (is_some (name_text text (tree k start end children))) (n == 0) after rest (after_word text (n - 1) after) (after_word text (n - 1) rest) (after_word text n after) (after_word text n rest) a (r (n - 1)) (r n))
 
-behind_then : (text : Text) (n : ℕ) (part : Part) (k : SyntaxKind) (start end : ℕ) (children rest : Forest) → is_kind k kind.Token ≡ is_word_part part
+after_word_then : (text : Text) (n : ℕ) (part : Part) (k : SyntaxKind) (start end : ℕ) (children rest : Forest) → is_kind k kind.Token ≡ is_word_part part
     → (part ≡ word → name_text text (tree k start end nothing) ≡ name_text text (tree k start end children))
-    → ((m : ℕ) → behind text m (bare rest) ≡ bare (behind text m rest))
-    → behind text n (bare_then part k start end (bare children) (bare rest)) ≡ bare (behind text n (tree_then k start end children rest))
-behind_then text n word k start end children rest e w r = met text n k start end children nothing rest (bare rest) (w refl) refl r
-behind_then text n ignored k start end children rest e w r = r n ∙ sym (ap bare (passed text n k start end children rest (no_text text k start end children e)))
-behind_then text n node k start end children rest e w r =
+    → ((m : ℕ) → after_word text m (bare rest) ≡ bare (after_word text m rest))
+    → after_word text n (bare_then part k start end (bare children) (bare rest)) ≡ bare (after_word text n (tree_then k start end children rest))
+after_word_then text n word k start end children rest e w r = met text n k start end children nothing rest (bare rest) (w refl) refl r
+after_word_then text n ignored k start end children rest e w r = r n ∙ sym (ap bare (passed text n k start end children rest (no_text text k start end children e)))
+after_word_then text n node k start end children rest e w r =
     passed text n k 0 0 (bare children) (bare rest) (no_text text k 0 0 (bare children) e) ∙ r n
     ∙ sym (ap bare (passed text n k start end children rest (no_text text k start end children e)))
 
-behind_bare : (text : Text) (row : Forest) (n : ℕ) → behind text n (bare row) ≡ bare (behind text n row)
-behind_bare text nothing n = refl
-behind_bare text (tree_then k start end children rest) n =
-    behind_then text n (part_of k) k start end children rest (token_kind k) (name_text-at text k start end children).as_word (behind_bare text rest)
+after_word_bare : (text : Text) (row : Forest) (n : ℕ) → after_word text n (bare row) ≡ bare (after_word text n row)
+after_word_bare text nothing n = refl
+after_word_bare text (tree_then k start end children rest) n =
+    after_word_then text n (part_of k) k start end children rest (token_kind k) (name_text-at text k start end children).as_word (after_word_bare text rest)
 
 chosen_ends : (a b : Bool) (x y z : Forest) → TokensEnd x → TokensEnd y → TokensEnd z → TokensEnd (if a then (if b then x else y) else z)
 chosen_ends true true x y z p q r = p
 chosen_ends true false x y z p q r = q
 chosen_ends false b x y z p q r = r
 
-behind_ends : (text : Text) (row : Forest) (n : ℕ) → TokensEnd row → TokensEnd (behind text n row)
-behind_ends text nothing n h = tt
-behind_ends text (tree_then k start end children rest) n h =
-    chosen_ends (is_some (name_text text (tree k start end children))) (n == 0) rest (behind text (n - 1) rest) (behind text n rest)
-    h.1 (behind_ends text rest (n - 1) h.1) (behind_ends text rest n h.1)
+after_word_ends : (text : Text) (row : Forest) (n : ℕ) → TokensEnd row → TokensEnd (after_word text n row)
+after_word_ends text nothing n h = tt
+after_word_ends text (tree_then k start end children rest) n h =
+    chosen_ends (is_some (name_text text (tree k start end children))) (n == 0) rest (after_word text (n - 1) rest) (after_word text n rest)
+    h.1 (after_word_ends text rest (n - 1) h.1) (after_word_ends text rest n h.1)
 
 -- ---- the places of a directive
 
@@ -74,8 +74,8 @@ location-blind text = record { at = λ k start end children h. then_at location_
 locations-bare : (text : Text) (row : Forest) → TokensEnd row → directive_locations text (bare row) ≡ directive_locations text row
 unfolding directive_locations
 locations-bare text row h =
-    ap (λ f. gather (directive_location_of text) f) (behind_bare text row 1)
-    ∙ gather_blind (location-blind text) (behind text 1 row) (behind_ends text row 1 h)
+    ap (λ f. gather (directive_location_of text) f) (after_word_bare text row 1)
+    ∙ gather_blind (location-blind text) (after_word text 1 row) (after_word_ends text row 1 h)
 
 module _ (text : Text) (file : FileId) where
   root_operation-blind : Blind (root_operation_of text file)

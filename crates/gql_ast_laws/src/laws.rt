@@ -17,7 +17,7 @@ ghost use Rattle.gql_ast_operations.specs.Selections.{selections, selected};
 ghost use Rattle.gql_ast_values.specs.Types.{type_of};
 ghost use Rattle.gql_ast_laws.specs.Meant.{IsDocumentOf, AreSelectionsOf, IsTypeOf};
 
-use gql_cst_laws::laws::{parses_are_trees, texts_have_one_tree};
+use gql_cst_laws::laws as tree_laws;
 
 /// A text is one document at most: all its trees have the same definitions, locations included (section 2.2 of GraphQL
 /// October 2021).
@@ -28,7 +28,7 @@ pub fn texts_have_one_document()
     ensures document { (text : List ℕ) (file : FileId) (one other : List Definition)
         → IsDocumentOf text file one → IsDocumentOf text file other → one ≡ other }
 {
-    texts_have_one_tree();
+    tree_laws::texts_have_one_tree();
 }
 
 /// A text is one list of selections at most, with braces around it or without (section 2.4 of GraphQL October 2021).
@@ -42,7 +42,7 @@ pub fn texts_have_one_selection_set()
     ensures selections { (text : List ℕ) (file : FileId) (one other : List Selection)
         → AreSelectionsOf text file one → AreSelectionsOf text file other → one ≡ other }
 {
-    texts_have_one_tree();
+    tree_laws::texts_have_one_tree();
 }
 
 /// A text is one reference to a type at most (section 2.11 of GraphQL October 2021).
@@ -53,7 +53,7 @@ pub fn texts_have_one_type()
     ensures ty { (text : List ℕ) (file : FileId) (one other : TypeRef)
         → IsTypeOf text file one → IsTypeOf text file other → one ≡ other }
 {
-    texts_have_one_tree();
+    tree_laws::texts_have_one_tree();
 }
 
 /// What the tree of a parse without an error stands for is what the text stands for.
@@ -68,5 +68,5 @@ pub fn parses_mean_their_text()
         → IsParse TypeReference text limits parsed → parsed.error ≡ None
         → type_of text file (plain parsed.tree) ≡ Some ty → IsTypeOf text file ty }
 {
-    parses_are_trees();
+    tree_laws::parses_are_trees();
 }

@@ -64,3 +64,14 @@ module _ (text : Text) (file : FileId) (parts : List Tree) (i : ℕ) (part : Tre
 
 pub kept-none : {T : Type 0} (found : Option T) (start list new : List T) → is_some found ≡ false → list ≡ start → new ≡ list ++ option_to_list found → new ≡ start
 kept-none found start list new none at kept = kept ∙ none-kept found list none ∙ at
+
+-- the selections of a row are what its trees stand for, one after the other
+pub selections-gathered : (text : Text) (file : FileId) (row : Forest) → selections text file row ≡ gather (selection_of text file) row
+selections-gathered text file nothing = refl
+selections-gathered text file (tree_then k start end children rest) =
+    ap (λ l. option_to_list (selection_of text file (record { kind = k; start = start; end = end; children = children })) ++ l) (selections-gathered text file rest)
+
+-- a list that has what was found, and nothing else
+pub head-found : {T : Type 0} (found : Option T) → head (option_to_list found) ≡ found
+head-found None = refl
+head-found (Some x) = refl

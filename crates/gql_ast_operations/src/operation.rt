@@ -4,14 +4,14 @@ ghost use Rattle.std.specs.Prelude.{◌≡◌, IfOk};
 ghost use Rattle.gql_cst.specs.Forest.{forest};
 ghost use Rattle.gql_ast_operations.specs.Operations as spec;
 
-use crate::selection::{Selection, type_condition};
+use crate::selection::{Selection, selection_set, type_condition};
 use gql_ast_base::{
-    Convert, Copying, Name, OperationType, all_four, both, child, first, gather, inside, is_of,
+    Convert, Copying, Name, OperationType, Source, all_four, child, first, gather, inside, is_of,
     location, nth_name, operation_type_in,
 };
 use gql_ast_values::{Directive, TypeRef, Value, default_value, directives};
 use gql_cst::{SyntaxKind, Tree};
-use gql_source::{FileId, SourceSpan};
+use gql_source::SourceSpan;
 use jb_text::{Listed, Memory};
 use std::alloc::Global;
 
@@ -103,20 +103,10 @@ impl Copying for FragmentDefinition {
 
 /// The variables among the parts of an operation.
 #[tactic(auto, unfolding(crate::specs::Operations::variables))]
-fn variables(
-    alloc: Global,
-    nodes: &[Tree],
-    text: &str,
-    file_id: FileId,
-) -> Result<Listed<VariableDefinition>, Memory>
-    ensures { IfOk result (λ made. made ≡ spec.variables text.now file_id (forest nodes.now)) }
+fn variables(source: &Source<'_>, nodes: &[Tree]) -> Result<Listed<VariableDefinition>, Memory>
+    ensures { IfOk result (λ made. made ≡ spec.variables source.now.text.now source.now.file_id (forest nodes.now)) }
 {
-    let list = gather(
-        alloc,
-        inside(nodes, SyntaxKind::VariableDefinitions),
-        text,
-        file_id,
-    )?;
+    let list = gather(source, inside(nodes, SyntaxKind::VariableDefinitions))?;
     Ok(list)
 }
 
@@ -124,22 +114,17 @@ impl Convert for VariableDefinition {
     ghost meaning = { spec.variable_of };
 
     #[tactic(auto, unfolding(crate::specs::Operations::variable_of))]
-    fn convert(
-        alloc: Global,
-        tree: &Tree,
-        text: &str,
-        file_id: FileId,
-    ) -> Result<Option<VariableDefinition>, Memory> {
+    fn read(source: &Source<'_>, tree: &Tree) -> Result<Option<VariableDefinition>, Memory> {
         if !is_of(tree, SyntaxKind::VariableDefinition) {
             return Ok(None);
         }
         let nodes = tree.children().as_slice();
         let names = inside(nodes, SyntaxKind::Variable);
         let (name, ty, default_value, directives) = all_four(
-            nth_name(alloc, names, text, file_id, 0),
-            first(alloc, nodes, text, file_id),
-            default_value(alloc, nodes, text, file_id),
-            directives(alloc, nodes, text, file_id),
+            nth_name(source, names, 0),
+            first(source, nodes),
+            default_value(source, nodes),
+            directives(source, nodes),
         )?;
         let Some((name, ty)) = name.zip(ty) else {
             return Ok(None);
@@ -149,7 +134,7 @@ impl Convert for VariableDefinition {
             ty,
             default_value,
             directives,
-            location: location(file_id, tree),
+            location: location(source.file_id, tree),
         }))
     }
 }
@@ -158,12 +143,7 @@ impl Convert for OperationDefinition {
     ghost meaning = { spec.operation_of };
 
     #[tactic(auto, unfolding(crate::specs::Operations::operation_of))]
-    fn convert(
-        alloc: Global,
-        tree: &Tree,
-        text: &str,
-        file_id: FileId,
-    ) -> Result<Option<OperationDefinition>, Memory> {
+    fn read(source: &Source<'_>, tree: &Tree) -> Result<Option<OperationDefinition>, Memory> {
         if !is_of(tree, SyntaxKind::OperationDefinition) {
             return Ok(None);
         }
@@ -171,12 +151,12 @@ impl Convert for OperationDefinition {
         let Some(set) = child(nodes, SyntaxKind::SelectionSet) else {
             return Ok(None);
         };
-        let operation_type = operation_type_in(nodes, text).unwrap_or(OperationType::Query);
+        let operation_type = operation_type_in(nodes, source.text).unwrap_or(OperationType::Query);
         let (name, variables, directives, selection_set) = all_four(
-            nth_name(alloc, nodes, text, file_id, 0),
-            variables(alloc, nodes, text, file_id),
-            directives(alloc, nodes, text, file_id),
-            gather(alloc, set.children().as_slice(), text, file_id),
+            nth_name(source, nodes, 0),
+            variables(source, nodes),
+            directives(source, nodes),
+            selection_set(source, set.children().as_slice()),
         )?;
         Ok(Some(OperationDefinition {
             operation_type,
@@ -184,7 +164,7 @@ impl Convert for OperationDefinition {
             variables,
             directives,
             selection_set,
-            location: location(file_id, tree),
+            location: location(source.file_id, tree),
         }))
     }
 }
@@ -193,12 +173,7 @@ impl Convert for FragmentDefinition {
     ghost meaning = { spec.fragment_of };
 
     #[tactic(auto, unfolding(crate::specs::Operations::fragment_of))]
-    fn convert(
-        alloc: Global,
-        tree: &Tree,
-        text: &str,
-        file_id: FileId,
-    ) -> Result<Option<FragmentDefinition>, Memory> {
+    fn read(source: &Source<'_>, tree: &Tree) -> Result<Option<FragmentDefinition>, Memory> {
         if !is_of(tree, SyntaxKind::FragmentDefinition) {
             return Ok(None);
         }
@@ -208,10 +183,10 @@ impl Convert for FragmentDefinition {
         };
         let names = inside(nodes, SyntaxKind::FragmentName);
         let (name, type_condition, directives, selection_set) = all_four(
-            nth_name(alloc, names, text, file_id, 0),
-            type_condition(alloc, nodes, text, file_id),
-            directives(alloc, nodes, text, file_id),
-            gather(alloc, set.children().as_slice(), text, file_id),
+            nth_name(source, names, 0),
+            type_condition(source, nodes),
+            directives(source, nodes),
+            selection_set(source, set.children().as_slice()),
         )?;
         let Some((name, type_condition)) = name.zip(type_condition) else {
             return Ok(None);
@@ -221,7 +196,7 @@ impl Convert for FragmentDefinition {
             type_condition,
             directives,
             selection_set,
-            location: location(file_id, tree),
+            location: location(source.file_id, tree),
         }))
     }
 }

@@ -10,7 +10,7 @@ use std::alloc::Global;
 
 mod conversion;
 
-pub(crate) use conversion::type_condition;
+pub(crate) use conversion::{selection_set, type_condition};
 
 /// One selection of a selection set (GraphQL October 2021, section 2.4).
 #[derive(Drop)]

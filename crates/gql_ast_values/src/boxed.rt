@@ -40,7 +40,7 @@ impl<T> Boxed<T> {
 }
 
 impl<T: Drop> Boxed<T> {
-    /// Puts the value on the heap. `Err` only for want of memory, and the value is then dropped.
+    /// Puts the value on the heap. `Err` only where memory runs out, and the value is then dropped.
     pub fn new(alloc: Global, value: T) -> Result<Boxed<T>, Memory>
         ensures { IfOk result (λ boxed. boxed ≡ value) }
     {

@@ -6,10 +6,10 @@ ghost use Rattle.gql_ast_values.specs.Directives as spec;
 
 use crate::value::Value;
 use gql_ast_base::{
-    Convert, Copying, Name, both, first, gather, inside, is_of, location, nth_name,
+    Convert, Copying, Name, Source, both, first, gather, inside, is_of, location, nth_name,
 };
 use gql_cst::{SyntaxKind, Tree};
-use gql_source::{FileId, SourceSpan};
+use gql_source::SourceSpan;
 use jb_text::{Listed, Memory};
 use std::alloc::Global;
 
@@ -55,26 +55,21 @@ impl Convert for Argument {
     ghost meaning = { spec.argument_of };
 
     #[tactic(auto, unfolding(crate::specs::Directives::argument_of))]
-    fn convert(
-        alloc: Global,
-        tree: &Tree,
-        text: &str,
-        file_id: FileId,
-    ) -> Result<Option<Argument>, Memory> {
+    fn read(source: &Source<'_>, tree: &Tree) -> Result<Option<Argument>, Memory> {
         if !is_of(tree, SyntaxKind::Argument) {
             return Ok(None);
         }
         let nodes = tree.children().as_slice();
-        let Some(name) = nth_name(alloc, nodes, text, file_id, 0)? else {
+        let Some(name) = nth_name(source, nodes, 0)? else {
             return Ok(None);
         };
-        let Some(value) = first(alloc, nodes, text, file_id)? else {
+        let Some(value) = first(source, nodes)? else {
             return Ok(None);
         };
         Ok(Some(Argument {
             name,
             value,
-            location: location(file_id, tree),
+            location: location(source.file_id, tree),
         }))
     }
 }
@@ -83,51 +78,37 @@ impl Convert for Directive {
     ghost meaning = { spec.directive_of };
 
     #[tactic(auto, unfolding(crate::specs::Directives::directive_of))]
-    fn convert(
-        alloc: Global,
-        tree: &Tree,
-        text: &str,
-        file_id: FileId,
-    ) -> Result<Option<Directive>, Memory> {
+    fn read(source: &Source<'_>, tree: &Tree) -> Result<Option<Directive>, Memory> {
         if !is_of(tree, SyntaxKind::Directive) {
             return Ok(None);
         }
         let nodes = tree.children().as_slice();
-        let Some(name) = nth_name(alloc, nodes, text, file_id, 0)? else {
+        let Some(name) = nth_name(source, nodes, 0)? else {
             return Ok(None);
         };
         Ok(Some(Directive {
             name,
-            arguments: arguments(alloc, nodes, text, file_id)?,
-            location: location(file_id, tree),
+            arguments: arguments(source, nodes)?,
+            location: location(source.file_id, tree),
         }))
     }
 }
 
-/// The arguments among the parts of a field or a directive.
+/// The arguments among the parts of a field or a directive (GraphQL October 2021, section 2.6). `Err` only where memory
+/// runs out.
 #[tactic(auto, unfolding(crate::specs::Directives::arguments))]
-pub fn arguments(
-    alloc: Global,
-    nodes: &[Tree],
-    text: &str,
-    file_id: FileId,
-) -> Result<Listed<Argument>, Memory>
-    ensures { IfOk result (λ made. made ≡ spec.arguments text.now file_id (forest nodes.now)) }
+pub fn arguments(source: &Source<'_>, nodes: &[Tree]) -> Result<Listed<Argument>, Memory>
+    ensures { IfOk result (λ made. made ≡ spec.arguments source.now.text.now source.now.file_id (forest nodes.now)) }
 {
-    let list = gather(alloc, inside(nodes, SyntaxKind::Arguments), text, file_id)?;
+    let list = gather(source, inside(nodes, SyntaxKind::Arguments))?;
     Ok(list)
 }
 
-/// The directives among the parts of something.
+/// The directives among the parts of something (GraphQL October 2021, section 2.12). `Err` only where memory runs out.
 #[tactic(auto, unfolding(crate::specs::Directives::directives))]
-pub fn directives(
-    alloc: Global,
-    nodes: &[Tree],
-    text: &str,
-    file_id: FileId,
-) -> Result<Listed<Directive>, Memory>
-    ensures { IfOk result (λ made. made ≡ spec.directives text.now file_id (forest nodes.now)) }
+pub fn directives(source: &Source<'_>, nodes: &[Tree]) -> Result<Listed<Directive>, Memory>
+    ensures { IfOk result (λ made. made ≡ spec.directives source.now.text.now source.now.file_id (forest nodes.now)) }
 {
-    let list = gather(alloc, inside(nodes, SyntaxKind::Directives), text, file_id)?;
+    let list = gather(source, inside(nodes, SyntaxKind::Directives))?;
     Ok(list)
 }

@@ -4,6 +4,7 @@ use crate::same::same;
 use gql_cst::{
     CstError, Limits, Parsed, SyntaxFault, parse_document, parse_selection_set, parse_type,
 };
+use gql_source::SourceFile;
 use jb_text::Memory;
 use std::alloc::Global;
 use std::ops::Range;
@@ -281,6 +282,58 @@ fn limits(rt: HostRuntime) -> Result<(), Fail> {
             limited(rt.alloc(), text, *recursion, *tokens)?.as_str(),
             wanted,
         );
+    }
+    Ok(())
+}
+
+/// Texts, the limits of levels and of tokens, and the line and the column of what passes one of them.
+const PLACES: &[(&str, usize, usize, &str)] = &[
+    (
+        "\n    type Query {\n      field(arg1: Int, arg2: Int): Int",
+        500,
+        18,
+        "3:30",
+    ),
+    ("{ a { b { c } } }", 1, 99, "1:7"),
+    (NESTED, 10, 22, "8:18"),
+    (NESTED, 3, 200, "6:25"),
+];
+
+/// The line and the column at which the error of a text stands.
+fn place_of(alloc: Global, text: &str, parsed: &Parsed) -> Result<String, Memory> {
+    let Some(error) = &parsed.error else {
+        return String::from_str(alloc, "ok");
+    };
+    let (_, range) = parts_of(error);
+    let file = SourceFile::new(alloc, "a.graphql", text)?;
+    let Some(place) = file.get_line_column(range.start) else {
+        return String::from_str(alloc, "no place");
+    };
+    let line = place.line;
+    let column = place.column;
+    format!(in alloc; "{line}:{column}")
+}
+
+/// The line and the column at which the limits stop a document.
+fn stopped_at(
+    alloc: Global,
+    text: &str,
+    recursion: usize,
+    tokens: usize,
+) -> Result<String, Memory> {
+    let limits = Limits {
+        recursion,
+        tokens: Some(tokens),
+    };
+    let parsed = parse_document(alloc, text, &limits)?;
+    place_of(alloc, text, &parsed)
+}
+
+#[test]
+fn places_of_limits(rt: HostRuntime) -> Result<(), Fail> {
+    for (text, recursion, tokens, wanted) in PLACES {
+        let found = stopped_at(rt.alloc(), text, *recursion, *tokens)?;
+        same(&rt, text, found.as_str(), wanted);
     }
     Ok(())
 }

@@ -1,6 +1,6 @@
 //! Copies of extensions.
 
-use super::{
+use crate::extension::{
     EnumTypeExtension, InputObjectTypeExtension, InterfaceTypeExtension, ObjectTypeExtension,
     ScalarTypeExtension, SchemaExtension, UnionTypeExtension,
 };

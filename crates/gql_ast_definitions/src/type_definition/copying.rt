@@ -1,6 +1,6 @@
 //! Copies of definitions of types.
 
-use super::{
+use crate::type_definition::{
     EnumTypeDefinition, InputObjectTypeDefinition, InterfaceTypeDefinition, ObjectTypeDefinition,
     ScalarTypeDefinition, UnionTypeDefinition,
 };

@@ -5,26 +5,19 @@ ghost use Rattle.gql_cst.specs.Forest.{plain, forest};
 ghost use Rattle.gql_ast_base.specs.Parts as parts;
 ghost use Rattle.gql_ast_operations.specs.Selections as spec;
 
-use super::{Field, FragmentSpread, InlineFragment, Selection};
+use crate::selection::{Field, FragmentSpread, InlineFragment, Selection};
 use gql_ast_base::{
-    Convert, Name, all_three, both, child, inside, is_of, location, named_type_in, nth_name,
+    Convert, Name, Source, all_three, both, child, inside, is_of, location, named_type_in, nth_name,
 };
 use gql_ast_values::{arguments, directives};
 use gql_cst::{SyntaxKind, Tree};
-use gql_source::FileId;
 use jb_text::{Listed, Memory};
-use std::alloc::Global;
 
 impl Convert for Selection {
     ghost meaning = { spec.selection_of };
 
-    fn convert(
-        alloc: Global,
-        tree: &Tree,
-        text: &str,
-        file_id: FileId,
-    ) -> Result<Option<Selection>, Memory> {
-        let made = selection(alloc, tree, text, file_id)?;
+    fn read(source: &Source<'_>, tree: &Tree) -> Result<Option<Selection>, Memory> {
+        let made = selection(source, tree)?;
         Ok(made)
     }
 }
@@ -32,14 +25,9 @@ impl Convert for Selection {
 impl Convert for Field {
     ghost meaning = { spec.field_of };
 
-    fn convert(
-        alloc: Global,
-        tree: &Tree,
-        text: &str,
-        file_id: FileId,
-    ) -> Result<Option<Field>, Memory> {
-        let selections = selected(alloc, tree.children().as_slice(), text, file_id)?;
-        let made = field(alloc, tree, text, file_id, selections)?;
+    fn read(source: &Source<'_>, tree: &Tree) -> Result<Option<Field>, Memory> {
+        let selections = selected(source, tree.children().as_slice())?;
+        let made = field(source, tree, selections)?;
         Ok(made)
     }
 }
@@ -47,14 +35,9 @@ impl Convert for Field {
 impl Convert for InlineFragment {
     ghost meaning = { spec.inline_fragment_of };
 
-    fn convert(
-        alloc: Global,
-        tree: &Tree,
-        text: &str,
-        file_id: FileId,
-    ) -> Result<Option<InlineFragment>, Memory> {
-        let selections = selected(alloc, tree.children().as_slice(), text, file_id)?;
-        let made = inline_fragment(alloc, tree, text, file_id, selections)?;
+    fn read(source: &Source<'_>, tree: &Tree) -> Result<Option<InlineFragment>, Memory> {
+        let selections = selected(source, tree.children().as_slice())?;
+        let made = inline_fragment(source, tree, selections)?;
         Ok(made)
     }
 }
@@ -63,74 +46,62 @@ impl Convert for FragmentSpread {
     ghost meaning = { spec.spread_of };
 
     #[tactic(auto, unfolding(crate::specs::Selections::spread_of))]
-    fn convert(
-        alloc: Global,
-        tree: &Tree,
-        text: &str,
-        file_id: FileId,
-    ) -> Result<Option<FragmentSpread>, Memory> {
+    fn read(source: &Source<'_>, tree: &Tree) -> Result<Option<FragmentSpread>, Memory> {
         if !is_of(tree, SyntaxKind::FragmentSpread) {
             return Ok(None);
         }
         let nodes = tree.children().as_slice();
         let names = inside(nodes, SyntaxKind::FragmentName);
-        let Some(fragment_name) = nth_name(alloc, names, text, file_id, 0)? else {
+        let Some(fragment_name) = nth_name(source, names, 0)? else {
             return Ok(None);
         };
         Ok(Some(FragmentSpread {
             fragment_name,
-            directives: directives(alloc, nodes, text, file_id)?,
-            location: location(file_id, tree),
+            directives: directives(source, nodes)?,
+            location: location(source.file_id, tree),
         }))
     }
 }
 
 /// The type that a fragment is on.
 #[tactic(auto, unfolding(crate::specs::Selections::type_condition))]
-pub(crate) fn type_condition(
-    alloc: Global,
-    nodes: &[Tree],
-    text: &str,
-    file_id: FileId,
-) -> Result<Option<Name>, Memory>
-    ensures { IfOk result (λ made. made ≡ spec.type_condition text.now file_id (forest nodes.now)) }
+pub(crate) fn type_condition(source: &Source<'_>, nodes: &[Tree]) -> Result<Option<Name>, Memory>
+    ensures { IfOk result (λ made. made ≡ spec.type_condition source.now.text.now source.now.file_id (forest nodes.now)) }
 {
     let nodes = inside(nodes, SyntaxKind::TypeCondition);
-    let name = named_type_in(alloc, nodes, text, file_id)?;
+    let name = named_type_in(source, nodes)?;
     Ok(name)
 }
 
 /// The alias of a field.
-fn alias(alloc: Global, nodes: &[Tree], text: &str, file_id: FileId) -> Result<Option<Name>, Memory>
-    ensures { IfOk result (λ made. made ≡ spec.alias text.now file_id (forest nodes.now)) }
+fn alias(source: &Source<'_>, nodes: &[Tree]) -> Result<Option<Name>, Memory>
+    ensures { IfOk result (λ made. made ≡ spec.alias source.now.text.now source.now.file_id (forest nodes.now)) }
 {
     let nodes = inside(nodes, SyntaxKind::Alias);
-    let name = nth_name(alloc, nodes, text, file_id, 0)?;
+    let name = nth_name(source, nodes, 0)?;
     Ok(name)
 }
 
 /// The field with these selections.
 #[tactic(auto, unfolding(crate::specs::Selections::field_step))]
 fn field(
-    alloc: Global,
+    source: &Source<'_>,
     tree: &Tree,
-    text: &str,
-    file_id: FileId,
     selections: Listed<Selection>,
 ) -> Result<Option<Field>, Memory>
-    ensures { IfOk result (λ made. made ≡ spec.field_step text.now file_id (plain tree.now) selections) }
+    ensures { IfOk result (λ made. made ≡ spec.field_step source.now.text.now source.now.file_id (plain tree.now) selections) }
 {
     if !is_of(tree, SyntaxKind::Field) {
         return Ok(None);
     }
     let nodes = tree.children().as_slice();
-    let Some(name) = nth_name(alloc, nodes, text, file_id, 0)? else {
+    let Some(name) = nth_name(source, nodes, 0)? else {
         return Ok(None);
     };
     let (alias, arguments, directives) = all_three(
-        alias(alloc, nodes, text, file_id),
-        arguments(alloc, nodes, text, file_id),
-        directives(alloc, nodes, text, file_id),
+        alias(source, nodes),
+        arguments(source, nodes),
+        directives(source, nodes),
     )?;
     Ok(Some(Field {
         alias,
@@ -138,20 +109,18 @@ fn field(
         arguments,
         directives,
         selection_set: selections,
-        location: location(file_id, tree),
+        location: location(source.file_id, tree),
     }))
 }
 
 /// The fragment in its place with these selections.
 #[tactic(auto, unfolding(crate::specs::Selections::inline_step))]
 fn inline_fragment(
-    alloc: Global,
+    source: &Source<'_>,
     tree: &Tree,
-    text: &str,
-    file_id: FileId,
     selections: Listed<Selection>,
 ) -> Result<Option<InlineFragment>, Memory>
-    ensures { IfOk result (λ made. made ≡ spec.inline_step text.now file_id (plain tree.now) selections) }
+    ensures { IfOk result (λ made. made ≡ spec.inline_step source.now.text.now source.now.file_id (plain tree.now) selections) }
 {
     if !is_of(tree, SyntaxKind::InlineFragment) {
         return Ok(None);
@@ -161,37 +130,35 @@ fn inline_fragment(
         return Ok(None);
     }
     let (type_condition, directives) = both(
-        type_condition(alloc, nodes, text, file_id),
-        directives(alloc, nodes, text, file_id),
+        type_condition(source, nodes),
+        directives(source, nodes),
     )?;
     Ok(Some(InlineFragment {
         type_condition,
         directives,
         selection_set: selections,
-        location: location(file_id, tree),
+        location: location(source.file_id, tree),
     }))
 }
 
 /// One way to select, with these selections in it: a field, a fragment by its name, or a fragment in its place.
 #[tactic(auto, unfolding(crate::specs::Selections::choice_step))]
 fn choice(
-    alloc: Global,
+    source: &Source<'_>,
     tree: &Tree,
-    text: &str,
-    file_id: FileId,
     selections: Listed<Selection>,
 ) -> Result<Option<Selection>, Memory>
-    ensures { IfOk result (λ made. made ≡ spec.choice_step text.now file_id (plain tree.now) selections) }
+    ensures { IfOk result (λ made. made ≡ spec.choice_step source.now.text.now source.now.file_id (plain tree.now) selections) }
 {
     if is_of(tree, SyntaxKind::Field) {
-        let made = field(alloc, tree, text, file_id, selections)?;
+        let made = field(source, tree, selections)?;
         return Ok(made.map(Selection::Field));
     }
     if is_of(tree, SyntaxKind::FragmentSpread) {
-        let made = FragmentSpread::convert(alloc, tree, text, file_id)?;
+        let made = FragmentSpread::read(source, tree)?;
         return Ok(made.map(Selection::FragmentSpread));
     }
-    let made = inline_fragment(alloc, tree, text, file_id, selections)?;
+    let made = inline_fragment(source, tree, selections)?;
     Ok(made.map(Selection::InlineFragment))
 }
 
@@ -202,16 +169,14 @@ fn choice(
 #[inline(never)]
 fn add_choice(
     list: &mut Listed<Selection>,
-    alloc: Global,
+    source: &Source<'_>,
     tree: &Tree,
-    text: &str,
-    file_id: FileId,
     selections: Listed<Selection>,
 ) -> Result<bool, Memory>
-    ensures told { IfOk result (λ added. added ≡ is_some (spec.choice_step text.now file_id (plain tree.now) selections)) }
-    ensures kept { OnOk result (list.new ≡ list.old ++ option_to_list (spec.choice_step text.now file_id (plain tree.now) selections)) }
+    ensures told { IfOk result (λ added. added ≡ is_some (spec.choice_step source.now.text.now source.now.file_id (plain tree.now) selections)) }
+    ensures kept { OnOk result (list.new ≡ list.old ++ option_to_list (spec.choice_step source.now.text.now source.now.file_id (plain tree.now) selections)) }
 {
-    match choice(alloc, tree, text, file_id, selections)? {
+    match choice(source, tree, selections)? {
         Some(found) => {
             list.push(found)?;
             Ok(true)
@@ -225,63 +190,61 @@ fn add_choice(
 #[tactic(auto, unfolding(crate::specs::Selections::selection_step))]
 fn add_selection(
     list: &mut Listed<Selection>,
-    alloc: Global,
+    source: &Source<'_>,
     tree: &Tree,
-    text: &str,
-    file_id: FileId,
 ) -> Result<(), Memory>
-    ensures { OnOk result (list.new ≡ list.old ++ option_to_list (spec.selection_of text.now file_id (plain tree.now))) }
+    ensures { OnOk result (list.new ≡ list.old ++ option_to_list (spec.selection_of source.now.text.now source.now.file_id (plain tree.now))) }
 {
     if !is_of(tree, SyntaxKind::Selection) {
         return Ok(());
     }
     let parts = tree.children().as_slice();
     for node in parts {
-        let inner = selected(alloc, node.children().as_slice(), text, file_id)?;
-        if add_choice(list, alloc, node, text, file_id, inner)? {
+        let inner = selected(source, node.children().as_slice())?;
+        if add_choice(list, source, node, inner)? {
             return Ok(());
         }
     }
     Ok(())
 }
 
-/// The selections in the first selection set among the trees.
+/// The selections that the trees are.
 #[cycle(selection)]
-fn selected(
-    alloc: Global,
-    nodes: &[Tree],
-    text: &str,
-    file_id: FileId,
-) -> Result<Listed<Selection>, Memory>
-    ensures { IfOk result (λ made. made ≡ spec.selected text.now file_id (forest nodes.now)) }
+fn selections(source: &Source<'_>, nodes: &[Tree]) -> Result<Listed<Selection>, Memory>
+    ensures { IfOk result (λ made. made ≡ spec.selections source.now.text.now source.now.file_id (forest nodes.now)) }
 {
-    let mut list = Listed::new(alloc);
-    let set = inside(nodes, SyntaxKind::SelectionSet);
-    for node in set {
-        add_selection(&mut list, alloc, node, text, file_id)?;
+    let mut list = Listed::new(source.alloc);
+    for node in nodes {
+        add_selection(&mut list, source, node)?;
     }
     Ok(list)
 }
 
-/// The selection that the tree stands for.
-#[tactic(auto, unfolding(crate::specs::Selections::selection_step))]
-fn selection(
-    alloc: Global,
-    tree: &Tree,
-    text: &str,
-    file_id: FileId,
-) -> Result<Option<Selection>, Memory>
-    ensures { IfOk result (λ made. made ≡ spec.selection_of text.now file_id (plain tree.now)) }
+/// The selections in the first selection set among the trees.
+#[cycle(selection)]
+fn selected(source: &Source<'_>, nodes: &[Tree]) -> Result<Listed<Selection>, Memory>
+    ensures { IfOk result (λ made. made ≡ spec.selected source.now.text.now source.now.file_id (forest nodes.now)) }
 {
-    if !is_of(tree, SyntaxKind::Selection) {
-        return Ok(None);
-    }
-    let parts = tree.children().as_slice();
-    for node in parts {
-        let inner = selected(alloc, node.children().as_slice(), text, file_id)?;
-        if let Some(found) = choice(alloc, node, text, file_id, inner)? {
-            return Ok(Some(found));
-        }
-    }
-    Ok(None)
+    let made = selections(source, inside(nodes, SyntaxKind::SelectionSet))?;
+    Ok(made)
+}
+
+/// The selections of a selection set, which the trees are (GraphQL October 2021, section 2.4).
+pub(crate) fn selection_set(
+    source: &Source<'_>,
+    nodes: &[Tree],
+) -> Result<Listed<Selection>, Memory>
+    ensures { IfOk result (λ made. made ≡ parts.gather (spec.selection_of source.now.text.now source.now.file_id) (forest nodes.now)) }
+{
+    let made = selections(source, nodes)?;
+    Ok(made)
+}
+
+/// The selection that a tree stands for.
+fn selection(source: &Source<'_>, tree: &Tree) -> Result<Option<Selection>, Memory>
+    ensures { IfOk result (λ made. made ≡ spec.selection_of source.now.text.now source.now.file_id (plain tree.now)) }
+{
+    let mut list = Listed::new(source.alloc);
+    add_selection(&mut list, source, tree)?;
+    Ok(list.into_iter().next())
 }

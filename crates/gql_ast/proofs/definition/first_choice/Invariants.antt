@@ -5,4 +5,4 @@ use Rattle.gql_ast_base.specs.Parts.{first}
 use Rattle.gql_ast.proofs.definition.first_choice.Given as goal
 
 abbrev pub invariant-loop-node : goal.invariant-loop-node
-invariant-loop-node l = first (choice_of l.text l.file_id) (forest (drop l.node-index l.nodes)) ≡ first (choice_of l.text l.file_id) (forest l.nodes)
+invariant-loop-node l = first (choice_of l.source.text.now l.source.file_id) (forest (drop l.node-index l.nodes)) ≡ first (choice_of l.source.text.now l.source.file_id) (forest l.nodes)

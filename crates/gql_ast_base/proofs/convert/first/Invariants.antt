@@ -5,4 +5,4 @@ use Rattle.gql_ast_base.proofs.convert.first.Given as goal
 
 abbrev pub invariant-loop-node : goal.invariant-loop-node
 invariant-loop-node g l =
-    parts.first (g.T.Convert.meaning l.text l.file_id) (forest (drop l.node-index l.nodes)) ≡ parts.first (g.T.Convert.meaning l.text l.file_id) (forest l.nodes)
+    parts.first (g.T.Convert.meaning l.source.text.now l.source.file_id) (forest (drop l.node-index l.nodes)) ≡ parts.first (g.T.Convert.meaning l.source.text.now l.source.file_id) (forest l.nodes)

@@ -6,4 +6,4 @@ use Rattle.gql_ast_base.proofs.convert.gather.Given as goal
 -- what is found and what is left make the whole
 abbrev pub invariant-loop-node : goal.invariant-loop-node
 invariant-loop-node g l =
-    l.list ++ parts.gather (g.T.Convert.meaning l.text l.file_id) (forest (drop l.node-index l.nodes)) ≡ parts.gather (g.T.Convert.meaning l.text l.file_id) (forest l.nodes)
+    l.list ++ parts.gather (g.T.Convert.meaning l.source.text.now l.source.file_id) (forest (drop l.node-index l.nodes)) ≡ parts.gather (g.T.Convert.meaning l.source.text.now l.source.file_id) (forest l.nodes)

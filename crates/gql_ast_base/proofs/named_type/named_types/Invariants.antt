@@ -6,4 +6,4 @@ use Rattle.gql_ast_base.proofs.named_type.named_types.Given as goal
 
 abbrev pub invariant-loop-node : goal.invariant-loop-node
 invariant-loop-node l =
-    l.list ++ gather (named_type_of l.text l.file_id) (forest (drop l.node-index l.nodes)) ≡ gather (named_type_of l.text l.file_id) (forest l.nodes)
+    l.list ++ gather (named_type_of l.source.text.now l.source.file_id) (forest (drop l.node-index l.nodes)) ≡ gather (named_type_of l.source.text.now l.source.file_id) (forest l.nodes)

@@ -7,13 +7,13 @@ use Rattle.gql_ast_values.proofs.value.conversion.+value.Given as goal
 -- nothing is added yet, and the first content is still to come
 abbrev pub invariant-add_value-loop-node : goal.invariant-add_value-loop-node
 invariant-add_value-loop-node l =
-    (l.list ≡ l.fn.list) × (head (contents l.text l.file_id (forest (drop l.node-index l.parts))) ≡ head (contents l.text l.file_id (forest l.parts)))
+    (l.list ≡ l.fn.list) × (head (contents l.source.text.now l.source.file_id (forest (drop l.node-index l.parts))) ≡ head (contents l.source.text.now l.source.file_id (forest l.parts)))
 
 abbrev pub invariant-values-loop-node : goal.invariant-values-loop-node
-invariant-values-loop-node l = l.list ++ values l.text l.file_id (forest (drop l.node-index l.nodes)) ≡ values l.text l.file_id (forest l.nodes)
+invariant-values-loop-node l = l.list ++ values l.source.text.now l.source.file_id (forest (drop l.node-index l.nodes)) ≡ values l.source.text.now l.source.file_id (forest l.nodes)
 
 abbrev pub invariant-members-loop-node : goal.invariant-members-loop-node
-invariant-members-loop-node l = l.list ++ members l.text l.file_id (forest (drop l.node-index l.nodes)) ≡ members l.text l.file_id (forest l.nodes)
+invariant-members-loop-node l = l.list ++ members l.source.text.now l.source.file_id (forest (drop l.node-index l.nodes)) ≡ members l.source.text.now l.source.file_id (forest l.nodes)
 
 abbrev pub decreases-values : goal.decreases-values
 decreases-values l = size (forest l.nodes.now)

@@ -1,0 +1,16 @@
+use Rattle.std.proofs.Common.{Option, sym, ap, ◌∙◌}
+use Rattle.std.specs.Option.{option_map}
+use Rattle.gql_cst.specs.Forest.{plain}
+use Rattle.gql_ast_values.specs.declared.value.Value.{Value}
+use Rattle.gql_ast_values.proofs.Found.{kind-is}
+use Rattle.gql_ast_values.proofs.value.conversion.ValueKindConvert.read.Goals as goal
+
+pub returns-in-Some : goal.returns-in-Some
+returns-in-Some c =
+    ap (λ (o : Option Value). option_map (λ (v : Value). v.kind) o) (sym c.in-Some.is ∙ c.in_ok-kind.ensures)
+    ∙ sym (kind-is c.args.source.now.text.now c.args.source.now.file_id (plain c.args.tree.now))
+
+pub returns-in-None : goal.returns-in-None
+returns-in-None c =
+    ap (λ (o : Option Value). option_map (λ (v : Value). v.kind) o) (sym c.in-None.is ∙ c.in_ok-kind.ensures)
+    ∙ sym (kind-is c.args.source.now.text.now c.args.source.now.file_id (plain c.args.tree.now))
