@@ -1,3 +1,5 @@
+//! The calls that are measured.
+
 /// A call that is measured.
 #[derive(Clone, Copy, PartialEq, Eq)]
 pub enum Call {

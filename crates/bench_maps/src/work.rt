@@ -1,17 +1,19 @@
+//! What each call does, and how many members it answered for.
+
 ghost use Rattle.std.specs.Prelude.{◌≡◌, length, count_by, is_some, true, IfOk};
 ghost use Rattle.std.specs.Str.{bytes_eq};
 ghost use Rattle.std.specs.Map.{lookup};
 
 use crate::call::Call;
 use itoa::Buffer;
-use jb_text::{ByteString, Listed};
+use jb_text::{ByteString, Listed, Memory};
 use jb_tree::{Map, Value};
 use std::alloc::{AllocError, Global};
 
 /// How many members the call answered for, of an object of so many. `Err` only for want of memory.
 ///
 /// No clause says that it is all of them, since none says that the keys are distinct: the stored output shows it.
-pub fn answered(alloc: Global, call: Call, members: usize) -> Result<usize, AllocError> {
+pub fn answered(alloc: Global, call: Call, members: usize) -> Result<usize, Memory> {
     let keys = keys(alloc, members)?;
     if call == Call::Keys {
         return Ok(keys.len());
@@ -25,7 +27,7 @@ fn answered_of(
     call: Call,
     object: Map,
     keys: &[ByteString],
-) -> Result<usize, AllocError> {
+) -> Result<usize, Memory> {
     match call {
         Call::Keys | Call::Build => Ok(object.len()),
         Call::Find => Ok(found(&object, keys)),
@@ -36,7 +38,7 @@ fn answered_of(
 }
 
 /// The texts of 0, 1 and so on. `Err` only for want of memory.
-fn keys(alloc: Global, count: usize) -> Result<Listed<ByteString>, AllocError>
+fn keys(alloc: Global, count: usize) -> Result<Listed<ByteString>, Memory>
     ensures { IfOk result (λ keys. length keys ≡ count) }
 {
     let mut keys = Listed::new(alloc);
@@ -47,7 +49,7 @@ fn keys(alloc: Global, count: usize) -> Result<Listed<ByteString>, AllocError>
 }
 
 /// The object with these keys and nulls. `Err` only for want of memory.
-fn built(alloc: Global, keys: &[ByteString]) -> Result<Map, AllocError> {
+fn built(alloc: Global, keys: &[ByteString]) -> Result<Map, Memory> {
     let mut members = Map::new(alloc);
     for key in keys {
         match members.insert(key.copy(alloc)?, Value::Null) {
@@ -68,7 +70,7 @@ fn found(members: &Map, keys: &[ByteString]) -> usize
 }
 
 /// How many members a copy of the object has. `Err` only for want of memory.
-fn copied(alloc: Global, members: Map) -> Result<usize, AllocError>
+fn copied(alloc: Global, members: Map) -> Result<usize, Memory>
     ensures { IfOk result (λ count. count ≡ length members) }
 {
     match Value::from(members).copy(alloc)? {
@@ -78,7 +80,7 @@ fn copied(alloc: Global, members: Map) -> Result<usize, AllocError>
 }
 
 /// How many members the object has, where it equals its copy, or none. `Err` only for want of memory.
-fn equal(alloc: Global, members: Map) -> Result<usize, AllocError>
+fn equal(alloc: Global, members: Map) -> Result<usize, Memory>
     ensures { IfOk result (λ count. count ≡ length members) }
 {
     let count = members.len();
@@ -90,7 +92,7 @@ fn equal(alloc: Global, members: Map) -> Result<usize, AllocError>
 }
 
 /// Always: a value equals its copy. `Err` only for want of memory.
-fn equals_its_copy(alloc: Global, value: &Value) -> Result<bool, AllocError>
+fn equals_its_copy(alloc: Global, value: &Value) -> Result<bool, Memory>
     ensures { IfOk result (λ same. same ≡ true) }
 {
     let copy = value.copy(alloc)?;

@@ -15,7 +15,8 @@ module _ (text : Text) (file : FileId) where
   unfoldable pub argument_of : Plain → Option Argument
   argument_of tree =
       if is_kind tree.kind kind.Argument then
-      option_and_then (λ name. option_map (λ value. record { name = name; value = value; location = location file tree }) (first (value_of text file) tree.children))
+      option_and_then (λ name. option_map (λ value. record { name = name; value = value; location = location file tree })
+          (first (value_of text file) tree.children))
       (nth_name text file 0 tree.children)
       else None
 

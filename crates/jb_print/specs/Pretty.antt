@@ -13,7 +13,8 @@ abbrev mutual
   -- the text of a tree, where `line` starts a line at its level: a line feed and the indentation
   pub pretty_tree : List ℕ → Tree → List ℕ
   pretty_tree line (array (tree_then item items)) = codes "[" ++ comma_separated (pretty_items (deeper line) (tree_then item items)) ++ line ++ codes "]"
-  pretty_tree line (object (member_then key value members)) = codes "{" ++ comma_separated (pretty_members (deeper line) (member_then key value members)) ++ line ++ codes "}"
+  pretty_tree line (object (member_then key value members)) = codes "{"
+      ++ comma_separated (pretty_members (deeper line) (member_then key value members)) ++ line ++ codes "}"
   pretty_tree line leaf = compact_tree leaf
 
   pub pretty_items : List ℕ → Trees → List (List ℕ)

@@ -1,7 +1,8 @@
 -- Which bytes spell which tree (RFC 8259, sections 2 to 7), by cases on the grammar and apart from any reader.
 -- A relation says of a text that is left, and of what is left behind it, that what lies between is the text of a tree.
 -- White space is skipped wherever it may stand, all of it, since no value, comma, colon or bracket begins with it.
-use Rattle.std.specs.Prelude.{◌≡◌, ℕ, suc, ◌^◌, ◌<◌, ℤ, pos, negsuc, true, false, List, [], ◌∷◌, ◌++◌, codes, Some, encode_utf8, ◌*◌, ◌+◌}
+use Rattle.std.specs.Prelude.{◌≡◌, ℕ, suc, ◌^◌, ◌<◌, ℤ, pos, negsuc, true, false, List, [], ◌∷◌, ◌++◌, codes, Some}
+use Rattle.std.specs.Prelude.{encode_utf8, ◌*◌, ◌+◌}
 use Rattle.std.specs.Char.{IsScalar}
 use Rattle.std.specs.Fmt.{signed_decimal}
 use Rattle.std.specs.Str.{bytes_eq, encode_utf8_all}
@@ -49,7 +50,8 @@ pub data SpellsCharacter (c : ℕ) (at rest : List ℕ) : Type 0 where
   plain : IsScalar c → is_special c ≡ false → at ≡ encode_utf8 c ++ rest → SpellsCharacter c at rest
   short : (letter : ℕ) → short_escape letter ≡ Some c → at ≡ 92 ∷ letter ∷ rest → SpellsCharacter c at rest
   unit : SpellsUnit c at rest → is_high c ≡ false → is_low c ≡ false → SpellsCharacter c at rest
-  pair : (high low : ℕ) (between : List ℕ) → SpellsUnit high at between → is_high high ≡ true → SpellsUnit low between rest → is_low low ≡ true → c ≡ pair_char high low → SpellsCharacter c at rest
+  pair : (high low : ℕ) (between : List ℕ) → SpellsUnit high at between → is_high high ≡ true → SpellsUnit low between rest
+      → is_low low ≡ true → c ≡ pair_char high low → SpellsCharacter c at rest
 
 -- the characters of a string and the quote that ends it
 abbrev pub SpellsCharacters : List ℕ → List ℕ → List ℕ → Type 0
@@ -80,8 +82,10 @@ abbrev mutual
   Spells (boolean false) depth at rest = at ≡ codes "false" ++ rest
   Spells (number z) depth at rest = SpellsNumber z at rest
   Spells (text bytes) depth at rest = SpellsString bytes at rest
-  Spells (array items) depth at rest = (inner : ℕ) × (inside : List ℕ) × (depth ≡ suc inner) × (at ≡ 91 ∷ inside) × SpellsItems items inner (skip_white inside) rest
-  Spells (object members) depth at rest = (inner : ℕ) × (inside : List ℕ) × (depth ≡ suc inner) × (at ≡ 123 ∷ inside) × SpellsMembers members inner (skip_white inside) rest
+  Spells (array items) depth at rest = (inner : ℕ) × (inside : List ℕ) × (depth ≡ suc inner) × (at ≡ 91 ∷ inside)
+      × SpellsItems items inner (skip_white inside) rest
+  Spells (object members) depth at rest = (inner : ℕ) × (inside : List ℕ) × (depth ≡ suc inner) × (at ≡ 123 ∷ inside)
+      × SpellsMembers members inner (skip_white inside) rest
 
   -- the items of an array and its closing bracket
   pub SpellsItems : Trees → ℕ → List ℕ → List ℕ → Type 0
@@ -91,16 +95,19 @@ abbrev mutual
   -- the same behind an item, a comma before each
   pub MoreItems : Trees → ℕ → List ℕ → List ℕ → Type 0
   MoreItems no_trees depth at rest = at ≡ 93 ∷ rest
-  MoreItems (tree_then item items) depth at rest = (next : List ℕ) × (behind : List ℕ) × (at ≡ 44 ∷ next) × Spells item depth (skip_white next) behind × MoreItems items depth (skip_white behind) rest
+  MoreItems (tree_then item items) depth at rest = (next : List ℕ) × (behind : List ℕ) × (at ≡ 44 ∷ next)
+      × Spells item depth (skip_white next) behind × MoreItems items depth (skip_white behind) rest
 
   -- the members of an object and its closing bracket
   pub SpellsMembers : Members → ℕ → List ℕ → List ℕ → Type 0
   SpellsMembers no_members depth at rest = at ≡ 125 ∷ rest
-  SpellsMembers (member_then key item members) depth at rest = (start : List ℕ) × (behind : List ℕ) × SpellsKey key at start × Spells item depth start behind × MoreMembers members depth (skip_white behind) rest
+  SpellsMembers (member_then key item members) depth at rest = (start : List ℕ) × (behind : List ℕ) × SpellsKey key at start
+      × Spells item depth start behind × MoreMembers members depth (skip_white behind) rest
 
   pub MoreMembers : Members → ℕ → List ℕ → List ℕ → Type 0
   MoreMembers no_members depth at rest = at ≡ 125 ∷ rest
-  MoreMembers (member_then key item members) depth at rest = (next : List ℕ) × (start : List ℕ) × (behind : List ℕ) × (at ≡ 44 ∷ next) × SpellsKey key (skip_white next) start × Spells item depth start behind × MoreMembers members depth (skip_white behind) rest
+  MoreMembers (member_then key item members) depth at rest = (next : List ℕ) × (start : List ℕ) × (behind : List ℕ) × (at ≡ 44 ∷ next)
+      × SpellsKey key (skip_white next) start × Spells item depth start behind × MoreMembers members depth (skip_white behind) rest
 
 abbrev mutual
   -- the value of a tree: a key that comes again keeps its first place and takes its last value

@@ -1,5 +1,6 @@
 -- Values (RFC 8259, sections 3 to 5). A bracket opens one level; depth says how many more may be opened.
-use Rattle.std.specs.Prelude.{ℕ, zero, suc, ◌||◌, Bool, true, false, ◌==◌, if◌then◌else◌, List, [], ◌∷◌, ◌++◌, length, drop, codes, Result, Ok}
+use Rattle.std.specs.Prelude.{ℕ, zero, suc, ◌||◌, Bool, true, false, ◌==◌, if◌then◌else◌, List, [], ◌∷◌, ◌++◌, length, drop}
+use Rattle.std.specs.Prelude.{codes, Result, Ok}
 use Rattle.std.specs.Str.{bytes_eq}
 use Rattle.indexmap.specs.IndexMap.{insert_entry}
 use Rattle.jb_tree.specs.declared.value.Value.{Value}
@@ -35,7 +36,8 @@ key_at at = do
   Ok (key.0, skip_white colon.1)
 
 -- a member of an object; a key that stands there already keeps its place and takes the new value
-unfoldable pub member_at : (List ℕ → Result (Value × List ℕ) Broken) → List (List ℕ × Value) → List ℕ → Result ((Bool × List (List ℕ × Value)) × List ℕ) Broken
+unfoldable pub member_at : (List ℕ → Result (Value × List ℕ) Broken) → List (List ℕ × Value) → List ℕ
+    → Result ((Bool × List (List ℕ × Value)) × List ℕ) Broken
 member_at inner members at = do
   key ← key_at at
   member ← inner key.1
@@ -43,7 +45,8 @@ member_at inner members at = do
   Ok ((next.0, insert_entry bytes_eq members key.0 member.0), next.1)
 
 -- what turns read between brackets, from behind white space: nothing, or one turn after another
-abbrev pub within_brackets : {A : Type 0} → ℕ → A → (A → List ℕ → Result ((Bool × A) × List ℕ) Broken) → List ℕ → Result (A × List ℕ) Broken
+abbrev pub within_brackets : {A : Type 0} → ℕ → A → (A → List ℕ → Result ((Bool × A) × List ℕ) Broken) → List ℕ
+    → Result (A × List ℕ) Broken
 within_brackets close none turn at = if begins_with close at then Ok (none, drop 1 at) else turns turn (suc (length at)) none at
 
 unfoldable pub array_at : (List ℕ → Result (Value × List ℕ) Broken) → List ℕ → Result (List Value × List ℕ) Broken

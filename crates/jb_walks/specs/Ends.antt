@@ -3,7 +3,8 @@ use Rattle.std.specs.Prelude.{◌≡◌, ℕ, zero, suc, ⊤, Bool, true, false,
 
 -- a walk s that is asked again and again, from the back where a call says `true`, answers these calls so and becomes t; first and
 -- last relate the walk before a call of `next` and of `next_back`, the answer and the walk after
-abbrev pub Answers : {S A : Type 0} → (S → Option A → S → Type 0) → (S → Option A → S → Type 0) → S → List (Bool × Option A) → S → Type 0
+abbrev pub Answers : {S A : Type 0} → (S → Option A → S → Type 0) → (S → Option A → S → Type 0) → S → List (Bool × Option A)
+    → S → Type 0
 Answers first last s [] t = s ≡ t
 Answers {S} first last s ((false, answer) ∷ calls) t = (between : S) × first s answer between × Answers first last between calls t
 Answers {S} first last s ((true, answer) ∷ calls) t = (between : S) × last s answer between × Answers first last between calls t

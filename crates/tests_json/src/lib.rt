@@ -1,4 +1,4 @@
-//! Tests of the JSON crates, which call them as their users do.
+//! Tests of reading, printing, shapes and streams of JSON, which call these crates as their users do.
 //!
 //! They stand apart because a crate with tests is proved twice, once with them and once without: here the second proof
 //! is of nothing. Each module tests one crate or one concern of it, and shows what no clause says.
@@ -7,12 +7,6 @@
 //! dropped at each of its exits, and each of these drops is proved; what it borrows costs nothing there.
 #![tactic(auto)]
 
-#[cfg(test)]
-mod fixtures;
-#[cfg(test)]
-mod map;
-#[cfg(test)]
-mod members;
 #[cfg(test)]
 mod print;
 #[cfg(test)]
@@ -26,10 +20,6 @@ mod sources;
 #[cfg(test)]
 mod streams;
 #[cfg(test)]
-mod text;
-#[cfg(test)]
 mod tool;
-#[cfg(test)]
-mod tree;
 #[cfg(test)]
 mod value_bytes;

@@ -1,6 +1,5 @@
 //! Printed texts, character by character.
-use crate::fixtures::shown;
-use jb_print::{to_bytes, to_pretty};
+use jb_print::{to_bytes, to_pretty, to_text as shown};
 use jb_read::{ReadFault, from_str};
 use jb_tree::{Memory, Number, Refused, Value};
 use std::alloc::Global;

@@ -1,6 +1,6 @@
 //! Texts that are read, and the kind and place of the first fault of others.
-use crate::fixtures::shown;
 use bytes::Bytes;
+use jb_print::to_text as shown;
 use jb_read::{FaultKind, ReadFault, from_bytes, from_bytes_whole, from_str};
 use jb_tree::{Memory, Refused, Text, Value};
 use std::alloc::Global;

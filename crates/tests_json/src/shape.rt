@@ -1,5 +1,5 @@
 //! Worked cases of what values stand for, by kind, with the cause of each refusal.
-use crate::fixtures::shown;
+use jb_print::to_text as shown;
 use jb_read::{ReadFault, from_str};
 use jb_shape::{
     FromValue, MapKey, Members, ShapeError, ToValue, from_value, laws, member, read_members,

@@ -1,11 +1,9 @@
-//! Tests of the crates that read GraphQL texts, from places in a text to syntax trees, and of the program over them.
+//! Tests of the crates that read GraphQL texts, from places in a text to concrete trees, and of the program over them.
 //!
 //! They stand apart because a crate with tests is proved once with them and once without. Each module has the tests of
 //! one crate or of one subject, over what that crate gives to everyone.
 #![tactic(auto)]
 
-#[cfg(test)]
-mod documents;
 #[cfg(test)]
 mod grammar;
 #[cfg(test)]
@@ -20,5 +18,3 @@ mod sentences;
 mod source;
 #[cfg(test)]
 mod strings;
-#[cfg(test)]
-mod trees;

@@ -1,9 +1,9 @@
 //! Definitions of schemas and directives, and extensions of schemas.
 
-use super::description::Description;
-use super::members::input_values;
-use super::operations::operation_word;
-use super::values::directives;
+use crate::trees::description::Description;
+use crate::trees::members::input_values;
+use crate::trees::operations::operation_word;
+use crate::trees::values::directives;
 use gql_ast::{
     DirectiveDefinition, DirectiveLocation, Name, OperationType, SchemaDefinition, SchemaExtension,
 };

@@ -1,8 +1,8 @@
 //! Definitions and extensions of types.
 
-use super::description::Description;
-use super::members::{enum_values, fields, input_values, names};
-use super::values::directives;
+use crate::trees::description::Description;
+use crate::trees::members::{enum_values, fields, input_values, names};
+use crate::trees::values::directives;
 use gql_ast::{
     Directive, EnumTypeDefinition, EnumTypeExtension, EnumValueDefinition, FieldDefinition,
     InputObjectTypeDefinition, InputObjectTypeExtension, InputValueDefinition,

@@ -1,7 +1,7 @@
 //! What definitions of types hold: fields, arguments, enum values and lists of names.
 
-use super::description::Description;
-use super::values::{default_value, directives, type_line};
+use crate::trees::description::Description;
+use crate::trees::values::{default_value, directives, type_line};
 use gql_ast::{EnumValueDefinition, FieldDefinition, InputValueDefinition, Name};
 use jb_text::Listed;
 

@@ -1,7 +1,7 @@
 //! Operations, fragments and selections.
 
-use super::description::Description;
-use super::values::{arguments, default_value, directives, type_line};
+use crate::trees::description::Description;
+use crate::trees::values::{arguments, default_value, directives, type_line};
 use gql_ast::{
     Field, FragmentDefinition, FragmentSpread, InlineFragment, OperationDefinition, OperationType,
     Selection, VariableDefinition,

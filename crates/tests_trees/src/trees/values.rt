@@ -1,6 +1,6 @@
 //! Values, references to types, arguments and directives.
 
-use super::description::Description;
+use crate::trees::description::Description;
 use gql_ast::{Argument, Directive, Name, TypeRef, Value, ValueKind};
 use jb_text::Listed;
 

@@ -1,4 +1,5 @@
 //! What several tests are made of, and how they show a value.
+
 use jb_print::to_text;
 use jb_tree::{ByteString, Memory, Text, Value};
 use std::alloc::Global;
