@@ -1,8 +1,8 @@
 -- Where an escape breaks: what is refused is broken, and what is broken is refused.
-use Rattle.std.proofs.Common.{◌≡◌, ℕ, zero, suc, ◌+◌, ◌*◌, ◌<◌, Bool, true, false, cond, ◌⊎◌, inl, inr, List, [], ◌∷◌, ◌++◌, length, Option, Some, None, Result, Ok, Err, refl, sym, ap, subst, ◌∙◌, arith}
-use Rattle.std.specs.Prelude.{◌==◌, ◌&&◌, is_some}
+use Rattle.std.proofs.Common.{◌≡◌, ℕ, suc, ◌+◌, ◌*◌, ◌<◌, true, false, cond, ◌⊎◌, inl, inr, List, [], ◌∷◌, ◌++◌, length, Option, Some, None, Result, Ok, Err, refl, sym, ap, subst, ◌∙◌, arith}
+use Rattle.std.specs.Prelude.{◌==◌, is_some}
 use Rattle.std.specs.List.{list_all}
-use Rattle.std.proofs.lemmas.Bool.{eqb-true, and_parts, and_from}
+use Rattle.std.proofs.lemmas.Bool.{eqb-true, ne_eqb, and_parts, and_from}
 use Rattle.jb_read.specs.declared.fault.Broken.{Broken}
 use Rattle.jb_read.specs.declared.fault.FaultKind.TheVariants.{Syntax}
 use Rattle.jb_read.specs.Bytes.{begins}
@@ -10,8 +10,8 @@ use Rattle.jb_read.specs.Reading.{◌>>=◌, broken, fails, byte_at}
 use Rattle.jb_read.specs.Strings.{hex_value, hex_digit_at, hex_at, is_high, is_low, pair_char, low_at, pair_at, unicode_at, short_escape, escape_at}
 use Rattle.jb_read.specs.Spelling.{SpellsUnit}
 use Rattle.jb_read.specs.EscapeFaults.{is_hex, HexBreaks, NoLow, no_backslash, no_letter, no_unit, not_low, EscapeBreaks, ended, wrong_letter, in_unit, lone_low, lone_high, cut_pair}
-use Rattle.jb_read.proofs.Steps.{chosen, byte_sound, byte_complete, ok_is, broken_not_ok}
-use Rattle.jb_read.proofs.Escapes.{Digit, digit_sound, digit_complete, unit_sound, unit_complete, low_complete, front_unit, escape_of_u}
+use Rattle.jb_read.proofs.Steps.{chosen, byte_sound}
+use Rattle.jb_read.proofs.Escapes.{digit_sound, digit_complete, unit_sound, unit_complete, front_unit, escape_of_u}
 use Rattle.jb_read.proofs.Stopped.{same_stop, bind_err, byte_breaks, byte_refused}
 
 abbrev told : {A : Type 0} → A → List ℕ → Result (A × List ℕ) Broken
@@ -165,7 +165,7 @@ nothing_left (b ∷ place) e = let none : length (b ∷ place) ≡ 0 = eqb-true 
 
 something_left : (place : List ℕ) → (place ≡ [] → ⊥) → (length place == 0) ≡ false
 something_left [] n = absurd (n refl)
-something_left (b ∷ place) n = refl
+something_left (b ∷ place) n = ne_eqb (length (b ∷ place)) 0 (λ same. omega (arith, same))
 
 is_something : (place : List ℕ) → (length place == 0) ≡ false → place ≡ [] → ⊥
 is_something place e none = let is : true ≡ false = ap (λ (l : List ℕ). length l == 0) (sym none) ∙ e in cc
@@ -222,7 +222,7 @@ escape_breaks (b ∷ at) e h = elim (chosen (b == 117) (unicode_at (broken Synta
 
 pair_refused : (own : Broken) (high : ℕ) (between place : List ℕ) → NoLow place between → pair_at own high between ≡ cond (length place == 0) (Err (broken Syntax place)) (Err own)
 unfolding pair_at
-pair_refused own high between place n = rw (low_refused place between n) refl
+pair_refused own high between place n = rw (low_refused place between n, pair_at) refl
 
 high_refused : (own : Broken) (high : ℕ) (at between place : List ℕ) → SpellsUnit high (92 ∷ 117 ∷ at) between → is_high high ≡ true → NoLow place between → escape_at own (117 ∷ at) ≡ cond (length place == 0) (Err (broken Syntax place)) (Err own)
 high_refused own high at between place s is n = escape_of_u own at ∙ unit_of_u own at (high, between) (unit_complete high at between s) ∙ rw is (pair_refused own high between place n)

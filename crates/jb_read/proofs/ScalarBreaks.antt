@@ -15,10 +15,10 @@ use Rattle.jb_read.specs.Strings.{text_at}
 use Rattle.jb_read.specs.Values.{begins_with, scalar_at, key_at}
 use Rattle.jb_read.specs.Spelling.{SpellsString}
 use Rattle.jb_read.specs.ScalarFaults.{WordBreaks, digits_value, IsWholePart, SpellsWhole, SpellsSign, NumberBreaks, no_digit, leading_zero, no_whole, out_of_range, begins_number, begins_scalar, ScalarBreaks, no_value, in_string, in_null, in_true, in_false, in_number, KeyBreaks, no_quote, in_key_string, no_colon}
-use Rattle.jb_read.proofs.Stopped.{gave, stopped, same_stop, bind_err, wrap_err, byte_breaks, byte_refused}
+use Rattle.jb_read.proofs.Stopped.{stopped, same_stop, bind_err, wrap_err, byte_breaks, byte_refused}
 use Rattle.jb_read.proofs.StringBreaks.{string_breaks}
 use Rattle.jb_read.proofs.StringStops.{string_stops}
-use Rattle.jb_read.proofs.Steps.{chosen, byte_sound, byte_complete, ok_is, broken_not_ok}
+use Rattle.jb_read.proofs.Steps.{chosen, byte_sound, byte_complete}
 use Rattle.jb_read.proofs.Characters.{string_sound, text_complete}
 
 -- ---- words

@@ -1,28 +1,22 @@
 -- Where a string breaks: what is refused is broken, and what is broken is refused.
-use Rattle.std.proofs.Common.{◌≡◌, ℕ, zero, suc, ◌+◌, ◌<◌, ◌≤◌, Bool, true, false, cond, not, ◌⊎◌, inl, inr, List, [], ◌∷◌, ◌++◌, length, take, drop, Result, Ok, Err, refl, sym, ap, subst, ◌∙◌, arith, append-nil, append_assoc, length-append, length-drop, length-take-le, take_all, take-append-drop, take-add}
-use Rattle.std.specs.Prelude.{◌==◌, ◌&&◌, ◌||◌, nat_lt, is_none, encode_utf8}
-use Rattle.std.specs.Char.{IsScalar}
+use Rattle.std.proofs.Common.{◌≡◌, ℕ, zero, suc, ◌+◌, ◌<◌, ◌≤◌, Bool, true, false, cond, not, ◌⊎◌, inl, inr, List, [], ◌∷◌, ◌++◌, length, take, drop, Result, Ok, Err, refl, sym, ap, subst, ◌∙◌, arith, append_assoc, length-append, length-drop, length-take-le, take_all, take-append-drop, take-add}
+use Rattle.std.specs.Prelude.{◌==◌, ◌&&◌, nat_lt, is_none, encode_utf8}
 use Rattle.std.specs.Str.{IsUtf8, is_utf8, encode_utf8_all, all_scalars}
 use Rattle.std.specs.Str.Lossy.{utf8_valid_len, utf8_error_len}
-use Rattle.std.proofs.lemmas.Bool.{eqb-true, and_parts, and_from, or_parts, ne_eqb, ltb-true, true≢false}
+use Rattle.std.proofs.lemmas.Bool.{eqb-true, and_parts, and_from, true≢false}
 use Rattle.std.proofs.lemmas.List.{drop_at}
-use Rattle.std.proofs.Math.Seq.{drop-append-add}
-use Rattle.std.proofs.lemmas.Str.{IsUtf8-nil, IsUtf8-append, IsUtf8-encode, IsUtf8-past_char, IsUtf8-from_is_utf8, is_utf8-from_IsUtf8, utf8_valid_len_le, length-encode, len_utf8_bounds}
-use Rattle.std.proofs.lemmas.List.Sums.{prefix_len-le-length}
+use Rattle.std.proofs.lemmas.Str.{IsUtf8-append, is_utf8-from_IsUtf8, utf8_valid_len_le, length-encode, len_utf8_bounds}
 use Rattle.jb_read.specs.declared.fault.Broken.{Broken}
 use Rattle.jb_read.specs.declared.fault.FaultKind.TheVariants.{Syntax}
 use Rattle.jb_read.specs.Reading.{◌>>=◌, broken, fails, turns}
 use Rattle.jb_read.specs.Strings.{is_special, plain_length, plain_front, behind_plain, ill_formed_at, run_at, escape_at, piece_end, piece_at, text_at}
 use Rattle.jb_read.specs.Spelling.{SpellsUnit, SpellsCharacter, plain, short, unit, pair}
-use Rattle.jb_read.specs.EscapeFaults.{EscapeBreaks}
 use Rattle.jb_read.specs.StringFaults.{CharactersBefore, BeginsNoCharacter, is_cut, CharacterBreaks, at_end, control, in_escape, ill_formed, cut_off, StringBreaks}
-use Rattle.jb_read.proofs.Steps.{bind_ok, chosen, ok_is, broken_not_ok}
-use Rattle.jb_read.proofs.Plain.{run_at_text}
-use Rattle.jb_read.proofs.Escapes.{Escape, character_cases, escape_sound}
-use Rattle.jb_read.proofs.Characters.{all_plain, front_plain, front_append, behind_append, encode_plain, special_from_bytes, plain_right, run_ok, Escaped, piece_end_sound, piece_of_run, escape_le}
-use Rattle.jb_read.proofs.Utf8Fronts.{valid_front, longest_front, valid_past_character}
-use Rattle.jb_read.proofs.EscapeBreaks.{escape_breaks, escape_stops}
-use Rattle.jb_read.proofs.Stopped.{stopped, same_stop, bind_err}
+use Rattle.jb_read.proofs.Steps.{bind_ok, chosen}
+use Rattle.jb_read.proofs.Characters.{all_plain, front_plain, front_append, behind_append, special_from_bytes, plain_right, run_ok, Escaped, piece_end_sound}
+use Rattle.jb_read.proofs.Utf8Fronts.{valid_front, longest_front}
+use Rattle.jb_read.proofs.EscapeBreaks.{escape_breaks}
+use Rattle.jb_read.proofs.Stopped.{same_stop, bind_err}
 
 abbrev closed : List ℕ → List ℕ → Result ((Bool × List ℕ) × List ℕ) Broken
 closed made rest = Ok ((false, made), rest)

@@ -1,5 +1,5 @@
 -- What is broken inside a string is refused.
-use Rattle.std.proofs.Common.{◌≡◌, ℕ, zero, suc, ◌+◌, ◌<◌, ◌≤◌, Bool, true, false, cond, not, ◌⊎◌, inl, inr, List, [], ◌∷◌, ◌++◌, length, take, drop, Result, Ok, Err, refl, sym, ap, subst, ◌∙◌, arith, append-nil, append_assoc, length-append, take_all}
+use Rattle.std.proofs.Common.{◌≡◌, ℕ, zero, suc, ◌+◌, ◌<◌, ◌≤◌, Bool, true, false, cond, ◌⊎◌, inl, inr, List, [], ◌∷◌, ◌++◌, length, take, drop, Result, Ok, Err, refl, sym, ap, subst, ◌∙◌, arith, append_assoc, length-append, take_all}
 use Rattle.std.specs.Prelude.{◌==◌, ◌&&◌, ◌||◌, nat_lt, is_none, encode_utf8}
 use Rattle.std.specs.Char.{IsScalar}
 use Rattle.std.specs.Str.{IsUtf8, is_utf8}
@@ -9,9 +9,8 @@ use Rattle.std.proofs.Math.Seq.{drop-append-add}
 use Rattle.std.proofs.lemmas.Str.{IsUtf8-nil, IsUtf8-append, IsUtf8-encode, IsUtf8-past_char, IsUtf8-from_is_utf8, is_utf8-from_IsUtf8}
 use Rattle.jb_read.specs.declared.fault.Broken.{Broken}
 use Rattle.jb_read.specs.declared.fault.FaultKind.TheVariants.{Syntax}
-use Rattle.jb_read.specs.Reading.{◌>>=◌, broken, fails, turns}
-use Rattle.jb_read.specs.Strings.{is_special, plain_length, plain_front, behind_plain, run_at, escape_at, piece_end, piece_at, text_at}
-use Rattle.jb_read.specs.Spelling.{SpellsCharacter}
+use Rattle.jb_read.specs.Reading.{◌>>=◌, broken, turns}
+use Rattle.jb_read.specs.Strings.{is_special, plain_front, behind_plain, run_at, escape_at, piece_end, piece_at, text_at}
 use Rattle.jb_read.specs.StringFaults.{CharactersBefore, BeginsNoCharacter, is_cut, CharacterBreaks, at_end, control, in_escape, ill_formed, cut_off, StringBreaks}
 use Rattle.jb_read.proofs.Escapes.{Escape, character_cases}
 use Rattle.jb_read.proofs.Characters.{front_append, behind_append, encode_plain, piece_of_run, escape_le}
@@ -98,8 +97,8 @@ bad_run c behind scalar special bad =
     let valid : utf8_valid_len (bytes ++ f) ≡ length bytes + v = valid_past_character c f scalar in
     let inner : drop (length bytes + v) (bytes ++ f) ≡ drop v f = drop-append-add bytes f v in
     let outer : drop (length bytes + v) (bytes ++ behind) ≡ drop v behind = drop-append-add bytes behind v in
-    let no : is_utf8 (plain_front (bytes ++ behind)) ≡ false = ap is_utf8 front ∙ still_bad (is_utf8 (bytes ++ f)) refl in
-    run_bad (bytes ++ behind) no
+    let invalid : is_utf8 (plain_front (bytes ++ behind)) ≡ false = ap is_utf8 front ∙ still_bad (is_utf8 (bytes ++ f)) refl in
+    run_bad (bytes ++ behind) invalid
     ∙ ap (λ (l : List ℕ). stopped_run (place_by (utf8_valid_len l) l (behind_plain (bytes ++ behind)) (bytes ++ behind))) front
     ∙ ap (λ (l : List ℕ). stopped_run (place_by (utf8_valid_len (bytes ++ f)) (bytes ++ f) l (bytes ++ behind))) left
     ∙ ap (λ (n : ℕ). stopped_run (place_by n (bytes ++ f) (behind_plain behind) (bytes ++ behind))) valid
@@ -111,10 +110,10 @@ bad_run c behind scalar special bad =
     still_bad false e = e
     still_bad true e =
         let text = IsUtf8-past_char (encode_utf8 c ++ plain_front behind) (plain_front behind) c (IsUtf8-from_is_utf8 (encode_utf8 c ++ plain_front behind) e) refl in
-        let no : true ≡ false = sym (is_utf8-from_IsUtf8 (plain_front behind) text) ∙ bad in absurd (true≢false no)
+        let invalid : true ≡ false = sym (is_utf8-from_IsUtf8 (plain_front behind) text) ∙ bad in absurd (true≢false invalid)
 
 run_fails : (at : List ℕ) → is_utf8 (plain_front at) ≡ false → (e : Broken) × (run_at at ≡ Err e)
-run_fails at no = (broken Syntax (place_by (utf8_valid_len (plain_front at)) (plain_front at) (behind_plain at) at), run_bad at no)
+run_fails at invalid = (broken Syntax (place_by (utf8_valid_len (plain_front at)) (plain_front at) (behind_plain at) at), run_bad at invalid)
 
 piece_same : (c : ℕ) (made behind : List ℕ) → IsScalar c → is_special c ≡ false → piece_at made (encode_utf8 c ++ behind) ≡ piece_at (made ++ encode_utf8 c) behind
 piece_same c made behind scalar special = by_test (is_utf8 (plain_front behind)) refl
@@ -128,9 +127,9 @@ piece_same c made behind scalar special = by_test (is_utf8 (plain_front behind))
         ∙ ap (λ (l : List ℕ). piece_end l (behind_plain behind)) (sym (append_assoc made (encode_utf8 c) (plain_front behind))) ∙ sym (piece_of_run (made ++ encode_utf8 c) behind text)
 
     bad : is_utf8 (plain_front behind) ≡ false → piece_at made (encode_utf8 c ++ behind) ≡ piece_at (made ++ encode_utf8 c) behind
-    bad no =
-        let here = run_fails behind no in
-        ran made (encode_utf8 c ++ behind) here.0 (bad_run c behind scalar special no ∙ here.1) ∙ sym (ran (made ++ encode_utf8 c) behind here.0 here.1)
+    bad invalid =
+        let here = run_fails behind invalid in
+        ran made (encode_utf8 c ++ behind) here.0 (bad_run c behind scalar special invalid ∙ here.1) ∙ sym (ran (made ++ encode_utf8 c) behind here.0 here.1)
 
     by_test : (t : Bool) → is_utf8 (plain_front behind) ≡ t → piece_at made (encode_utf8 c ++ behind) ≡ piece_at (made ++ encode_utf8 c) behind
     by_test true e = good (IsUtf8-from_is_utf8 (plain_front behind) e)

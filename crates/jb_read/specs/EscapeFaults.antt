@@ -1,5 +1,5 @@
 -- Where an escape of a string breaks, by cases on the grammar (RFC 8259, section 7).
-use Rattle.std.specs.Prelude.{◌≡◌, ◌≢◌, ℕ, ◌<◌, Bool, true, false, ◌==◌, List, [], ◌∷◌, ◌++◌, length, Option, None, is_some}
+use Rattle.std.specs.Prelude.{◌≡◌, ◌≢◌, ℕ, ◌<◌, Bool, true, false, ◌==◌, List, [], ◌∷◌, ◌++◌, length, None, is_some}
 use Rattle.std.specs.List.{list_all}
 use Rattle.jb_read.specs.declared.fault.Broken.{Broken}
 use Rattle.jb_read.specs.declared.fault.FaultKind.TheVariants.{Syntax}
