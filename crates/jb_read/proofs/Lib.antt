@@ -10,6 +10,11 @@ pub mod Digits
 pub mod Escapes
 pub mod Characters
 pub mod Answered
+pub mod Stopped
+pub mod Utf8Fronts
+pub mod EscapeBreaks
+pub mod StringBreaks
+pub mod StringStops
 pub mod ScalarBreaks
 pub mod Breaks
 pub mod BreaksWithin

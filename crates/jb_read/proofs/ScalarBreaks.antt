@@ -15,47 +15,13 @@ use Rattle.jb_read.specs.Strings.{text_at}
 use Rattle.jb_read.specs.Values.{begins_with, scalar_at, key_at}
 use Rattle.jb_read.specs.Spelling.{SpellsString}
 use Rattle.jb_read.specs.ScalarFaults.{WordBreaks, digits_value, IsWholePart, SpellsWhole, SpellsSign, NumberBreaks, no_digit, leading_zero, no_whole, out_of_range, begins_number, begins_scalar, ScalarBreaks, no_value, in_string, in_null, in_true, in_false, in_number, KeyBreaks, no_quote, in_key_string, no_colon}
-use Rattle.jb_read.proofs.Steps.{chosen, byte_sound, byte_complete, ok_is, broken_not_ok}
+use Rattle.jb_read.proofs.Stopped.{stopped, same_stop, bind_err, wrap_err, byte_breaks, byte_refused}
+use Rattle.jb_read.proofs.StringBreaks.{string_breaks}
+use Rattle.jb_read.proofs.StringStops.{string_stops}
+use Rattle.jb_read.proofs.Steps.{chosen, byte_sound, byte_complete}
 use Rattle.jb_read.proofs.Characters.{string_sound, text_complete}
 
-abbrev gave : {A : Type 0} → A → List ℕ → Result (A × List ℕ) Broken
-gave x rest = Ok (x, rest)
-
-abbrev pub stopped : {A : Type 0} → Broken → Result (A × List ℕ) Broken
-stopped e = Err e
-
-pub same_stop : {A : Type 0} (d e : Broken) → stopped {A = A} d ≡ stopped {A = A} e → e ≡ d
-same_stop d e h = cc
-
--- a result is one or the other
-answer : {A : Type 0} (r : Result A Broken) → ((x : A) × (r ≡ Ok x)) ⊎ ((e : Broken) × (r ≡ Err e))
-answer (Ok x) = inl (x, refl)
-answer (Err e) = inr (e, refl)
-
-pub bind_err : {A B : Type 0} (r : Result (A × List ℕ) Broken) (f : A × List ℕ → Result (B × List ℕ) Broken) (e : Broken) → (r >>= f) ≡ Err e → (r ≡ Err e) ⊎ ((x : A × List ℕ) × (r ≡ Ok x) × (f x ≡ Err e))
-bind_err (Ok x) f e h = inr (x, refl, h)
-bind_err (Err d) f e h = inl cc
-
-bind_stops : {A B : Type 0} (r : Result (A × List ℕ) Broken) (f : A × List ℕ → Result (B × List ℕ) Broken) (e : Broken) → r ≡ Err e → (r >>= f) ≡ Err e
-bind_stops r f e h = rw h refl
-
-wrap_err : {A B : Type 0} (r : Result (A × List ℕ) Broken) (make : A → B) (e : Broken) → (r >>= λ x. gave (make x.0) x.1) ≡ Err e → r ≡ Err e
-wrap_err (Ok x) make e h = absurd cc
-wrap_err (Err d) make e h = cc
-
 -- ---- words
-
-pub byte_breaks : (b : ℕ) (at : List ℕ) (e : Broken) → byte_at b at ≡ Err e → (begins_with b at ≡ false) × (e ≡ broken Syntax at)
-byte_breaks b [] e h = (refl, cc)
-byte_breaks b (c ∷ at) e h = by_test (c == b) refl h
-  where
-    by_test : (t : Bool) → (c == b) ≡ t → cond t (gave {A = Unit {0}} tt at) (Err (broken Syntax (c ∷ at))) ≡ Err e → ((c == b) ≡ false) × (e ≡ broken Syntax (c ∷ at))
-    by_test true t h = absurd cc
-    by_test false t h = (t, cc)
-
-pub byte_refused : (b : ℕ) (at : List ℕ) → begins_with b at ≡ false → byte_at b at ≡ Err (broken Syntax at)
-byte_refused b [] e = refl
-byte_refused b (c ∷ at) e = rw e refl
 
 word_breaks : (word at : List ℕ) (e : Broken) → word_at word at ≡ Err e → WordBreaks e word at
 word_breaks [] at e h = absurd cc
@@ -174,7 +140,7 @@ no_digit_read [] d = refl
 no_digit_read (b ∷ at) d = let no_zero : (b == 48) ≡ false = ne_eqb b 48 (λ same. zero_is_digit same) in rw (no_zero, d) refl
   where
     zero_is_digit : b ≡ 48 → ⊥
-    zero_is_digit same = let is : true ≡ false = ap is_digit (sym same) ∙ d in cc
+    zero_is_digit same = true≢false (ap is_digit (sym same) ∙ d)
 
 zeros_read : (at others : List ℕ) → at ≡ 48 ∷ others → begins is_digit others ≡ true → whole_part_at at ≡ Err (broken Syntax others)
 unfolding whole_part_at
@@ -222,7 +188,7 @@ pub scalar_breaks : (at : List ℕ) (e : Broken) → scalar_at at ≡ Err e → 
 unfolding scalar_at
 scalar_breaks [] e h = no_value refl (same_stop (broken Syntax []) e h)
 scalar_breaks (b ∷ at) e h = elim (chosen (b == 34) (text_at at >>= string_value) _ (Err e) h) [
-  | inl p ↦ in_string at (ap (λ (k : ℕ). k ∷ at) (eqb-true b 34 p.0)) (wrap_err (text_at at) (λ text. value.String text) e p.1)
+  | inl p ↦ in_string at (ap (λ (k : ℕ). k ∷ at) (eqb-true b 34 p.0)) (string_breaks at e (wrap_err (text_at at) (λ text. value.String text) e p.1))
   | inr p ↦ by_null p.0 p.1
 ]
   where
@@ -288,7 +254,7 @@ other_scalar (b ∷ at) e =
 pub scalar_stops : (at : List ℕ) (e : Broken) → ScalarBreaks e at → scalar_at at ≡ Err e
 unfolding scalar_at
 scalar_stops at e (no_value b f) = other_scalar at b ∙ ap (λ (d : Broken). stopped d) (sym f)
-scalar_stops at e (in_string inside parts h) = rw (parts, h) refl
+scalar_stops at e (in_string inside parts b) = rw (parts, string_stops inside e b) refl
 scalar_stops at e (in_null inside parts w) = ap scalar_at parts ∙ letter_stops value.Null 110 (codes "ull") inside e w
 scalar_stops at e (in_true inside parts w) = ap scalar_at parts ∙ letter_stops (value.Bool true) 116 (codes "rue") inside e w
 scalar_stops at e (in_false inside parts w) = ap scalar_at parts ∙ letter_stops (value.Bool false) 102 (codes "alse") inside e w
@@ -309,7 +275,7 @@ key_breaks at e h = by_quote (bind_err (byte_at 34 at) (λ quote. text_at quote.
         no_colon key.0 key.1 (subst (λ (l : List ℕ). SpellsString key.0 l key.1) (sym parts) (string_sound quote.1 key made)) b.0 b.1
 
     by_text : (quote : Unit {0} × List ℕ) → at ≡ 34 ∷ quote.1 → (text_at quote.1 ≡ Err e) ⊎ ((key : List ℕ × List ℕ) × (text_at quote.1 ≡ Ok key) × ((byte_at 58 (skip_white key.1) >>= after_colon key.0) ≡ Err e)) → KeyBreaks e at
-    by_text quote parts (inl f) = in_key_string quote.1 parts f
+    by_text quote parts (inl f) = in_key_string quote.1 parts (string_breaks quote.1 e f)
     by_text quote parts (inr k) = by_colon quote parts k.0 k.1 (wrap_colon (byte_at 58 (skip_white k.0.1)) k.0.0 k.2)
       where
         wrap_colon : (r : Result (Unit {0} × List ℕ) Broken) (key : List ℕ) → (r >>= after_colon key) ≡ Err e → r ≡ Err e
@@ -323,5 +289,5 @@ key_breaks at e h = by_quote (bind_err (byte_at 34 at) (λ quote. text_at quote.
 pub key_stops : (at : List ℕ) (e : Broken) → KeyBreaks e at → key_at at ≡ Err e
 unfolding key_at
 key_stops at e (no_quote b f) = rw (byte_refused 34 at b, f) refl
-key_stops at e (in_key_string inside parts h) = rw (parts, h) refl
+key_stops at e (in_key_string inside parts b) = rw (parts, string_stops inside e b) refl
 key_stops at e (no_colon key behind s b f) = rw (s.opened, text_complete key at behind s, byte_refused 58 (skip_white behind) b, f) refl

@@ -5,6 +5,8 @@ pub mod Strings
 pub mod Values
 pub mod Texts
 pub mod Spelling
+pub mod EscapeFaults
+pub mod StringFaults
 pub mod ScalarFaults
 pub mod Faults
 pub mod KindName

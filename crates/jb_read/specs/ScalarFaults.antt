@@ -1,16 +1,16 @@
 -- Where a value that is no array and no object breaks, and where a key does, by cases on the grammar (RFC 8259, sections
 -- 3, 4 and 6): what stands before the fault is spelled, and the fault stands in the next part.
 use Rattle.std.specs.Prelude.{◌≡◌, ◌⊎◌, ℕ, ◌+◌, ◌-◌, ◌*◌, Bool, true, false, ◌==◌, ◌||◌, ◌&&◌, List, []}
-use Rattle.std.specs.Prelude.{◌∷◌, ◌++◌, codes, None, Err}
+use Rattle.std.specs.Prelude.{◌∷◌, ◌++◌, codes, None}
 use Rattle.std.specs.List.{list_all}
 use Rattle.jb_read.specs.declared.fault.Broken.{Broken}
 use Rattle.jb_read.specs.declared.fault.FaultKind.TheVariants.{Syntax, Float, NumberRange}
 use Rattle.jb_read.specs.Bytes.{begins, is_digit, skip_white}
 use Rattle.jb_read.specs.Numbers.{is_minus, is_mark, number_of}
 use Rattle.jb_read.specs.Reading.{broken}
-use Rattle.jb_read.specs.Strings.{text_at}
 use Rattle.jb_read.specs.Values.{begins_with}
 use Rattle.jb_read.specs.Spelling.{SpellsString}
+use Rattle.jb_read.specs.StringFaults.{StringBreaks}
 
 -- The front of a word stands there, but not the byte that the word has next: Syntax behind that front, which is the
 -- text's end where nothing follows.
@@ -66,10 +66,6 @@ begins_number at = begins (λ b. is_minus b || is_digit b) at
 -- what begins a string, a word or a number
 abbrev pub begins_scalar : List ℕ → Bool
 begins_scalar at = begins (λ b. (b == 34) || ((b == 110) || ((b == 116) || ((b == 102) || (is_minus b || is_digit b))))) at
-
--- where a string breaks, behind the quote that opens it
-abbrev pub StringBreaks : Broken → List ℕ → Type 0
-StringBreaks e inside = text_at inside ≡ Err e
 
 -- where a value breaks that is no array and no object
 pub data ScalarBreaks (e : Broken) (at : List ℕ) : Type 0 where

@@ -4,6 +4,8 @@ ghost use Rattle.std.specs.Prelude.{◌≡◌, ◌⊎◌, ℕ, List, Ok, Err};
 ghost use Rattle.jb_read.specs.declared.fault.ReadFault.{ReadFault};
 ghost use Rattle.jb_read.specs.Faults.{FrontFault, JsonFault};
 ghost use Rattle.jb_read.specs.ScalarFaults.{KeyBreaks, ScalarBreaks};
+ghost use Rattle.jb_read.specs.StringFaults.{StringBreaks};
+ghost use Rattle.jb_read.specs.Strings.{text_at};
 ghost use Rattle.jb_read.specs.Values.{key_at, scalar_at};
 ghost use Rattle.jb_read.specs.declared.fault.Broken.{Broken};
 ghost use Rattle.jb_tree.specs.declared.value.Value.{Value};
@@ -56,6 +58,12 @@ pub fn each_front_has_one_answer()
 pub fn scalars_break_by_the_grammar()
     ensures sound { (at : List ℕ) (e : Broken) → scalar_at at ≡ Err e → ScalarBreaks e at }
     ensures complete { (at : List ℕ) (e : Broken) → ScalarBreaks e at → scalar_at at ≡ Err e }
+{}
+
+/// The same of a string, from behind the quote that opens it (RFC 8259, section 7).
+pub fn strings_break_by_the_grammar()
+    ensures sound { (inside : List ℕ) (e : Broken) → text_at inside ≡ Err e → StringBreaks e inside }
+    ensures complete { (inside : List ℕ) (e : Broken) → StringBreaks e inside → text_at inside ≡ Err e }
 {}
 
 /// The same of a key and its colon (RFC 8259, section 4).
