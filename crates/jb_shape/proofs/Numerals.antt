@@ -1,11 +1,10 @@
 -- Digits that are read as a number, and one that is too large.
-use Rattle.std.proofs.Common.{◌≡◌, ◌<◌, ◌≤◌, ◌^◌, ◌&&◌, ℕ, ℤ, pos, negsuc, List, [], ◌∷◌, length, Bool, true, false, Err, Result, FitsSigned, w64, nat_lt, refl, arith, rules}
+use Rattle.std.proofs.Common.{◌≡◌, ◌<◌, ◌^◌, ◌&&◌, ℕ, ℤ, pos, negsuc, List, length, Bool, true, false, Err, FitsSigned, w64, nat_lt, refl, arith, rules}
 use Rattle.std.proofs.lemmas.Bool.Decides.{nat_tests}
 use Rattle.std.proofs.lemmas.Str.Parse.{IsNumeralModel, numerals_by_value}
 use Rattle.std.specs.Char.{is_ascii_digit}
 use Rattle.std.specs.List.{list_all}
 use Rattle.std.specs.Str.Parse.{IsNumeral, digits_value, signed_digits_value, without_leading_plus, without_leading_sign}
-use Rattle.jb_shape.specs.declared.shape_error.ShapeError.{ShapeError}
 use Rattle.jb_shape.specs.declared.shape_error.ShapeError.TheVariants.{NumberTooLarge}
 use Rattle.jb_shape.specs.Keys.{is_numeral, unsigned_key, signed_key}
 use Rattle.jb_shape.specs.Scalars.{unsigned_within, signed_within}

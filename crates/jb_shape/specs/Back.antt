@@ -1,5 +1,5 @@
 -- What stands for a thing is read as it.
-use Rattle.std.proofs.Common.{◌≡◌, ap, ◌∙◌, Option, Some, ◌≤◌, ℕ, ℤ, pos, negsuc, nat_le, Bool, true, false, List, []}
+use Rattle.std.proofs.Common.{◌≡◌, ap, ◌∙◌, Option, Some, ◌≤◌, ℕ, ℤ, pos, negsuc, Bool, List, []}
 use Rattle.std.proofs.Common.{◌∷◌, Ok, Err, Result, refl, arith, rules}
 use Rattle.jb_tree.specs.declared.value.Value.TheVariants as value_variant
 use Rattle.std.proofs.lemmas.Bool.Decides.{nat_tests}

@@ -1,14 +1,13 @@
 -- The text of a key is read as it.
-use Rattle.std.proofs.Common.{◌≡◌, ◌≢◌, ◌≤◌, ◌<◌, ◌^◌, ◌==◌, ◌&&◌, ap, ◌∙◌, ℕ, ℤ, pos, negsuc, suc}
-use Rattle.std.proofs.Common.{nat_lt, List, [], ◌∷◌, length, get_or, true, false, Ok, Result, refl, arith, rules}
+use Rattle.std.proofs.Common.{◌≡◌, ◌≢◌, ◌≤◌, ◌<◌, ◌^◌, ◌==◌, ℕ, ℤ, pos, negsuc, suc}
+use Rattle.std.proofs.Common.{nat_lt, length, get_or, true, false, Ok, arith, rules}
 use Rattle.std.specs.Char.{is_ascii_digit}
-use Rattle.std.specs.Fmt.{decimal, signed_decimal}
+use Rattle.std.specs.Fmt.{decimal}
 use Rattle.std.specs.List.{list_all}
-use Rattle.std.specs.Str.Parse.{digits_value, signed_digits_value, without_leading_plus, without_leading_sign, starts_with_minus}
+use Rattle.std.specs.Str.Parse.{digits_value, without_leading_plus, starts_with_minus}
 use Rattle.std.proofs.lemmas.Bool.Decides.{nat_tests}
 use Rattle.std.proofs.lemmas.Fmt.{decimal_nonempty, digits_decimal, digits_value-decimal}
 use Rattle.std.proofs.lemmas.Str.Parse.{IsNumeralModel, numerals_by_value, not_in_digits, without_leading_plus_none}
-use Rattle.jb_shape.specs.declared.shape_error.ShapeError.{ShapeError}
 use Rattle.jb_shape.specs.Outcome.{and_then}
 use Rattle.jb_shape.specs.Keys.{is_numeral, unsigned_key, signed_key, unsigned_text, signed_text}
 use Rattle.jb_shape.specs.Faithful.{IsSigned}

@@ -1,5 +1,5 @@
 -- Which values stand for lists, pairs and members.
-use Rattle.std.specs.Prelude.{ℕ, List, [], ◌∷◌, Option, Some, None, Result, Ok, Err}
+use Rattle.std.specs.Prelude.{ℕ, List, [], ◌∷◌, Result, Ok, Err}
 use Rattle.std.specs.Str.{bytes_eq}
 use Rattle.indexmap.specs.IndexMap.{insert_all}
 use Rattle.jb_tree.specs.declared.value.Value.{Value}

@@ -1,4 +1,4 @@
-use Rattle.std.proofs.Common.{◌≡◌, ℕ, ap, refl, sym, ◌∙◌, subst, List, Option, get_or, Ok, Err, arith}
+use Rattle.std.proofs.Common.{ℕ, ap, refl, sym, ◌∙◌, subst, List, Option, Ok, Err, arith}
 use Rattle.std.proofs.lemmas.Result.{err_from_is_err_and}
 use Rattle.jb_tree.specs.declared.value.Value.{Value}
 use Rattle.jb_shape.specs.Outcome.{Answers, and_then, each}

@@ -1,4 +1,4 @@
-use Rattle.std.proofs.Common.{◌≡◌, true, arith}
+use Rattle.std.proofs.Common.{◌≡◌, true}
 use Rattle.std.specs.Str.Parse.{without_leading_sign}
 use Rattle.jb_shape.specs.Keys.{is_numeral}
 use Rattle.jb_shape.proofs.Numerals.{signed_large}
