@@ -3,8 +3,8 @@
 //! [`Document::from_cst`] makes a document of the concrete tree of a file's text, and [`Convert`] makes any one of the
 //! syntax trees of a concrete tree. What a concrete tree stands for is a definition, kind by kind of its nodes; the
 //! conversion gives exactly that. `None` comes where the tree is of another kind or lacks a required part, and such
-//! members of a list are left out. The location of a tree runs from its first to its last token, those aside that the
-//! grammar ignores.
+//! members of a list are left out. The location of a tree runs from its first to its last token, not counting those
+//! that the grammar ignores.
 //!
 //! The trees are those of section 2 and, for definitions of types, section 3 of GraphQL October 2021. They are plain
 //! data with public fields; [`Copying`] copies each of them, and [`print_value`] and [`print_type`] write values and

@@ -1,9 +1,9 @@
 //! Diagnostics of GraphQL schemas and documents: lists of them, and what is said of each on the command line and in a
 //! response; and why requests are refused.
 //!
-//! A [`DiagnosticList`] is sorted by place, then by the tables of rules. A [`Diagnostic`] is an item with the files that it
-//! is of, and tells itself as a [`CliReport`] or as the [`GraphQLError`] of a response. Rules, reports, responses
-//! and guards of recursions are those of the crates below, under this crate's name.
+//! A [`DiagnosticList`] is sorted by place, then by the tables of rules. A [`Diagnostic`] is an item together with its
+//! files, and can be written as a [`CliReport`] or as the [`GraphQLError`] of a response. Rules, reports, responses and
+//! guards of recursions are those of the crates below, under this crate's name.
 #![tactic(auto)]
 
 mod diagnostic;

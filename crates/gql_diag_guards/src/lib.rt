@@ -1,7 +1,7 @@
 //! Guards of recursions: a count of levels and a stack of names, each with a limit.
 //!
-//! A guard that a step gave undoes that step when it is dropped, so that a recursion that hands its guard down can't
-//! forget to step back.
+//! A step gives a guard, which undoes the step when it is dropped. So a recursion that passes its guard down can't forget
+//! to step back.
 #![tactic(auto)]
 
 mod depth;

@@ -1,4 +1,4 @@
-//! Plain documents: what can be executed this far.
+//! Plain documents: what can be executed so far.
 //!
 //! [`plain_schema`] makes a schema of the definitions of a document, and [`plain_query`] the selections of a query on it.
 //! A document is plain where it uses only a part of what GraphQL October 2021 has: object types with fields of built-in

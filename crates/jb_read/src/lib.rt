@@ -1,9 +1,8 @@
 //! Reading JSON texts (RFC 8259, whole numbers only) into [`jb_tree::Value`].
 //!
-//! The reader goes from left to right and stops at the first fault. Behind each function stands a reading
-//! function of `specs/` that says, for every list of bytes, what is read and what is left, or which fault stands
-//! where; a function of this crate is proved to give exactly that, or want of memory. A string without an escape
-//! shares its bytes with the text.
+//! The reader goes from left to right and stops at the first fault. For each function a definition in `specs/` says,
+//! for every list of bytes, what is read and what is left, or which fault stands where. The function is proved to give
+//! exactly that, or to be out of memory. A string without an escape shares its bytes with the text.
 #![tactic(auto)]
 
 mod cursor;
