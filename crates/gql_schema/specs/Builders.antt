@@ -1,0 +1,55 @@
+-- What a builder of schemas has taken, and what it answers.
+use Rattle.std.specs.Prelude.{◌≡◌, ◌≢◌, Bool, true, false, List, [], ◌++◌, Result, Ok, Err, if◌then◌else◌}
+use Rattle.gql_source.specs.File.{Files, joined}
+use Rattle.jb_text.specs.declared.refused.Refused.{Refused}
+use Rattle.jb_text.specs.declared.refused.Refused.TheVariants.{Fault, Memory}
+use Rattle.gql_ast.specs.declared.document.Document.{Document}
+use Rattle.gql_diag.specs.List.{Diagnostics, IsStableSort}
+use Rattle.gql_diag.specs.Order.{list_order}
+use Rattle.gql_diag.specs.declared.valid.WithErrors.{WithErrors}
+use Rattle.gql_diag_messages.specs.declared.diagnostic_data.DiagnosticData.{DiagnosticData}
+use Rattle.gql_schema_types.specs.declared.schema.Schema.{Schema}
+use Rattle.gql_schema_build.specs.Build as build
+use Rattle.gql_schema_build.specs.ExecutableDefinition.{executable_definitions}
+use Rattle.gql_schema_build.specs.TypeSystems.{system_of, joined_systems, no_definitions}
+use Rattle.gql_schema_build.specs.declared.built_in.BuiltIn.{BuiltIn}
+use Rattle.gql_schema_build.specs.declared.type_system.TypeSystem.{TypeSystem}
+
+-- what has been taken
+pub record Taken : Type 0 where
+  pub sources : Files
+  pub built_in : BuiltIn
+  pub user : TypeSystem
+  pub faults : List DiagnosticData
+  pub ignores : Bool
+  pub refused : Bool
+
+-- with the definitions, the files and the faults of one document more
+abbrev pub with_document : Taken → Document → Diagnostics → Bool → Taken
+with_document taken document given executable = record taken {
+  sources = joined (joined taken.sources given.sources) document.sources;
+  user = joined_systems taken.user (system_of document.definitions);
+  faults = taken.faults ++ given.items ++ (if executable then executable_definitions document.definitions else []);
+}
+
+-- the schema of what has been taken, and every fault
+abbrev pub built : Taken → Schema
+built taken = build.built taken.sources taken.ignores taken.built_in taken.user
+
+abbrev pub all_faults : Taken → List DiagnosticData
+all_faults taken = taken.faults ++ build.build_faults taken.ignores taken.built_in taken.user
+
+abbrev pub nothing_taken : Files → BuiltIn → Taken
+nothing_taken sources built_in = record { sources = sources; built_in = built_in; user = no_definitions; faults = []; ignores = false; refused = false }
+
+-- this schema where nothing is wrong, and else it beside each fault, in the order of lists and with the schema's files
+abbrev pub IsJudged : Schema → List DiagnosticData → Result Schema (Refused (WithErrors Schema)) → Type 0
+IsJudged schema faults (Ok made) = (faults ≡ []) × (made ≡ schema)
+IsJudged schema faults (Err (Fault refusal)) =
+    (faults ≢ []) × ((refusal.partial ≡ schema) × (IsStableSort list_order faults refusal.errors.items × (refusal.errors.sources ≡ schema.sources)))
+IsJudged schema faults (Err Memory) = Unit {0}
+
+-- The answer judges the schema of what was taken by every fault. After a refusal for want of memory it is want of memory.
+pub record IsAnswer (taken : Taken) (answer : Result Schema (Refused (WithErrors Schema))) : Type 0 where
+  pub judged : IsJudged (built taken) (all_faults taken) answer
+  pub refused : taken.refused ≡ true → answer ≡ Err Memory
