@@ -11,7 +11,7 @@ use Rattle.gql_diag_messages.specs.declared.diagnostic_data.DiagnosticData.{Diag
 use Rattle.gql_schema_types.specs.declared.schema.Schema.{Schema}
 use Rattle.gql_schema_build.specs.Build as build
 use Rattle.gql_schema_build.specs.ExecutableDefinition.{executable_definitions}
-use Rattle.gql_schema_build.specs.TypeSystems.{system_of, joined_systems, no_definitions}
+use Rattle.gql_schema_build.specs.TypeSystems.{with_definitions, no_definitions}
 use Rattle.gql_schema_build.specs.declared.built_in.BuiltIn.{BuiltIn}
 use Rattle.gql_schema_build.specs.declared.type_system.TypeSystem.{TypeSystem}
 
@@ -28,7 +28,7 @@ pub record Taken : Type 0 where
 abbrev pub with_document : Taken → Document → Diagnostics → Bool → Taken
 with_document taken document given executable = record taken {
   sources = joined (joined taken.sources given.sources) document.sources;
-  user = joined_systems taken.user (system_of document.definitions);
+  user = with_definitions taken.user document.definitions;
   faults = taken.faults ++ given.items ++ (if executable then executable_definitions document.definitions else []);
 }
 

@@ -4,7 +4,7 @@ use Rattle.gql_source.specs.File.{Files}
 use Rattle.gql_source.specs.declared.file_id.FileId.{FileId}
 use Rattle.gql_ast.specs.declared.definition.Definition.{Definition}
 use Rattle.gql_ast_laws.specs.Meant.{IsDocumentOf}
-use Rattle.gql_schema_build.specs.TypeSystems.{system_of}
+use Rattle.gql_schema_build.specs.TypeSystems.{with_definitions, no_definitions}
 use Rattle.gql_schema_build.specs.declared.built_in.BuiltIn.{BuiltIn}
 use Rattle.gql_schema.specs.declared.built_in_text.TheConstants.{BUILT_IN_TEXT, BUILT_IN_PATH}
 
@@ -19,5 +19,5 @@ built_in_sources = (built_in_file, record { path = BUILT_IN_PATH.now; source_tex
 pub record IsBuiltIn (built_in : BuiltIn) : Type 0 where
   pub definitions : List Definition
   pub text : IsDocumentOf BUILT_IN_TEXT.now built_in_file definitions
-  pub directives : built_in.directives ≡ (system_of definitions).directives
-  pub types : built_in.types ≡ (system_of definitions).types
+  pub directives : built_in.directives ≡ (with_definitions no_definitions definitions).directives
+  pub types : built_in.types ≡ (with_definitions no_definitions definitions).types

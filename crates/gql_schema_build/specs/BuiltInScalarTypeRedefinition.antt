@@ -1,5 +1,6 @@
 -- Built-in scalars are not defined again: section 3.5 of GraphQL October 2021.
-use Rattle.std.specs.Prelude.{Bool, true, false, not, List, [], map, filter, None}
+use Rattle.std.specs.Prelude.{Bool, true, false, if◌then◌else◌, List, [], ◌∷◌, None}
+use Rattle.std.specs.List.{flat_map}
 use Rattle.std.specs.Option.{option_map_or}
 use Rattle.gql_diag_messages.specs.declared.rule.Rule.TheVariants.{BuiltInScalarTypeRedefinition}
 use Rattle.gql_diag_messages.specs.declared.diagnostic_data.DiagnosticData.{DiagnosticData}
@@ -23,10 +24,16 @@ module _ (built_in : List TypeDefinition) where
   abbrev pub redefinition : TypeDefinition → DiagnosticData
   redefinition d = fault BuiltInScalarTypeRedefinition [] (definition_location d) None
 
+  abbrev pub redefinition_of : TypeDefinition → List DiagnosticData
+  redefinition_of d = if redefines d then redefinition d ∷ [] else []
+
+  abbrev pub other : TypeDefinition → List TypeDefinition
+  other d = if redefines d then [] else d ∷ []
+
   -- one for each definition of a built-in scalar
   abbrev pub built_in_scalar_type_redefinitions : List TypeDefinition → List DiagnosticData
-  built_in_scalar_type_redefinitions ds = map redefinition (filter redefines ds)
+  built_in_scalar_type_redefinitions ds = flat_map redefinition_of ds
 
   -- the other definitions
   abbrev pub without_redefinitions : List TypeDefinition → List TypeDefinition
-  without_redefinitions ds = filter (λ d. not (redefines d)) ds
+  without_redefinitions ds = flat_map other ds

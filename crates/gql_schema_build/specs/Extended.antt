@@ -21,10 +21,18 @@ abbrev pub extended_scalar : ScalarTypeDefinition → ScalarTypeExtension → Sc
 extended_scalar d e = record d { directives = d.directives ++ e.directives }
 
 abbrev pub extended_object : ObjectTypeDefinition → ObjectTypeExtension → ObjectTypeDefinition
-extended_object d e = record d { implements_interfaces = d.implements_interfaces ++ e.implements_interfaces; directives = d.directives ++ e.directives; fields = d.fields ++ e.fields }
+extended_object d e = record d {
+  implements_interfaces = d.implements_interfaces ++ e.implements_interfaces;
+  directives = d.directives ++ e.directives;
+  fields = d.fields ++ e.fields;
+}
 
 abbrev pub extended_interface : InterfaceTypeDefinition → InterfaceTypeExtension → InterfaceTypeDefinition
-extended_interface d e = record d { implements_interfaces = d.implements_interfaces ++ e.implements_interfaces; directives = d.directives ++ e.directives; fields = d.fields ++ e.fields }
+extended_interface d e = record d {
+  implements_interfaces = d.implements_interfaces ++ e.implements_interfaces;
+  directives = d.directives ++ e.directives;
+  fields = d.fields ++ e.fields;
+}
 
 abbrev pub extended_union : UnionTypeDefinition → UnionTypeExtension → UnionTypeDefinition
 extended_union d e = record d { directives = d.directives ++ e.directives; members = d.members ++ e.members }

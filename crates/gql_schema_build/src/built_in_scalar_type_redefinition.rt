@@ -1,6 +1,6 @@
 //! Built-in scalars are not defined again (GraphQL October 2021, section 3.5).
 
-ghost use Rattle.std.specs.Prelude.{◌≡◌, ◌++◌, [], ◌∷◌, IfOk, OnOk};
+ghost use Rattle.std.specs.Prelude.{◌≡◌, ◌++◌, IfOk, OnOk};
 ghost use Rattle.gql_schema_build.specs.BuiltInScalarTypeRedefinition as spec;
 
 use crate::fault::list_nameless;
@@ -34,19 +34,20 @@ fn sort_out(
     rest: &mut Listed<TypeDefinition>,
     faults: &mut Listed<DiagnosticData>,
 ) -> Result<(), Memory>
-    ensures rest { OnOk result (rest.new ≡ rest.old ++ spec.without_redefinitions built_in.now (definition ∷ [])) }
-    ensures faults { OnOk result (faults.new ≡ faults.old ++ spec.built_in_scalar_type_redefinitions built_in.now (definition ∷ [])) }
+    ensures rest { OnOk result (rest.new ≡ rest.old ++ spec.other built_in.now definition) }
+    ensures faults { OnOk result (faults.new ≡ faults.old ++ spec.redefinition_of built_in.now definition) }
 {
     if redefines(built_in, &definition) {
-        return list_nameless(
+        list_nameless(
             alloc,
             Rule::BuiltInScalarTypeRedefinition,
             definition.location(),
             None,
             faults,
-        );
+        )
+    } else {
+        rest.push(definition)
     }
-    rest.push(definition)
 }
 
 /// Whether it is a definition of a scalar that is built in.

@@ -1,6 +1,6 @@
 //! The definitions of types that a schema is built of.
 
-ghost use Rattle.std.specs.Prelude.{◌≡◌, ◌++◌, [], ◌∷◌, IfOk, OnOk};
+ghost use Rattle.std.specs.Prelude.{◌≡◌, ◌++◌, IfOk, OnOk};
 ghost use Rattle.gql_schema_build.specs.BuiltInScalarTypeRedefinition.{built_in_scalar_type_redefinitions};
 ghost use Rattle.gql_schema_build.specs.Considered as spec;
 
@@ -67,7 +67,7 @@ fn add_if_new(
     definition: TypeDefinition,
     made: &mut Listed<TypeDefinition>,
 ) -> Result<(), Memory>
-    ensures { OnOk result (made.new ≡ made.old ++ spec.new_names built_in.now (definition ∷ [])) }
+    ensures { OnOk result (made.new ≡ made.old ++ spec.new_name built_in.now definition) }
 {
     match find_definition(built_in.as_slice(), definition.own_name().as_str()) {
         Some(_) => Ok(()),

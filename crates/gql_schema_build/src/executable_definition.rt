@@ -31,17 +31,23 @@ fn list_executable(
 ) -> Result<(), Memory>
     ensures { OnOk result (faults.new ≡ faults.old ++ spec.executable_definition definition.now) }
 {
-    let (word, location) = match definition {
-        Definition::OperationDefinition(it) => ("an operation definition", it.location),
-        Definition::FragmentDefinition(it) => ("a fragment definition", it.location),
-        _ => return Ok(()),
-    };
-    list_word(
-        alloc,
-        Rule::ExecutableDefinition,
-        word,
-        location,
-        None,
-        faults,
-    )
+    match definition {
+        Definition::OperationDefinition(it) => list_word(
+            alloc,
+            Rule::ExecutableDefinition,
+            "an operation definition",
+            it.location,
+            None,
+            faults,
+        ),
+        Definition::FragmentDefinition(it) => list_word(
+            alloc,
+            Rule::ExecutableDefinition,
+            "a fragment definition",
+            it.location,
+            None,
+            faults,
+        ),
+        _ => Ok(()),
+    }
 }

@@ -18,7 +18,7 @@ use std::alloc::{AllocError, Global};
 
 /// What is written of a schema, before its extensions.
 #[derive(Drop)]
-struct Beginning {
+struct Draft {
     definition: SchemaDefinition,
     roots: Listed<(OperationType, Name)>,
     extensible: bool,
@@ -45,7 +45,7 @@ fn beginning(
     alloc: Global,
     types: &Table<ExtendedType>,
     first: Option<gql_ast_definitions::SchemaDefinition>,
-) -> Result<Beginning, Memory>
+) -> Result<Draft, Memory>
     ensures { IfOk result (λ made. made ≡ spec.beginning types.now first) }
 {
     match first {
@@ -55,7 +55,7 @@ fn beginning(
 }
 
 /// What a `schema` says.
-fn written(first: gql_ast_definitions::SchemaDefinition) -> Beginning
+fn written(first: gql_ast_definitions::SchemaDefinition) -> Draft
     ensures { (types : List ExtendedType) → result ≡ spec.beginning types (Some first) }
 {
     let gql_ast_definitions::SchemaDefinition {
@@ -64,7 +64,7 @@ fn written(first: gql_ast_definitions::SchemaDefinition) -> Beginning
         root_operations,
         location,
     } = first;
-    Beginning {
+    Draft {
         definition: SchemaDefinition {
             description,
             directives,
@@ -79,12 +79,12 @@ fn written(first: gql_ast_definitions::SchemaDefinition) -> Beginning
 }
 
 /// The default, where no `schema` is written.
-fn default_beginning(alloc: Global, types: &Table<ExtendedType>) -> Result<Beginning, Memory>
+fn default_beginning(alloc: Global, types: &Table<ExtendedType>) -> Result<Draft, Memory>
     ensures { IfOk result (λ made. made ≡ spec.beginning types.now None) }
 {
     let definition = default_definition(alloc, types)?;
     let extensible = has_root(&definition);
-    Ok(Beginning {
+    Ok(Draft {
         definition,
         roots: Listed::new(alloc),
         extensible,
@@ -150,7 +150,7 @@ fn has_root(definition: &SchemaDefinition) -> bool
 /// The definition with what the extensions add, and the faults in this.
 fn finished(
     alloc: Global,
-    mut beginning: Beginning,
+    mut beginning: Draft,
     extensions: Listed<SchemaExtension>,
     faults: &mut Listed<DiagnosticData>,
 ) -> Result<SchemaDefinition, Memory>
@@ -158,7 +158,7 @@ fn finished(
     ensures faults { OnOk result (faults.new ≡ faults.old ++ spec.root_faults extensions beginning) }
 {
     extend(alloc, &mut beginning, extensions, faults)?;
-    let Beginning {
+    let Draft {
         mut definition,
         roots,
         extensible: _,
@@ -170,7 +170,7 @@ fn finished(
 /// Adds what the extensions give, or lists them where there is no schema to extend.
 fn extend(
     alloc: Global,
-    beginning: &mut Beginning,
+    beginning: &mut Draft,
     extensions: Listed<SchemaExtension>,
     faults: &mut Listed<DiagnosticData>,
 ) -> Result<(), Memory>
@@ -186,7 +186,7 @@ fn extend(
 
 /// Adds what the extensions give.
 fn add_extensions(
-    beginning: &mut Beginning,
+    beginning: &mut Draft,
     extensions: Listed<SchemaExtension>,
 ) -> Result<(), Memory>
     ensures { OnOk result (beginning.new ≡ spec.extended_by extensions beginning.old) }
@@ -198,8 +198,8 @@ fn add_extensions(
 }
 
 /// Adds what one extension gives.
-fn add_extension(beginning: &mut Beginning, extension: SchemaExtension) -> Result<(), Memory>
-    ensures { OnOk result (beginning.new ≡ spec.extended_once extension beginning.old) }
+fn add_extension(beginning: &mut Draft, extension: SchemaExtension) -> Result<(), Memory>
+    ensures { OnOk result (beginning.new ≡ spec.extended_once beginning.old extension) }
 {
     let SchemaExtension {
         directives,

@@ -1,13 +1,12 @@
 //! A schema is defined once (GraphQL October 2021, section 3.3).
 
-ghost use Rattle.std.specs.Prelude.{◌≡◌, ◌++◌, IfOk, OnOk, map, slice_get};
+ghost use Rattle.std.specs.Prelude.{◌≡◌, ◌++◌, IfOk, OnOk};
 ghost use Rattle.gql_schema_build.specs.SchemaDefinitionCollision as spec;
 
 use crate::fault::list_nameless;
 use gql_ast_definitions::SchemaDefinition;
 use gql_diag_messages::{DiagnosticData, Rule};
-use gql_source::SourceSpan;
-use jb_text::{Listed, ListedIter, Memory};
+use jb_text::{Listed, Memory};
 use std::alloc::Global;
 
 /// The first `schema`, where there is one, and a fault for each other.
@@ -16,34 +15,37 @@ pub(crate) fn first_schema(
     schemas: Listed<SchemaDefinition>,
     faults: &mut Listed<DiagnosticData>,
 ) -> Result<Option<SchemaDefinition>, Memory>
-    ensures first { IfOk result (λ first. first ≡ slice_get schemas 0) }
+    ensures first { IfOk result (λ first. first ≡ spec.first_schema schemas) }
     ensures faults { OnOk result (faults.new ≡ faults.old ++ spec.schema_definition_collisions schemas) }
 {
-    let mut schemas = schemas.into_iter();
-    let Some(first) = schemas.next() else {
-        return Ok(None);
-    };
-    list_others(alloc, first.location, schemas, faults)?;
-    Ok(Some(first))
+    let mut first = None;
+    for schema in schemas {
+        add_schema(alloc, &mut first, schema, faults)?;
+    }
+    Ok(first)
 }
 
-/// Lists each `schema` that comes after the first.
-fn list_others(
+/// Takes a `schema` for the first, unless there is one: then it is a fault.
+fn add_schema(
     alloc: Global,
-    first: Option<SourceSpan>,
-    others: ListedIter<SchemaDefinition>,
+    first: &mut Option<SchemaDefinition>,
+    schema: SchemaDefinition,
     faults: &mut Listed<DiagnosticData>,
 ) -> Result<(), Memory>
-    ensures { OnOk result (faults.new ≡ faults.old ++ map (spec.second_schema first) others) }
+    ensures first { OnOk result (first.new ≡ spec.with_schema first.old schema) }
+    ensures faults { OnOk result (faults.new ≡ faults.old ++ spec.schema_definition_collision first.old schema) }
 {
-    for second in others {
-        list_nameless(
+    match first {
+        Some(known) => list_nameless(
             alloc,
             Rule::SchemaDefinitionCollision,
-            second.location,
-            first,
+            schema.location,
+            known.location,
             faults,
-        )?;
+        ),
+        None => {
+            *first = Some(schema);
+            Ok(())
+        }
     }
-    Ok(())
 }

@@ -40,9 +40,13 @@ fn list_mismatch(
 {
     let name = extension.own_name();
     match types.get(name.as_str()) {
-        Some(definition) if definition.kind() != extension.kind() => {
-            list_name(alloc, Rule::TypeExtensionKindMismatch, name, None, faults)
+        Some(definition) => {
+            if definition.kind() == extension.kind() {
+                Ok(())
+            } else {
+                list_name(alloc, Rule::TypeExtensionKindMismatch, name, None, faults)
+            }
         }
-        _ => Ok(()),
+        None => Ok(()),
     }
 }

@@ -41,7 +41,7 @@ impl TypeSystem {
     /// Takes the definitions of a document too, each last among those of its kind; operations and fragments are left
     /// out. `Err` only for want of memory: then some of them are taken.
     pub fn take_all(&mut self, definitions: Listed<Definition>) -> Result<(), Memory>
-        ensures { OnOk result (self.new ≡ spec.joined_systems self.old (spec.system_of definitions)) }
+        ensures { OnOk result (self.new ≡ spec.with_definitions self.old definitions) }
     {
         for definition in definitions {
             self.take(definition)?;
@@ -55,7 +55,7 @@ impl TypeSystem {
         alloc: Global,
         definitions: &Listed<Definition>,
     ) -> Result<(), Memory>
-        ensures { OnOk result (self.new ≡ spec.joined_systems self.old (spec.system_of definitions.now)) }
+        ensures { OnOk result (self.new ≡ spec.with_definitions self.old definitions.now) }
     {
         for definition in definitions.as_slice() {
             self.copy_one(alloc, definition)?;

@@ -55,7 +55,6 @@ impl Schema {
         ensures { IfOk result (λ map. (name : List ℕ) → lookup (bytes_eq name) map ≡ spec.implementers_of name self.now.types) }
     {
         let mut found = Pairs::new(alloc);
-        let _count = self.types.len();
         for ty in self.types.as_slice() {
             add_type(alloc, &mut found, ty)?;
         }

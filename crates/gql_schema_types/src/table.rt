@@ -64,7 +64,8 @@ impl<T: Named> Table<T> {
     /// The entries in order.
     #[must_use]
     pub fn as_slice(&self) -> &[T]
-        ensures { result.now ≡ self.now }
+        ensures entries { result.now ≡ self.now }
+        ensures distinct { IsDistinct bytes_eq (texts T.own self.now) }
     {
         self.entries.as_slice()
     }
