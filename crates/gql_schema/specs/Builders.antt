@@ -1,11 +1,10 @@
 -- What a builder of schemas has taken, and what it answers.
-use Rattle.std.specs.Prelude.{◌≡◌, ◌≢◌, Bool, true, false, List, [], ◌++◌, Result, Ok, Err, if◌then◌else◌}
+use Rattle.std.specs.Prelude.{◌≡◌, Bool, true, false, List, [], ◌++◌, Result, Err, if◌then◌else◌}
 use Rattle.gql_source.specs.File.{Files, joined}
 use Rattle.jb_text.specs.declared.refused.Refused.{Refused}
-use Rattle.jb_text.specs.declared.refused.Refused.TheVariants.{Fault, Memory}
+use Rattle.jb_text.specs.declared.refused.Refused.TheVariants.{Memory}
 use Rattle.gql_ast.specs.declared.document.Document.{Document}
-use Rattle.gql_diag.specs.List.{Diagnostics, IsStableSort}
-use Rattle.gql_diag.specs.Order.{list_order}
+use Rattle.gql_diag.specs.List.{Diagnostics}
 use Rattle.gql_diag.specs.declared.valid.WithErrors.{WithErrors}
 use Rattle.gql_diag_messages.specs.declared.diagnostic_data.DiagnosticData.{DiagnosticData}
 use Rattle.gql_schema_types.specs.declared.schema.Schema.{Schema}
@@ -14,6 +13,8 @@ use Rattle.gql_schema_build.specs.ExecutableDefinition.{executable_definitions}
 use Rattle.gql_schema_build.specs.TypeSystems.{with_definitions, no_definitions}
 use Rattle.gql_schema_build.specs.declared.built_in.BuiltIn.{BuiltIn}
 use Rattle.gql_schema_build.specs.declared.type_system.TypeSystem.{TypeSystem}
+use Rattle.gql_schema.specs.Judged.{IsJudged}
+use Rattle.gql_schema.specs.declared.schema_builder.SchemaBuilder.{SchemaBuilder}
 
 -- what has been taken
 pub record Taken : Type 0 where
@@ -23,6 +24,10 @@ pub record Taken : Type 0 where
   pub faults : List DiagnosticData
   pub ignores : Bool
   pub refused : Bool
+
+-- what a builder has taken
+abbrev pub taken : SchemaBuilder → Taken
+taken b = record { sources = b.sources; built_in = b.built_in; user = b.user; faults = b.faults; ignores = b.ignores; refused = b.refused }
 
 -- with the definitions, the files and the faults of one document more
 abbrev pub with_document : Taken → Document → Diagnostics → Bool → Taken
@@ -41,13 +46,6 @@ all_faults taken = taken.faults ++ build.build_faults taken.ignores taken.built_
 
 abbrev pub nothing_taken : Files → BuiltIn → Taken
 nothing_taken sources built_in = record { sources = sources; built_in = built_in; user = no_definitions; faults = []; ignores = false; refused = false }
-
--- this schema where nothing is wrong, and else it beside each fault, in the order of lists and with the schema's files
-abbrev pub IsJudged : Schema → List DiagnosticData → Result Schema (Refused (WithErrors Schema)) → Type 0
-IsJudged schema faults (Ok made) = (faults ≡ []) × (made ≡ schema)
-IsJudged schema faults (Err (Fault refusal)) =
-    (faults ≢ []) × ((refusal.partial ≡ schema) × (IsStableSort list_order faults refusal.errors.items × (refusal.errors.sources ≡ schema.sources)))
-IsJudged schema faults (Err Memory) = Unit {0}
 
 -- The answer judges the schema of what was taken by every fault. After a refusal for want of memory it is want of memory.
 pub record IsAnswer (taken : Taken) (answer : Result Schema (Refused (WithErrors Schema))) : Type 0 where

@@ -7,7 +7,9 @@
 
 mod built_in;
 mod built_in_text;
+mod judged;
 mod schema_builder;
+mod taking;
 
 pub use gql_schema_types::{
     EnumType, ExtendedType, Implementers, ImplementersMap, InputObjectType, InterfaceType,

@@ -21,7 +21,7 @@ use std::alloc::Global;
 /// Extensions come after all definitions. Of definitions of one name the first stays; a built-in directive is replaced in
 /// its place. Without a `schema` the object types `Query`, `Mutation` and `Subscription` are the root types (GraphQL
 /// October 2021, section 3.3.1).
-pub fn build(
+pub fn build_schema(
     alloc: Global,
     sources: SourceMap,
     ignores: bool,

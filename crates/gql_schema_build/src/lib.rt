@@ -1,6 +1,6 @@
 //! How a schema is built of definitions and extensions, and what is wrong with these.
 //!
-//! A [`TypeSystem`] has the definitions and extensions of documents, sorted by what they are; [`build`] makes a schema of
+//! A [`TypeSystem`] has the definitions and extensions of documents, sorted by what they are; [`build_schema`] makes a schema of
 //! them and of the built-in ones. What the schema is, is a definition apart from the way to it, and so is each fault: a
 //! rule has a file of its own here and in `specs/`, named after it.
 #![tactic(auto)]
@@ -38,7 +38,7 @@ mod type_system;
 mod type_table;
 mod union_member_name_collision;
 
-pub use build::build;
+pub use build::build_schema;
 pub use built_in::BuiltIn;
 pub use executable_definition::list_executable_definitions;
 pub use type_definition::TypeDefinition;

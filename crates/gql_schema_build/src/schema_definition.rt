@@ -185,10 +185,7 @@ fn extend(
 }
 
 /// Adds what the extensions give.
-fn add_extensions(
-    beginning: &mut Draft,
-    extensions: Listed<SchemaExtension>,
-) -> Result<(), Memory>
+fn add_extensions(beginning: &mut Draft, extensions: Listed<SchemaExtension>) -> Result<(), Memory>
     ensures { OnOk result (beginning.new ≡ spec.extended_by extensions beginning.old) }
 {
     for extension in extensions {

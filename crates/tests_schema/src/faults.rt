@@ -1,4 +1,4 @@
-//! The faults of building a schema: each alone, each pair on one type, and each through an extension.
+//! The faults of building a schema: each alone, and each through an extension.
 
 use crate::fixtures::{Way, faults_of};
 use std::test::Fail;
@@ -127,42 +127,6 @@ const EXTENDED: &[(&str, &str)] = &[
     ),
 ];
 
-/// Texts with two faults on one type.
-const PAIRS: &[(&str, &str)] = &[
-    (
-        "type A { x: Int }\ntype A { x: Int x: Int }\nextend scalar A @d",
-        "TypeDefinitionCollision A at 2:6-2:7, 1:6-1:7\nTypeExtensionKindMismatch A at 3:15-3:16\n",
-    ),
-    (
-        "type A { x: Int x: Int }\ntype A",
-        "ObjectFieldNameCollision A x at 1:17-1:18, 1:10-1:11\nTypeDefinitionCollision A at 2:6-2:7, 1:6-1:7\n",
-    ),
-    (
-        "type A implements I & I { x: Int x: Int }",
-        "DuplicateImplementsInterfaceInObject A I at 1:23-1:24, 1:19-1:20\nObjectFieldNameCollision A x at 1:34-1:35, 1:27-1:28\n",
-    ),
-    (
-        "interface A implements I & I { x: Int x: Int }",
-        "DuplicateImplementsInterfaceInInterface A I at 1:28-1:29, 1:24-1:25\nInterfaceFieldNameCollision A x at 1:39-1:40, 1:32-1:33\n",
-    ),
-    (
-        "union A = X | X\nscalar A",
-        "UnionMemberNameCollision A X at 1:15-1:16, 1:11-1:12\nTypeDefinitionCollision A at 2:8-2:9, 1:7-1:8\n",
-    ),
-    (
-        "enum A { X X }\nextend union A = X",
-        "EnumValueNameCollision A X at 1:12-1:13, 1:10-1:11\nTypeExtensionKindMismatch A at 2:14-2:15\n",
-    ),
-    (
-        "input A { x: Int x: Int }\nextend type A { x: Int }",
-        "InputFieldNameCollision A x at 1:18-1:19, 1:11-1:12\nTypeExtensionKindMismatch A at 2:13-2:14\n",
-    ),
-    (
-        "schema { query: A query: B }\nschema { query: C }",
-        "DuplicateRootOperation query at 1:26-1:27, 1:17-1:18\nSchemaDefinitionCollision at 2:1-2:20, 1:1-1:29\n",
-    ),
-];
-
 #[test]
 fn each_fault_alone(rt: HostRuntime) -> Result<(), Fail> {
     for (text, lines) in ALONE {
@@ -175,15 +139,6 @@ fn each_fault_alone(rt: HostRuntime) -> Result<(), Fail> {
 #[test]
 fn each_fault_through_an_extension(rt: HostRuntime) -> Result<(), Fail> {
     for (text, lines) in EXTENDED {
-        let found = faults_of(rt.alloc(), Way::Plain, &[text])?;
-        assert_eq!(rt; found.as_str(), *lines, "{text}");
-    }
-    Ok(())
-}
-
-#[test]
-fn pairs_of_faults(rt: HostRuntime) -> Result<(), Fail> {
-    for (text, lines) in PAIRS {
         let found = faults_of(rt.alloc(), Way::Plain, &[text])?;
         assert_eq!(rt; found.as_str(), *lines, "{text}");
     }

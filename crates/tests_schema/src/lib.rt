@@ -10,6 +10,8 @@ mod faults;
 #[cfg(test)]
 mod fixtures;
 #[cfg(test)]
+mod pairs;
+#[cfg(test)]
 mod printed;
 #[cfg(test)]
 mod schemas;

@@ -1,6 +1,6 @@
 use Rattle.std.proofs.Common.{◌≡◌, ◌++◌}
 use Rattle.std.specs.Vec.Iter.{into_iter_items}
-use Rattle.gql_schema.proofs.schema_builder.take_list.Given as goal
+use Rattle.gql_schema.proofs.taking.take_list.Given as goal
 
 -- what is taken and what is left make the whole
 abbrev pub invariant-loop-item : goal.invariant-loop-item

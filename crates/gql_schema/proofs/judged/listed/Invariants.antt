@@ -1,5 +1,5 @@
 use Rattle.std.proofs.Common.{◌≡◌, ◌++◌}
-use Rattle.gql_schema.proofs.schema_builder.listed.Given as goal
+use Rattle.gql_schema.proofs.judged.listed.Given as goal
 
 -- what is listed and what is left make the whole
 abbrev pub invariant-loop-fault : goal.invariant-loop-fault
