@@ -98,6 +98,16 @@ impl DiagnosticList {
         &self.sources
     }
 
+    /// The files and the diagnostics themselves. It takes no memory.
+    #[must_use]
+    pub fn into_parts(self) -> (SourceMap, Vec<DiagnosticData>)
+        ensures sources { result.0 ≡ self.sources }
+        ensures items { result.1.items ≡ self.items }
+    {
+        let DiagnosticList { sources, items } = self;
+        (sources, items)
+    }
+
     /// Takes the diagnostics and the files of another list too. All diagnostics are then sorted by their places, by
     /// file and offset, those without a place first, where at one place they stay as they stand, its own before the
     /// others. Where both have a file of one number, its own stays. Refused for want of memory, the list is as it was.

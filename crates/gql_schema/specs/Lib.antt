@@ -1,0 +1,3 @@
+pub mod Builders
+pub mod BuiltInSchema
+pub mod Judged

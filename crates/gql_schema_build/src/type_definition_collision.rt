@@ -1,0 +1,54 @@
+//! Types have distinct names (GraphQL October 2021, section 3.3).
+
+ghost use Rattle.std.specs.Prelude.{◌≡◌, ◌++◌, IfOk, OnOk, map};
+ghost use Rattle.gql_schema_build.specs.Merged as merged;
+ghost use Rattle.gql_schema_build.specs.TypeDefinitionCollision as spec;
+
+use crate::fault::list_name;
+use crate::type_definition::TypeDefinition;
+use gql_diag_messages::{DiagnosticData, Rule};
+use gql_schema_types::Named;
+use jb_map::Pairs;
+use jb_text::{ByteString, Listed, Memory};
+use std::alloc::Global;
+
+/// The definitions under their names, of each name the first, and a fault for each other.
+pub(crate) fn first_types(
+    alloc: Global,
+    definitions: Listed<TypeDefinition>,
+    faults: &mut Listed<DiagnosticData>,
+) -> Result<Pairs<TypeDefinition>, Memory>
+    ensures types { IfOk result (λ types. types ≡ map merged.named (merged.firsts definitions)) }
+    ensures faults { OnOk result (faults.new ≡ faults.old ++ spec.type_definition_collisions definitions) }
+{
+    let mut types = Pairs::new(alloc);
+    for definition in definitions {
+        add_first(alloc, &mut types, definition, faults)?;
+    }
+    Ok(types)
+}
+
+/// Adds a definition last, unless there is one of its name: then it is a fault.
+fn add_first(
+    alloc: Global,
+    types: &mut Pairs<TypeDefinition>,
+    definition: TypeDefinition,
+    faults: &mut Listed<DiagnosticData>,
+) -> Result<(), Memory>
+    ensures types { OnOk result (types.new ≡ merged.with_type types.old definition) }
+    ensures faults { OnOk result (faults.new ≡ faults.old ++ spec.second_of types.old definition) }
+{
+    match types.get(definition.own_name().as_str()) {
+        Some(first) => list_name(
+            alloc,
+            Rule::TypeDefinitionCollision,
+            definition.own_name(),
+            first.own_name().location(),
+            faults,
+        ),
+        None => {
+            let name = ByteString::from_text(alloc, definition.own_name().as_str())?;
+            types.insert_new(name, definition)
+        }
+    }
+}

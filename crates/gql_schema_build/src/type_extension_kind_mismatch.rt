@@ -1,0 +1,52 @@
+//! A type that is extended is of the extension's kind (GraphQL October 2021, sections 3.5.7, 3.6.3, 3.7.1, 3.8.1, 3.9.1 and
+//! 3.10.1).
+
+ghost use Rattle.std.specs.Prelude.{◌≡◌, ◌++◌, OnOk};
+ghost use Rattle.std.specs.List.{flat_map};
+ghost use Rattle.gql_schema_build.specs.TypeExtensionKindMismatch as spec;
+
+use crate::fault::list_name;
+use crate::type_definition::TypeDefinition;
+use crate::type_extension::TypeExtension;
+use gql_diag_messages::{DiagnosticData, Rule};
+use gql_schema_types::Named;
+use jb_map::Pairs;
+use jb_text::{Listed, Memory};
+use std::alloc::Global;
+
+/// Lists each extension whose name is defined as a type of another kind.
+pub(crate) fn list_kind_mismatches(
+    alloc: Global,
+    types: &Pairs<TypeDefinition>,
+    extensions: &Listed<TypeExtension>,
+    faults: &mut Listed<DiagnosticData>,
+) -> Result<(), Memory>
+    ensures { OnOk result (faults.new ≡ faults.old ++ flat_map (spec.type_extension_kind_mismatch types.now) extensions.now) }
+{
+    for extension in extensions.as_slice() {
+        list_mismatch(alloc, types, extension, faults)?;
+    }
+    Ok(())
+}
+
+/// Lists an extension if its name is defined as a type of another kind.
+fn list_mismatch(
+    alloc: Global,
+    types: &Pairs<TypeDefinition>,
+    extension: &TypeExtension,
+    faults: &mut Listed<DiagnosticData>,
+) -> Result<(), Memory>
+    ensures { OnOk result (faults.new ≡ faults.old ++ spec.type_extension_kind_mismatch types.now extension.now) }
+{
+    let name = extension.own_name();
+    match types.get(name.as_str()) {
+        Some(definition) => {
+            if definition.kind() == extension.kind() {
+                Ok(())
+            } else {
+                list_name(alloc, Rule::TypeExtensionKindMismatch, name, None, faults)
+            }
+        }
+        None => Ok(()),
+    }
+}

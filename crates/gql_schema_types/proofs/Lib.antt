@@ -1,0 +1,4 @@
+pub mod Implementing
+pub mod Indexed
+pub mod Joins
+pub mod Lookups

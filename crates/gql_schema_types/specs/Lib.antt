@@ -1,0 +1,5 @@
+pub mod Entries
+pub mod Implementers
+pub mod MetaFields
+pub mod Schemas
+pub mod Types
