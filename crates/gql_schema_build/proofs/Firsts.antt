@@ -1,12 +1,12 @@
 -- Definitions under their names, of each name the first.
-use Rattle.std.proofs.Common.{◌≡◌, ℕ, Bool, true, false, cond, if◌then◌else◌, Option, Some, None, is_some, List, [], ◌∷◌, ◌++◌, map, refl, sym, ap, ◌∙◌, subst}
+use Rattle.std.proofs.Common.{◌≡◌, ℕ, cond, if◌then◌else◌, Option, Some, None, is_some, List, [], ◌∷◌, ◌++◌, map, refl, sym, ap, ◌∙◌}
 use Rattle.std.specs.Option.{option_map_or}
 use Rattle.std.specs.Map.{lookup}
 use Rattle.std.specs.Str.{bytes_eq}
 use Rattle.std.proofs.lemmas.List.{map-append}
 use Rattle.gql_schema_types.specs.Entries.{entry, put_new, repeat}
 use Rattle.gql_schema_build.specs.DefinitionNames.{definition_name}
-use Rattle.gql_schema_build.specs.Merged.{Types, defined, named, with_type}
+use Rattle.gql_schema_build.specs.Merged.{Types, named, with_type}
 use Rattle.gql_schema_build.specs.TypeDefinitionCollision.{second, second_of}
 use Rattle.gql_schema_build.specs.declared.type_definition.TypeDefinition.{TypeDefinition}
 

@@ -1,5 +1,5 @@
 -- The types of all definitions and extensions.
-use Rattle.std.proofs.Common.{◌≡◌, ℕ, List, [], ◌∷◌, ◌++◌, map, fold, refl, sym, ap, ◌∙◌, subst, append_assoc}
+use Rattle.std.proofs.Common.{◌≡◌, List, [], ◌∷◌, ◌++◌, map, fold, refl, sym, ap, ◌∙◌, subst, append_assoc}
 use Rattle.std.specs.List.{IsDistinct, filter, flat_map}
 use Rattle.std.specs.Map.{values_of}
 use Rattle.std.specs.Str.{bytes_eq}
@@ -13,7 +13,7 @@ use Rattle.gql_schema_build.specs.OrphanTypeExtension.{orphan_type_extension}
 use Rattle.gql_schema_build.specs.TypeDefinitionCollision.{type_definition_collisions}
 use Rattle.gql_schema_build.specs.TypeExtensionKindMismatch.{type_extension_kind_mismatch}
 use Rattle.gql_schema_types.specs.Types.{type_name}
-use Rattle.gql_schema_build.specs.TypeTable.{all_extended, types, extension_faults, type_faults}
+use Rattle.gql_schema_build.specs.TypeTable.{all_extended, types, type_faults}
 use Rattle.gql_schema_build.specs.declared.type_definition.TypeDefinition.{TypeDefinition}
 use Rattle.gql_schema_build.specs.declared.type_definition.TypeDefinition.TheVariants as type
 use Rattle.gql_schema_build.specs.declared.type_extension.TypeExtension.{TypeExtension}

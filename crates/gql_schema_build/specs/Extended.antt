@@ -1,5 +1,5 @@
 -- A definition of a type with what an extension adds is again a definition: sections 3.5 to 3.10 of GraphQL October 2021.
-use Rattle.std.specs.Prelude.{◌++◌, List, fold}
+use Rattle.std.specs.Prelude.{◌++◌}
 use Rattle.gql_ast_definitions.specs.declared.type_definition.ScalarTypeDefinition.{ScalarTypeDefinition}
 use Rattle.gql_ast_definitions.specs.declared.extension.ScalarTypeExtension.{ScalarTypeExtension}
 use Rattle.gql_ast_definitions.specs.declared.type_definition.ObjectTypeDefinition.{ObjectTypeDefinition}

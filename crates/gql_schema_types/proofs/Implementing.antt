@@ -1,5 +1,5 @@
 -- Types that implement interfaces, found one after the other.
-use Rattle.std.proofs.Common.{rules, ◌≡◌, ℕ, zero, suc, ◌-◌, Bool, true, false, cond, if◌then◌else◌, ◌&&◌, ◌||◌, Option, Some, None, IsSome, unwrap_or, List, [], ◌∷◌, ◌++◌, length, map, fold, slice_get, get_or, take, ◌+◌, ◌<◌, refl, sym, ap, ◌∙◌, subst, arith, length-append}
+use Rattle.std.proofs.Common.{rules, ◌≡◌, ℕ, zero, suc, ◌-◌, Bool, true, false, cond, ◌&&◌, ◌||◌, Option, Some, None, IsSome, unwrap_or, List, [], ◌∷◌, ◌++◌, length, map, fold, slice_get, get_or, take, ◌+◌, ◌<◌, refl, sym, ap, ◌∙◌, subst, arith, length-append}
 use Rattle.std.specs.List.{AllByRecursion, IsDistinct, filter, list_any}
 use Rattle.std.specs.Map.{lookup, set_value}
 use Rattle.std.specs.Option.{option_map_or, option_or}

@@ -1,13 +1,12 @@
 -- Lists that are joined, of each name the first.
-use Rattle.std.proofs.Common.{◌≡◌, ℕ, Bool, true, false, cond, if◌then◌else◌, Option, Some, None, is_some, List, [], ◌∷◌, ◌++◌, map, fold, refl, sym, ap, ◌∙◌, subst, append_assoc, ◌||◌}
-use Rattle.std.specs.List.{find, list_any, IsDistinct, AllByRecursion}
-use Rattle.std.specs.Option.{option_map_or}
+use Rattle.std.proofs.Common.{◌≡◌, ℕ, Bool, true, false, cond, if◌then◌else◌, Option, Some, None, is_some, List, [], ◌∷◌, ◌++◌, fold, refl, sym, ap, ◌∙◌, subst, append_assoc, ◌||◌}
+use Rattle.std.specs.List.{list_any, IsDistinct, AllByRecursion}
 use Rattle.std.specs.Str.{bytes_eq}
 use Rattle.std.specs.Cmp.Lexicographic.{nat_list_eq_equiv}
 use Rattle.std.proofs.lemmas.List.{map-append, append-nil}
 use Rattle.std.proofs.lemmas.Map.Keys.{IsDistinct-push}
 use Rattle.gql_ast_base.specs.Names.{Named}
-use Rattle.gql_schema_types.specs.Entries.{texts, is_called, entry, put, put_new, joined, repeat, repeats}
+use Rattle.gql_schema_types.specs.Entries.{texts, is_called, entry, put, put_new, joined}
 use Rattle.gql_schema_types.proofs.Lookups.{put-missing}
 
 module _ {X : Type 0} (own : X → Named) where

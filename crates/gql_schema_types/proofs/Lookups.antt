@@ -1,6 +1,6 @@
 -- Lists of things with names, and the places in them.
-use Rattle.std.proofs.Common.{◌≡◌, ℕ, zero, suc, ◌+◌, ◌<◌, ◌≤◌, Bool, true, false, cond, not, if◌then◌else◌, nat_lt, Some, None, Option, List, [], ◌∷◌, ◌++◌, length, map, set, get_or, take, drop, slice_get, position, remove, refl, sym, ap, ◌∙◌, subst, arith}
-use Rattle.std.specs.List.{IsDistinct, AllByRecursion, find, filter, position_or_len, prefix_len}
+use Rattle.std.proofs.Common.{◌≡◌, ℕ, zero, suc, ◌+◌, ◌<◌, Bool, true, false, cond, not, if◌then◌else◌, nat_lt, Some, None, Option, List, [], ◌∷◌, ◌++◌, length, map, set, get_or, take, slice_get, position, remove, refl, sym, ap, ◌∙◌, subst, arith}
+use Rattle.std.specs.List.{IsDistinct, AllByRecursion, find, position_or_len, prefix_len}
 use Rattle.std.specs.Str.{bytes_eq}
 use Rattle.std.specs.Cmp.Lexicographic.{nat_list_eq_equiv}
 use Rattle.std.proofs.lemmas.Bool.{ltb-false}
@@ -13,7 +13,7 @@ use Rattle.std.proofs.lemmas.Option.{slice_get_past, cond_some}
 use Rattle.std.proofs.lemmas.Slice.Eq.{bytes_eq-Decides}
 use Rattle.indexmap.proofs.SetLemmas.{map-remove}
 use Rattle.gql_ast_base.specs.Names.{Named}
-use Rattle.gql_schema_types.specs.Entries.{texts, is_called, entry, put, without}
+use Rattle.gql_schema_types.specs.Entries.{texts, is_called, put, without}
 
 module _ {X Y : Type 0} (f : X → Y) where
   prefix_len-map : (p : Y → Bool) (xs : List X) → prefix_len p (map f xs) ≡ prefix_len (λ x. p (f x)) xs

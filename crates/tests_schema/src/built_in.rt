@@ -1,6 +1,6 @@
 //! The built-in definitions, as the real parser reads them.
 
-use crate::fixtures::{Outcome, Way, fault_lines, outcome};
+use crate::fixtures::{Outcome, Way, fault_lines, outcome_of};
 use crate::printed::{printed, printed_directives};
 use gql_ast::print_type;
 use gql_schema::{ExtendedType, Schema};
@@ -27,7 +27,7 @@ scalar ID
 
 #[test]
 fn a_builder_without_documents_builds_what_is_built_in(rt: HostRuntime) -> Result<(), Fail> {
-    let made = outcome(rt.alloc(), Way::Plain, &[])?;
+    let made = outcome_of(rt.alloc(), Way::Plain, &[])?;
     assert_eq!(rt; fault_lines(rt.alloc(), &made)?.as_str(), "");
     assert_eq!(rt; printed(rt.alloc(), &made.schema, 0)?.as_str(), TYPES);
     let directives = printed_directives(rt.alloc(), &made.schema)?;
@@ -40,7 +40,7 @@ fn a_builder_without_documents_builds_what_is_built_in(rt: HostRuntime) -> Resul
 
 #[test]
 fn the_built_in_file_is_the_first(rt: HostRuntime) -> Result<(), Fail> {
-    let made = outcome(rt.alloc(), Way::Plain, &["scalar A"])?;
+    let made = outcome_of(rt.alloc(), Way::Plain, &["scalar A"])?;
     let file = made.schema.sources.get(FileId::BUILT_IN).ok_or("no file")?;
     assert_eq!(rt; file.path(), "built_in.graphql");
     assert_eq!(rt; file.source_text().len(), 1821);
@@ -86,7 +86,7 @@ const SCHEMA: &str =
     interface J implements I input N { x: Int } enum E { X }";
 
 fn sample(alloc: Global) -> Result<Outcome, Fail> {
-    outcome(alloc, Way::Plain, &[SCHEMA])
+    outcome_of(alloc, Way::Plain, &[SCHEMA])
 }
 
 #[test]

@@ -1,6 +1,6 @@
 //! Schemas of texts, and the lines of their faults.
 
-use gql_ast::{Document, OperationType};
+use gql_ast::Document;
 use gql_cst::{Limits, Tree, parse_document};
 use gql_diag::{Details, Diagnostic, DiagnosticData, DiagnosticList, RuleFault, WithErrors};
 use gql_schema::{Schema, SchemaBuilder};
@@ -61,7 +61,7 @@ fn takes_operations(way: Way) -> bool {
 }
 
 /// What the texts build, as files of the numbers from 3 on.
-pub(crate) fn outcome(alloc: Global, way: Way, texts: &[&str]) -> Result<Outcome, Fail> {
+pub(crate) fn outcome_of(alloc: Global, way: Way, texts: &[&str]) -> Result<Outcome, Fail> {
     let mut builder = builder(alloc, way)?;
     let mut number: u64 = 3;
     for text in texts {
@@ -174,6 +174,6 @@ pub(crate) fn fault_lines(alloc: Global, outcome: &Outcome) -> Result<String, Me
 
 /// The lines of the faults of the texts.
 pub(crate) fn faults_of(alloc: Global, way: Way, texts: &[&str]) -> Result<String, Fail> {
-    let made = outcome(alloc, way, texts)?;
+    let made = outcome_of(alloc, way, texts)?;
     Ok(fault_lines(alloc, &made)?)
 }

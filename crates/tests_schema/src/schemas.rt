@@ -1,6 +1,6 @@
 //! What is built of texts.
 
-use crate::fixtures::{Outcome, Way, fault_lines, lent_outcome, outcome};
+use crate::fixtures::{Outcome, Way, fault_lines, lent_outcome, outcome_of};
 use crate::printed::{printed, printed_directives};
 use std::alloc::Global;
 use std::test::Fail;
@@ -58,7 +58,7 @@ fn built_text(alloc: Global, made: &Outcome) -> Result<String, Fail> {
 #[test]
 fn texts_build_schemas(rt: HostRuntime) -> Result<(), Fail> {
     for (text, lines) in BUILT {
-        let made = outcome(rt.alloc(), Way::Plain, &[text])?;
+        let made = outcome_of(rt.alloc(), Way::Plain, &[text])?;
         assert_eq!(rt; built_text(rt.alloc(), &made)?.as_str(), *lines, "{text}");
     }
     Ok(())
@@ -76,7 +76,7 @@ fn documents_build_the_same_lent_and_given(rt: HostRuntime) -> Result<(), Fail> 
 #[test]
 fn extensions_come_after_the_definitions_of_all_documents(rt: HostRuntime) -> Result<(), Fail> {
     let texts = ["extend type A { y: Int }", "type A { x: Int }"];
-    let made = outcome(rt.alloc(), Way::Plain, &texts)?;
+    let made = outcome_of(rt.alloc(), Way::Plain, &texts)?;
     assert_eq!(rt;
         built_text(rt.alloc(), &made)?.as_str(),
         "schema\ntype A { x y }\n"
@@ -89,7 +89,7 @@ fn extensions_come_after_the_definitions_of_all_documents(rt: HostRuntime) -> Re
 #[test]
 fn a_built_in_directive_is_replaced_in_its_place(rt: HostRuntime) -> Result<(), Fail> {
     let text = "directive @a on FIELD directive @include on FIELD directive @include on QUERY";
-    let made = outcome(rt.alloc(), Way::Plain, &[text])?;
+    let made = outcome_of(rt.alloc(), Way::Plain, &[text])?;
     let names = printed_directives(rt.alloc(), &made.schema)?;
     assert_eq!(rt;
         names.as_str(),

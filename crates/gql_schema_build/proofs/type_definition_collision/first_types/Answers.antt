@@ -1,5 +1,5 @@
-use Rattle.std.proofs.Common.{◌≡◌, ◌++◌, [], List, map, refl, sym, ap, ◌∙◌}
-use Rattle.std.proofs.lemmas.List.{map-append, append-nil, append_assoc}
+use Rattle.std.proofs.Common.{◌++◌, map, sym, ap, ◌∙◌}
+use Rattle.std.proofs.lemmas.List.{map-append, append_assoc}
 use Rattle.gql_schema_types.specs.Entries.{put_new, joined, repeat, repeats}
 use Rattle.gql_schema_build.specs.DefinitionNames.{definition_name}
 use Rattle.gql_schema_build.specs.TypeDefinitionCollision as spec

@@ -1,4 +1,4 @@
-use Rattle.std.proofs.Common.{◌≡◌, ◌++◌, [], List, map}
+use Rattle.std.proofs.Common.{◌≡◌, ◌++◌, List, map}
 use Rattle.gql_schema_types.specs.Entries.{joined, repeats}
 use Rattle.gql_schema_build.specs.DefinitionNames.{definition_name}
 use Rattle.gql_schema_build.specs.Merged as merged

@@ -1,8 +1,6 @@
-use Rattle.std.proofs.Common.{◌≡◌, ◌<◌, length, position, take, Some, None, [], ◌∷◌, ◌++◌, sym, ap, ◌∙◌, subst}
+use Rattle.std.proofs.Common.{position, [], ◌∷◌, ◌++◌, ap, ◌∙◌}
 use Rattle.std.specs.Str.{bytes_eq}
-use Rattle.std.proofs.lemmas.List.{length-map}
-use Rattle.gql_schema_types.specs.Entries.{texts}
-use Rattle.gql_schema_types.proofs.Lookups.{new_text, text_at, take_text}
+use Rattle.gql_schema_types.proofs.Lookups.{new_text, take_text}
 use Rattle.gql_schema_types.proofs.table.index_of.Goals as goal
 
 pub push-requires : goal.push-requires

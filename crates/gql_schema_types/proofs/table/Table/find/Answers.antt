@@ -1,4 +1,4 @@
-use Rattle.std.proofs.Common.{◌≡◌, IfSome, sym, ap, ◌∙◌, subst, position}
+use Rattle.std.proofs.Common.{◌≡◌, IfSome, ap, ◌∙◌, subst, position}
 use Rattle.std.specs.Str.{bytes_eq}
 use Rattle.gql_schema_types.specs.Entries.{texts, is_called}
 use Rattle.gql_schema_types.proofs.Lookups.{place-texts}

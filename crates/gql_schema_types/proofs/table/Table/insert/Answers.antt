@@ -1,6 +1,5 @@
-use Rattle.std.proofs.Common.{◌≡◌, Some, None, set, position, sym, ap, ◌∙◌, subst}
-use Rattle.std.specs.List.{find}
-use Rattle.gql_schema_types.specs.Entries.{is_called, entry, put}
+use Rattle.std.proofs.Common.{position, sym, ap, ◌∙◌}
+use Rattle.gql_schema_types.specs.Entries.{is_called}
 use Rattle.gql_schema_types.proofs.Lookups.{found, missing, put-found, put-missing}
 use Rattle.gql_schema_types.proofs.table.Table.insert.Goals as goal
 

@@ -1,4 +1,4 @@
-use Rattle.std.proofs.Common.{◌≡◌, Some, remove, sym, ap, ◌∙◌}
+use Rattle.std.proofs.Common.{sym, ◌∙◌}
 use Rattle.gql_schema_types.specs.Entries.{is_called}
 use Rattle.gql_schema_types.proofs.Lookups.{found, missing, without-found, without-missing}
 use Rattle.gql_schema_types.proofs.table.Table.remove.Goals as goal
