@@ -6,7 +6,7 @@ ghost use Rattle.gql_engine.specs.Decision.{Decides};
 ghost use Rattle.gql_engine.specs.Reply.{AnswersAsked, IsRefusedFor, read_message as read_message_of, refusal_value};
 ghost use Rattle.gql_engine.specs.Request.{asked_in, has_options as has_options_of};
 
-use crate::answering::{UnbuiltPart, respond};
+use crate::answering::{UnbuiltPart, are_options, respond};
 use crate::data_object::DataObject;
 use crate::request::{Request, decode};
 use crate::task::Task;
@@ -84,7 +84,7 @@ fn has_options(request: &Request<'_>) -> bool
         Some(variables) => variables.len(),
         None => 0,
     };
-    request.operation_name.is_some() || variables != 0 || request.introspection
+    are_options(request.operation_name, variables, request.introspection)
 }
 
 /// The message of a text that is no JSON.

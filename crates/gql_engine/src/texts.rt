@@ -9,10 +9,10 @@ ghost use Rattle.gql_exec.specs.Selections.{selections_of};
 ghost use Rattle.gql_engine.specs.Meant.{file, IsUnread, IsUnmeantSchema, IsUnmeantQuery, OnFault, QueryMeant, ReadAs, SchemaMeant};
 
 use gql_ast::{Definition, Document};
+use gql_ast_laws::laws::texts_have_one_document;
 use gql_cst::{Limits, Tree, parse_document};
 use gql_cst_laws::laws::parses_are_trees;
 use gql_exec::{ObjectType, Schema, SelectionSet};
-use gql_ast_laws::laws::texts_have_one_document;
 use gql_plain::{NotPlain, plain_query, plain_schema};
 use gql_source::{FileId, SourceFile, SourceMap};
 use jb_tree::{Listed, Refused};

@@ -8,6 +8,7 @@ use Rattle.jb_tree.specs.declared.value.Value.TheVariants as json
 use Rattle.gql_exec.specs.declared.schema.ObjectType.{ObjectType}
 use Rattle.gql_exec.specs.declared.error.GraphQLError.{GraphQLError}
 use Rattle.gql_exec.specs.declared.error.ResponseDataPathSegment.{ResponseDataPathSegment}
+use Rattle.gql_exec.specs.declared.response.ExecutionResponse.{ExecutionResponse}
 use Rattle.gql_exec.specs.Meaning.{Meaning, gives_leaf, gives_object, fails_with}
 use Rattle.gql_exec.specs.Selections.{Selections, no_fields, field_then}
 use Rattle.gql_exec.specs.Place.{Setting, Place, place_of, object_type_of, fault_at}
@@ -55,3 +56,7 @@ execute world T object path (field_then key where_it_is within others) =
 -- ExecuteField, from its place on
 abbrev pub outcome_at : {O : Type 0} → Setting O → Place O → Value × List GraphQLError
 outcome_at world place = complete world (λ U found. execute world U found place.path place.within) place
+
+-- the response to a selection set on an object that is executed on the root type
+abbrev pub response_of : {O : Type 0} → Setting O → ObjectType → O → Selections → ExecutionResponse
+response_of world T object selections = let made = execute world T object [] selections in record { errors = made.1; root = Some made.0 }

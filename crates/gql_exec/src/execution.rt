@@ -1,12 +1,12 @@
 //! Execution of a selection set, of a field and of a value (GraphQL, sections 6.3 and 6.4).
 
-ghost use Rattle.std.specs.Prelude.{◌≡◌, ◌++◌, [], Some, IfOk, OnOk};
+ghost use Rattle.std.specs.Prelude.{◌≡◌, ◌++◌, IfOk, OnOk};
 ghost use Rattle.gql_exec.specs.Meaning.{meaning_of, gives_leaf, gives_object};
 ghost use Rattle.gql_exec.specs.Selections.{selections_of};
 ghost use Rattle.gql_exec.specs.Path.{path_of};
 ghost use Rattle.gql_exec.specs.Place.{setting};
 ghost use Rattle.gql_exec.specs.FieldPlace.{place_in};
-ghost use Rattle.gql_exec.specs.Execution.{execute, outcome_at};
+ghost use Rattle.gql_exec.specs.Execution.{execute, outcome_at, response_of};
 ghost use Rattle.gql_exec.specs.Explained.{IsExplained};
 
 use super::error::GraphQLError;
@@ -31,8 +31,7 @@ pub fn execute<O: ObjectValue>(
     initial: &O,
 ) -> Result<ExecutionResponse, AllocError>
     ensures executed { IfOk result (λ response.
-        let made = execute (setting schema.now O.type_of O.resolves) root_type.now initial.now [] (selections_of selections.now) in
-        response ≡ record { errors = made.1; root = Some made.0 }) }
+        response ≡ response_of (setting schema.now O.type_of O.resolves) root_type.now initial.now (selections_of selections.now)) }
     ensures explained { IfOk result
         (IsExplained (setting schema.now O.type_of O.resolves) root_type.now initial.now (selections_of selections.now)) }
 {

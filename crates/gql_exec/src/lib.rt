@@ -20,6 +20,7 @@ mod resolver;
 mod response;
 mod schema;
 mod selection;
+mod steps;
 
 pub use error::{GraphQLError, ResponseDataPathSegment};
 pub use execution::execute;
@@ -28,3 +29,4 @@ pub use resolver::{FieldError, ObjectValue, ResolveError, ResolveInfo};
 pub use response::ExecutionResponse;
 pub use schema::{ObjectType, Schema, TypeRef};
 pub use selection::{Field, SelectionSet};
+pub use steps::Steps;

@@ -24,6 +24,7 @@ returns-clause-answered g c =
         query_meant = c.in-Ok-query.ensures.meant;
       };
       response = c.in_ok-response.response;
+      executed = c.in_ok-response.ensures.executed;
       explained = c.in_ok-response.ensures.explained;
       written = c.in_ok-into_bytes.ensures;
     }
