@@ -91,7 +91,7 @@ impl Rule {
 impl Compat {
     /// The words for these names, where there are any.
     fn for_names(self, names: &[Text]) -> Option<&'static str>
-        ensures { option_copied result ≡ chosen_words (compat_shown self.entry) names.now }
+        ensures { option_copied result ≡ chosen_words (compat_shown self) names.now }
     {
         match self {
             NoWords => None,

@@ -54,8 +54,8 @@ abbrev pub given_value : Option Value → Option Value
 given_value (Some value) = if is_null value then None else Some value
 given_value None = None
 
-abbrev pub given : Member → Members → Option Value
-given member members = given_value (lookup (bytes_eq (member_name member)) members)
+abbrev pub member_given : Member → Members → Option Value
+member_given member members = given_value (lookup (bytes_eq (member_name member)) members)
 
 abbrev pub optional_of : {A : Type 0} → (Value → Option A) → Member → Option Value → Result (Option A) RequestFault
 optional_of kind member (Some value) = of_kind member (option_map Some (kind value))
@@ -63,7 +63,7 @@ optional_of kind member None = Ok None
 
 -- a member that may be absent or null
 abbrev pub optional : {A : Type 0} → (Value → Option A) → Member → Members → Result (Option A) RequestFault
-optional kind member members = optional_of kind member (given member members)
+optional kind member members = optional_of kind member (member_given member members)
 
 infixl 10 ◌>>=◌
 abbrev pub ◌>>=◌ : {A B : Type 0} → Result A RequestFault → (A → Result B RequestFault) → Result B RequestFault

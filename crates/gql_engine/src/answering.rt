@@ -207,11 +207,18 @@ pub(crate) fn respond<O: ObjectValue>(
         Err(Refused::Memory) => return Err(Refused::Memory),
     };
     let root_type = schema.get_object(texts::ROOT_TYPE).unwrap();
-    let selections = match texts::query(alloc, &schema, root_type, query) {
-        Ok(selections) => selections,
+    let query = match texts::query(alloc, &schema, root_type, query) {
+        Ok(query) => query,
         Err(Refused::Fault(NotPlain)) => return Err(Refused::Fault(UnbuiltPart::Query)),
         Err(Refused::Memory) => return Err(Refused::Memory),
     };
-    let response = execute(alloc, &schema, root_type, &selections, root)?;
-    Ok(response.into_bytes(alloc)?)
+    let response = execute(
+        alloc,
+        &schema,
+        &query.sources,
+        root_type,
+        &query.selections,
+        root,
+    )?;
+    Ok(response.to_bytes(alloc)?)
 }

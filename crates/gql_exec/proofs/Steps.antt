@@ -8,8 +8,8 @@ use Rattle.jb_tree.specs.declared.value.Value.{Value}
 use Rattle.jb_tree.specs.declared.value.Value.TheVariants as json
 use Rattle.gql_exec.specs.declared.schema.TypeRef.{TypeRef}
 use Rattle.gql_exec.specs.declared.schema.ObjectType.{ObjectType}
-use Rattle.gql_exec.specs.declared.error.GraphQLError.{GraphQLError}
-use Rattle.gql_exec.specs.declared.error.ResponseDataPathSegment.{ResponseDataPathSegment}
+use Rattle.gql_response.specs.declared.graphql_error.GraphQLError.{GraphQLError}
+use Rattle.gql_response.specs.declared.path.ResponseDataPathSegment.{ResponseDataPathSegment}
 use Rattle.gql_exec.specs.declared.selection.Field.{Field}
 use Rattle.gql_exec.specs.Meaning.{Meaning, gives_object}
 use Rattle.gql_exec.specs.Selections.{Selections, selections_of, field_tree}

@@ -1,7 +1,6 @@
 //! Requests over devices that fail at each of their calls, and requests that are cut at each of their bytes.
-use crate::fixtures::words_of;
+use crate::fixtures::{status_of_run, words_of};
 use bytes::Bytes;
-use gql_engine::run;
 use jb_io::{MemorySink, MemorySource};
 use jb_tree::Listed;
 use std::alloc::Global;
@@ -34,7 +33,7 @@ fn status_over(
     let words = words_of(alloc, &["answer"])?;
     let calls = only(alloc, source_fails)?;
     let mut source = MemorySource::new(Bytes::from_static(request), 1, calls);
-    Ok(run(alloc, words.as_slice(), &mut source, sink))
+    Ok(status_of_run(alloc, words.as_slice(), &mut source, sink))
 }
 
 /// The number of the call that so many others come before.

@@ -76,8 +76,9 @@ fn each_rule_has_its_messages(rt: HostRuntime) -> Result<(), Fail> {
     Ok(())
 }
 
-/// Rules, names of which some are lacking, and what the reference implementation says of them.
-const LACKING_NAMES: [(Rule, &[&str], &str); 7] = [
+/// Rules, names of which some are lacking or are those of a directive or of a wrapped type, and what the reference
+/// implementation says of them.
+const COMPAT_MESSAGES: [(Rule, &[&str], &str); 9] = [
     (
         Rule::TypeSystemDefinition,
         &["a schema definition", ""],
@@ -113,6 +114,16 @@ const LACKING_NAMES: [(Rule, &[&str], &str); 7] = [
         &["", "A", "B"],
         "Fragment cannot be spread here as objects of type \"A\" can never be of type \"B\".",
     ),
+    (
+        Rule::UnsupportedValueType,
+        &["Int!", "null"],
+        "Int cannot represent value: null",
+    ),
+    (
+        Rule::UnsupportedValueType,
+        &["[[Int!]]!", "\"x!\""],
+        "Int cannot represent value: \"x!\"",
+    ),
 ];
 
 fn compat_message(alloc: Global, rule: Rule, names: &[&str]) -> Result<Text, Memory> {
@@ -121,8 +132,10 @@ fn compat_message(alloc: Global, rule: Rule, names: &[&str]) -> Result<Text, Mem
 }
 
 #[test]
-fn lacking_names_are_told_in_words_of_their_own(rt: HostRuntime) -> Result<(), Fail> {
-    for (rule, names, compat) in &LACKING_NAMES {
+fn names_that_lack_or_are_wrapped_are_told_in_words_of_their_own(
+    rt: HostRuntime,
+) -> Result<(), Fail> {
+    for (rule, names, compat) in &COMPAT_MESSAGES {
         let found = compat_message(rt.alloc(), *rule, names)?;
         assert_eq!(rt; found.as_str(), *compat);
     }

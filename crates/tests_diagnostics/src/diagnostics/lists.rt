@@ -1,6 +1,6 @@
 //! Lists: their order, going through them, and merging them.
 
-use super::{FIRST, SECOND, at, broken, files, unread};
+use crate::diagnostics::{FIRST, SECOND, at, broken, files, unread};
 use gql_diag::{Details, Diagnostic, DiagnosticData, DiagnosticList, Rule};
 use gql_source::{FileId, SourceSpan};
 use jb_text::{Memory, Text};

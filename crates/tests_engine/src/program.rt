@@ -1,8 +1,7 @@
 //! The program over words and over streams that fail.
 
-use crate::fixtures::words_of;
+use crate::fixtures::{status_in_memory, status_of_run, words_of};
 use bytes::Bytes;
-use gql_engine::{run, run_in_memory};
 use jb_io::{INPUT_LIMIT, ReaderSource, SureSink, SureSource, WriterSink, read_to_end};
 use std::alloc::Global;
 use std::io;
@@ -25,7 +24,7 @@ fn outcome(
 fn served(alloc: Global, words: &[&str], source: &mut SureSource) -> Result<(u8, Vec<u8>), Fail> {
     let words = words_of(alloc, words)?;
     let mut sink = SureSink::new(alloc, 100)?;
-    let status = run_in_memory(alloc, words.as_slice(), source, &mut sink);
+    let status = status_in_memory(alloc, words.as_slice(), source, &mut sink);
     Ok((status, sink.written().to_vec(alloc)?))
 }
 
@@ -93,7 +92,7 @@ fn cut_off(alloc: Global) -> Result<(u8, usize), Fail> {
     let words = words_of(alloc, &["answer"])?;
     let mut sink = SureSink::new(alloc, 64)?;
     let mut broken = ReaderSource::new(Broken(0));
-    let status = run(alloc, words.as_slice(), &mut broken, &mut sink);
+    let status = status_of_run(alloc, words.as_slice(), &mut broken, &mut sink);
     Ok((status, sink.written().len()))
 }
 
@@ -103,7 +102,7 @@ fn crowded(alloc: Global, words: &[&str]) -> Result<(u8, [u8; 5]), Fail> {
     let mut room = [0; 5];
     let mut full = WriterSink::new(room.as_mut_slice());
     let mut source = SureSource::new(Bytes::from_static(b"{}"), 1);
-    let status = run(alloc, words.as_slice(), &mut source, &mut full);
+    let status = status_of_run(alloc, words.as_slice(), &mut source, &mut full);
     Ok((status, room))
 }
 

@@ -1,7 +1,7 @@
 //! Worked requests, from bytes to bytes.
-use crate::fixtures::words_of;
+use crate::fixtures::{Question, answered as answer_of, status_in_memory, words_of};
 use bytes::Bytes;
-use gql_engine::{AnswerError, DataObject, UnbuiltPart, VariablesFault, answer, run_in_memory};
+use gql_engine::{AnswerError, DataObject, UnbuiltPart, VariablesFault};
 use jb_io::{SureSink, SureSource, from_bytes_whole};
 use jb_tree::Value;
 use std::alloc::Global;
@@ -18,7 +18,7 @@ fn reply(alloc: Global, request: &'static str) -> Result<(u8, Vec<u8>), Fail> {
 /// The status of the program over a source and a sink.
 fn status_of(alloc: Global, source: &mut SureSource, sink: &mut SureSink) -> Result<u8, Fail> {
     let words = words_of(alloc, &["answer"])?;
-    Ok(run_in_memory(alloc, words.as_slice(), source, sink))
+    Ok(status_in_memory(alloc, words.as_slice(), source, sink))
 }
 
 /// The one line that was written, without its LF.
@@ -146,16 +146,14 @@ fn answered_on(
 ) -> Option<Result<Bytes, AnswerError>> {
     let root = DataObject::root(data.as_object()?);
     let variables = Bytes::from_static(variables);
-    let schema = "type Query { a: String }";
-    Some(answer(
-        alloc,
-        schema,
-        "{ a }",
+    let question = Question {
+        schema: "type Query { a: String }",
+        query: "{ a }",
         operation_name,
-        &variables,
-        false,
-        &root,
-    ))
+        variables: &variables,
+        introspection: false,
+    };
+    Some(answer_of(alloc, question, &root))
 }
 
 /// What is answered without a name of an operation and without variables.

@@ -6,7 +6,7 @@ use gql_ast::{
 };
 use gql_exec::{Schema, SelectionSet};
 use gql_plain::{NotPlain, plain_query, plain_schema};
-use gql_source::{FileId, LineColumn, SourceSpan};
+use gql_source::{FileId, SourceSpan};
 use jb_text::{Listed, Refused};
 use std::alloc::Global;
 use std::test::Fail;
@@ -110,23 +110,23 @@ fn made<T: Drop>(outcome: Result<T, Refused<NotPlain>>) -> Result<Option<T>, Fai
     }
 }
 
-/// The selections of a query of so many selections of the same field, at the end of `{\n a }`.
+/// The selections of a query of so many selections of the same field.
 fn selections(alloc: Global, schema: &Schema, count: usize) -> Result<Option<SelectionSet>, Fail> {
     let root_type = schema.get_object("Query").ok_or("no Query")?;
     let definitions = query(alloc, count)?;
-    made(plain_query(alloc, schema, root_type, &definitions, "{\n a }"))
+    made(plain_query(alloc, schema, root_type, &definitions))
 }
 
 /// Whether a query of so many selections of the same field is plain, and then where the field stands.
-fn place(alloc: Global, count: usize) -> Result<Option<LineColumn>, Fail> {
+fn place(alloc: Global, count: usize) -> Result<Option<SourceSpan>, Fail> {
     let schema = schema(alloc, &["Query"])?.ok_or("no schema")?;
     let selections = selections(alloc, &schema, count)?;
     Ok(selections.as_ref().and_then(place_of))
 }
 
-fn place_of(selections: &SelectionSet) -> Option<LineColumn> {
+fn place_of(selections: &SelectionSet) -> Option<SourceSpan> {
     let field = selections.get("a")?;
-    Some(field.location)
+    field.name.location()
 }
 
 /// Whether these types are plain.
@@ -137,7 +137,7 @@ fn is_schema(alloc: Global, type_names: &[&str]) -> Result<bool, Fail> {
 #[test]
 fn one_field(rt: HostRuntime) -> Result<(), Fail> {
     let place = place(rt.alloc(), 1)?;
-    assert_eq!(rt; place, Some(LineColumn { line: 2, column: 2 }));
+    assert_eq!(rt; place, Some(SourceSpan::new(FileId::NONE, 3, 3)));
     Ok(())
 }
 

@@ -1,6 +1,6 @@
 //! What is told of a diagnostic, of a refused request and of what passed validation.
 
-use super::{FIRST, at, broken, files, unread};
+use crate::diagnostics::{FIRST, at, broken, files, unread};
 use bytes::Bytes;
 use gql_diag::{
     DiagnosticData, DiagnosticList, ExecutionResponse, GraphQLError, RequestError, Rule,

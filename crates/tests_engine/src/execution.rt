@@ -1,10 +1,12 @@
 //! What no clause says: that calls succeed with ample memory, and whole responses by hand.
 
+use bytes::Bytes;
+use gql_ast_base::Name;
 use gql_exec::{
     Field, FieldError, ObjectType, ObjectValue, ResolveError, ResolveInfo, ResolvedValue, Schema,
     SelectionSet, TypeRef, execute,
 };
-use gql_source::LineColumn;
+use gql_source::{FileId, SourceFile, SourceMap, SourceSpan};
 use jb_tree::{ByteString, Number, Pairs, Text, Value};
 use std::alloc::{AllocError, Global};
 use std::test::Fail;
@@ -25,7 +27,7 @@ impl ObjectValue for Sample {
     ghost use Rattle.std.specs.Prelude.{codes, pos, ◌^◌};
     ghost use Rattle.jb_tree.specs.declared.value.Value.TheVariants as json;
     ghost use Rattle.gql_exec.specs.Meaning.{gives_leaf, gives_object, fails_with};
-    ghost use Rattle.tests_response.specs.declared.execution.Sample.TheVariants as sample;
+    ghost use Rattle.tests_engine.specs.declared.execution.Sample.TheVariants as sample;
 
     ghost type_of = { λ _. codes "A" };
 
@@ -76,7 +78,7 @@ fn type_named(alloc: Global, name: &str) -> Result<TypeRef, Fail> {
         "Int" => Ok(TypeRef::Int),
         "String" => Ok(TypeRef::String),
         "Boolean" => Ok(TypeRef::Boolean),
-        other => Ok(TypeRef::Object(Text::from_str(alloc, other)?)),
+        other => Ok(TypeRef::Object(ByteString::from_text(alloc, other)?)),
     }
 }
 
@@ -96,17 +98,38 @@ fn object_type(alloc: Global, name: &str, fields: &[(&str, &str)]) -> Result<Obj
     Ok(ObjectType { name, fields })
 }
 
+/// The file that names stand in.
+const FILE: FileId = FileId { number: 4 };
+
+/// A text of one line that each place of a name lies in.
+fn sources(alloc: Global) -> Result<SourceMap, Fail> {
+    let mut sources = SourceMap::new(alloc);
+    sources.insert(FILE, SourceFile::new(alloc, "q", "{ all on one line }")?)?;
+    Ok(sources)
+}
+
+/// A field at an offset, with these selections below it.
+fn field(
+    alloc: Global,
+    name: &str,
+    offset: usize,
+    selections: SelectionSet,
+) -> Result<Field, Fail> {
+    let name = Name::new(alloc, name).ok().ok_or("no name")?;
+    Ok(Field {
+        name: name.with_location(SourceSpan::new(FILE, offset, offset)),
+        selections,
+    })
+}
+
 /// Fields with nothing selected below them, the first in column 3 of line 1 and each two columns further.
 fn selected(alloc: Global, names: &[&str]) -> Result<SelectionSet, Fail> {
     let mut fields = Pairs::new(alloc);
-    let mut column = 3usize;
+    let mut offset = 2usize;
     for name in names {
-        let field = Field {
-            location: LineColumn { line: 1, column },
-            selections: Pairs::new(alloc),
-        };
+        let field = field(alloc, name, offset, Pairs::new(alloc))?;
         put(alloc, &mut fields, name, field)?;
-        column = column.wrapping_add(2);
+        offset = offset.wrapping_add(2);
     }
     Ok(fields)
 }
@@ -133,24 +156,25 @@ fn schema(alloc: Global) -> Result<Schema, Fail> {
 /// The response of the selections on an object that is executed on this type.
 fn response(
     alloc: Global,
+    schema: &Schema,
     query: &ObjectType,
     selections: &SelectionSet,
     initial: &Sample,
-) -> Result<Value, Fail> {
-    let schema = schema(alloc)?;
-    let response = execute(alloc, &schema, query, selections, initial)?;
-    Ok(response.into_value(alloc)?)
+) -> Result<Bytes, Fail> {
+    let sources = sources(alloc)?;
+    let response = execute(alloc, schema, &sources, query, selections, initial)?;
+    Ok(response.to_bytes(alloc)?)
 }
 
-/// That response as a text.
+/// The same over the schema.
 fn answer_on(
     alloc: Global,
     query: &ObjectType,
     selections: &SelectionSet,
     initial: &Sample,
-) -> Result<Text, Fail> {
-    let value = response(alloc, query, selections, initial)?;
-    Ok(jb_print::to_text(alloc, &value)?)
+) -> Result<Bytes, Fail> {
+    let schema = schema(alloc)?;
+    response(alloc, &schema, query, selections, initial)
 }
 
 /// The text where the object is executed on `Query`, which has these fields.
@@ -159,7 +183,7 @@ fn answer(
     fields: &[(&str, &str)],
     selections: &SelectionSet,
     initial: &Sample,
-) -> Result<Text, Fail> {
+) -> Result<Bytes, Fail> {
     let query = object_type(alloc, "Query", fields)?;
     answer_on(alloc, &query, selections, initial)
 }
@@ -170,7 +194,7 @@ fn answer_keys(
     fields: &[(&str, &str)],
     keys: &[&str],
     initial: &Sample,
-) -> Result<Text, Fail> {
+) -> Result<Bytes, Fail> {
     let selections = selected(alloc, keys)?;
     answer(alloc, fields, &selections, initial)
 }
@@ -178,15 +202,12 @@ fn answer_keys(
 /// `{ b a { y x } }`
 fn nested(alloc: Global) -> Result<SelectionSet, Fail> {
     let mut selections = selected(alloc, &["b"])?;
-    let object = Field {
-        location: LineColumn { line: 1, column: 5 },
-        selections: selected(alloc, &["y", "x"])?,
-    };
-    put(alloc, &mut selections, "a", object)?;
+    let below = selected(alloc, &["y", "x"])?;
+    put(alloc, &mut selections, "a", field(alloc, "a", 4, below)?)?;
     Ok(selections)
 }
 
-fn answer_nested(alloc: Global) -> Result<Text, Fail> {
+fn answer_nested(alloc: Global) -> Result<Bytes, Fail> {
     let selections = nested(alloc)?;
     answer(alloc, &[("a", "A")], &selections, &Sample::Holder)
 }
@@ -195,8 +216,8 @@ fn answer_nested(alloc: Global) -> Result<Text, Fail> {
 fn a_fault_below_an_object(rt: HostRuntime) -> Result<(), Fail> {
     let text = answer_nested(rt.alloc())?;
     assert_eq!(rt;
-        text.as_str(),
-        "{\"errors\":[{\"message\":\"resolver returned \\\"no\\\", expected Int\",\"locations\":[{\"line\":1,\"column\":5}],\"path\":[\"a\",\"x\"]}],\"data\":{\"a\":{\"x\":null}}}"
+        text.as_slice(),
+        b"{\"errors\":[{\"message\":\"resolver returned \\\"no\\\", expected Int\",\"locations\":[{\"line\":1,\"column\":5}],\"path\":[\"a\",\"x\"]}],\"data\":{\"a\":{\"x\":null}}}".as_slice()
     );
     Ok(())
 }
@@ -245,7 +266,7 @@ const CASES: &[Case] = &[
 ];
 
 /// The response where a field `f` of this type is selected on the object.
-fn answer_alone(alloc: Global, initial: &Sample, ty: &str) -> Result<Text, Fail> {
+fn answer_alone(alloc: Global, initial: &Sample, ty: &str) -> Result<Bytes, Fail> {
     answer_keys(alloc, &[("f", ty)], &["f"], initial)
 }
 
@@ -260,7 +281,7 @@ fn saying(alloc: Global, said: Result<&str, &str>) -> Result<String, Fail> {
 }
 
 /// The response in a case, and the one that says what is said there.
-fn found_and_said(alloc: Global, case: &Case) -> Result<(Text, String), Fail> {
+fn found_and_said(alloc: Global, case: &Case) -> Result<(Bytes, String), Fail> {
     let (initial, ty, said) = case;
     let found = answer_alone(alloc, initial, ty)?;
     Ok((found, saying(alloc, *said)?))
@@ -270,7 +291,7 @@ fn found_and_said(alloc: Global, case: &Case) -> Result<(Text, String), Fail> {
 fn each_fit_and_misfit(rt: HostRuntime) -> Result<(), Fail> {
     for case in CASES {
         let (found, said) = found_and_said(rt.alloc(), case)?;
-        assert_eq!(rt; found.as_str(), said.as_str());
+        assert_eq!(rt; found.as_slice(), said.as_bytes());
     }
     Ok(())
 }
@@ -282,6 +303,9 @@ const KEYS: &[&str] = &["c", "absent", "a", "b"];
 #[test]
 fn keys_in_the_order_of_the_document(rt: HostRuntime) -> Result<(), Fail> {
     let text = answer_keys(rt.alloc(), NUMBERS, KEYS, &Sample::Seven)?;
-    assert_eq!(rt; text.as_str(), "{\"data\":{\"c\":7,\"a\":7,\"b\":7}}");
+    assert_eq!(rt;
+        text.as_slice(),
+        b"{\"data\":{\"c\":7,\"a\":7,\"b\":7}}".as_slice()
+    );
     Ok(())
 }

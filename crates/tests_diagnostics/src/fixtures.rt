@@ -5,15 +5,6 @@ use gql_source::SourceSpan;
 use jb_text::{Listed, Memory, Text};
 use std::alloc::Global;
 
-/// The words that a program is called with.
-pub(crate) fn words_of(alloc: Global, words: &[&str]) -> Result<Vec<String>, Memory> {
-    let mut all = Vec::new(alloc);
-    for word in words {
-        all.push(String::from_str(alloc, word)?)?;
-    }
-    Ok(all)
-}
-
 /// A rule that is broken, by these names.
 pub(crate) fn broken_rule(
     alloc: Global,
