@@ -6,7 +6,8 @@ use Rattle.std.specs.Cmp.Lexicographic.{slice_cmp}
 use Rattle.gql_source.specs.Span.{Span}
 use Rattle.gql_diag_messages.specs.declared.details.RuleFault.{RuleFault}
 use Rattle.gql_diag_messages.specs.declared.details.Details.{Details}
-use Rattle.gql_diag_messages.specs.declared.details.Details.TheVariants.{ParserLimit, SyntaxError, SchemaBuildError, ExecutableBuildError, CompilerDiagnostic, RecursionLimitError}
+use Rattle.gql_diag_messages.specs.declared.details.Details.TheVariants.{ParserLimit, SyntaxError, SchemaBuildError}
+use Rattle.gql_diag_messages.specs.declared.details.Details.TheVariants.{ExecutableBuildError, CompilerDiagnostic, RecursionLimitError}
 use Rattle.gql_diag_messages.specs.declared.diagnostic_data.DiagnosticData.{DiagnosticData}
 use Rattle.gql_diag_messages.specs.RuleText.{row}
 

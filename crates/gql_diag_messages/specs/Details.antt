@@ -5,7 +5,8 @@ use Rattle.gql_diag_messages.specs.declared.rule.Rule.{Rule}
 use Rattle.gql_diag_messages.specs.declared.rule.Rule.TheVariants.{UndefinedRootOperation}
 use Rattle.gql_diag_messages.specs.declared.details.RuleFault.{RuleFault}
 use Rattle.gql_diag_messages.specs.declared.details.Details.{Details}
-use Rattle.gql_diag_messages.specs.declared.details.Details.TheVariants.{ParserLimit, SyntaxError, SchemaBuildError, ExecutableBuildError, CompilerDiagnostic, RecursionLimitError}
+use Rattle.gql_diag_messages.specs.declared.details.Details.TheVariants.{ParserLimit, SyntaxError, SchemaBuildError}
+use Rattle.gql_diag_messages.specs.declared.details.Details.TheVariants.{ExecutableBuildError, CompilerDiagnostic, RecursionLimitError}
 use Rattle.gql_diag_messages.specs.Filled.{filled}
 use Rattle.gql_diag_messages.specs.NamedType.{compat_names}
 use Rattle.gql_diag_messages.specs.RuleText.{rule_name, message_pattern, compat_pattern}

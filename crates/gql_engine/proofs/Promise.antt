@@ -18,7 +18,7 @@ use Rattle.gql_engine.specs.declared.answering.AnswerError.{AnswerError}
 use Rattle.gql_engine.specs.declared.answering.AnswerError.TheVariants.{Variables, Unbuilt, Memory}
 use Rattle.gql_engine.specs.declared.task.Task.{Task}
 use Rattle.gql_engine.specs.declared.task.Task.TheVariants.{Answer}
-use Rattle.gql_engine.specs.AnswerError.{AsksNoOptions, AsksOptions, AsksPlainly, HasCause, IsNoObject, IsObjectText, are_options}
+use Rattle.gql_engine.specs.AnswerError.{AsksNoOptions, AsksOptions, AsksPlainly, HasCause, IsNoObject, IsObjectText, IsRefusedText, IsUnplainPart, are_options}
 use Rattle.gql_engine.specs.Meant.{IsUnmeantSchema, IsUnplain, PlainTexts}
 use Rattle.gql_engine.specs.Program.{IsPlainInput}
 use Rattle.gql_engine.specs.Reply.{Cause, no_text, no_request, not_built, IsPlainRequest, IsUnbuilt, Refuses}
@@ -96,6 +96,19 @@ module _ (one : OneValue) (one_fault : OneFault) (not_both : NotBoth) (s q : Lis
   one_cause (Unbuilt Query) (Unbuilt Options) told h k = absurd (both_ways one name v i k h.0)
   one_cause (Unbuilt Query) (Unbuilt Schema) told h k = absurd (meant_or_not k.1 h.1)
   one_cause (Unbuilt Query) (Unbuilt Query) told h k = inl refl
+
+  -- a refusal of the variables' text has its cause
+  pub text_cause : (error : AnswerError) → IsRefusedText v error → HasCause s q name v i error
+  text_cause (Variables (Read fault)) h = h
+  text_cause (Variables NotObject) h = h
+  text_cause (Unbuilt part) h = absurd h
+  text_cause Memory h = tt
+
+  -- a text that means nothing is a cause where no option is asked for
+  pub part_cause : (part : UnbuiltPart) → AsksNoOptions name v i → IsUnplainPart s q part → HasCause s q name v i (Unbuilt part)
+  part_cause Options none h = absurd h
+  part_cause Schema none h = (none, h)
+  part_cause Query none h = (none, h)
 
   -- what is asked plainly has no cause of a refusal
   pub only_memory : AsksPlainly s q name v i → (error : AnswerError) → HasCause s q name v i error → error ≡ Memory

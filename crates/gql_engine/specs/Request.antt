@@ -1,5 +1,6 @@
 -- What a JSON value asks, where it is a request, and else why it is none.
-use Rattle.std.specs.Prelude.{◌≡◌, ℕ, Bool, false, if◌then◌else◌, List, [], ◌++◌, Option, Some, None, unwrap_or, Result, Ok, Err, codes, ◌||◌, not, is_some, nat_eq, length}
+use Rattle.std.specs.Prelude.{◌≡◌, ℕ, Bool, false, if◌then◌else◌, List, [], ◌++◌, Option, Some}
+use Rattle.std.specs.Prelude.{None, unwrap_or, Result, Ok, Err, codes, ◌||◌, not, is_some, nat_eq, length}
 use Rattle.std.specs.Borrow.{Bor}
 use Rattle.std.specs.Option.{option_map, option_copied}
 use Rattle.std.specs.Str.{bytes_eq}

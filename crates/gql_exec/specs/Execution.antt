@@ -28,7 +28,8 @@ executed_on None below object = ([], [])
 executed_on (Some T) below object = below T object
 
 -- CompleteValue: a fault gives null and its error, a leaf that fits is kept, an object that fits is executed
-abbrev pub completed : {O : Type 0} → Setting O → (ObjectType → O → Executed) → Place O → Option (List ℕ) → Meaning O → Value × List GraphQLError
+abbrev pub completed : {O : Type 0} → Setting O → (ObjectType → O → Executed) → Place O → Option (List ℕ) → Meaning O
+    → Value × List GraphQLError
 completed world below place (Some text) answer = (json.Null, error_of world place text ∷ [])
 completed world below place None (gives_leaf value) = (value, [])
 completed world below place None (gives_object object) =

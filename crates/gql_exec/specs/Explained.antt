@@ -42,10 +42,12 @@ mutual
   pub data FieldsAre {O : Type 0} (world : Setting O) (errors : List GraphQLError)
       : ObjectType → O → List ResponseDataPathSegment → Selections → List (List ℕ × Value) → Type 0 where
     no_more : (T : ObjectType) (object : O) (path : List ResponseDataPathSegment) → FieldsAre world errors T object path no_fields []
-    left_out : (T : ObjectType) (object : O) (path : List ResponseDataPathSegment) (key : List ℕ) (field_name : Named) (within others : Selections) (members : List (List ℕ × Value))
+    left_out : (T : ObjectType) (object : O) (path : List ResponseDataPathSegment)
+        (key : List ℕ) (field_name : Named) (within others : Selections) (members : List (List ℕ × Value))
         → lookup (bytes_eq key) T.fields ≡ None → FieldsAre world errors T object path others members
         → FieldsAre world errors T object path (field_then key field_name within others) members
-    taken : (T : ObjectType) (object : O) (path : List ResponseDataPathSegment) (key : List ℕ) (field_name : Named) (within others : Selections) (ty : TypeRef) (value : Value) (members : List (List ℕ × Value))
+    taken : (T : ObjectType) (object : O) (path : List ResponseDataPathSegment)
+        (key : List ℕ) (field_name : Named) (within others : Selections) (ty : TypeRef) (value : Value) (members : List (List ℕ × Value))
         → lookup (bytes_eq key) T.fields ≡ Some ty → IsGood world errors (place_of world T object path key field_name within ty) value
         → FieldsAre world errors T object path others members
         → FieldsAre world errors T object path (field_then key field_name within others) ((key, value) ∷ members)

@@ -15,4 +15,10 @@ error_in sources place text = record (error_at text (field_tree place.field.now)
 
 -- the place, where its resolver answers this
 abbrev pub place_in : {O : Type 0} → FieldPlace → Meaning O → Place O
-place_in place answer = record { path = path_of place.path.now; location = (field_tree place.field.now).0.location; type = place.expected.now; within = (field_tree place.field.now).1; outcome = answer }
+place_in place answer = record {
+  path = path_of place.path.now;
+  location = (field_tree place.field.now).0.location;
+  type = place.expected.now;
+  within = (field_tree place.field.now).1;
+  outcome = answer;
+}

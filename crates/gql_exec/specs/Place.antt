@@ -33,9 +33,16 @@ pub record Place (O : Type 0) : Type 0 where
   pub outcome : Meaning O
 
 -- the place of a field of an object of the concrete type T
-abbrev pub place_of : {O : Type 0} → Setting O → ObjectType → O → List ResponseDataPathSegment → List ℕ → Named → Selections → TypeRef → Place O
+abbrev pub place_of : {O : Type 0} → Setting O → ObjectType → O → List ResponseDataPathSegment → List ℕ → Named → Selections
+    → TypeRef → Place O
 place_of world T object path key field_name below ty =
-    record { path = path ++ Field field_name ∷ []; location = field_name.location; type = ty; within = below; outcome = world.resolves world.schema T key object }
+    record {
+      path = path ++ Field field_name ∷ [];
+      location = field_name.location;
+      type = ty;
+      within = below;
+      outcome = world.resolves world.schema T key object;
+    }
 
 -- the object type that an object names as its own
 abbrev pub object_type_of : {O : Type 0} → Setting O → O → Option ObjectType

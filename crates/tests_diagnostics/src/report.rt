@@ -3,13 +3,14 @@
 use gql_diag_reports::CliReport;
 use gql_source::{FileId, SourceFile, SourceMap, SourceSpan};
 use jb_io::SureSink;
-use std::alloc::{AllocError, Global};
+use jb_text::Memory;
+use std::alloc::Global;
 use std::test::Fail;
 
 const FILE: FileId = FileId { number: 3 };
 
 /// Tells one place in the file, and three that are found nowhere.
-fn fill(report: &mut CliReport<'_>) -> Result<(), AllocError> {
+fn fill(report: &mut CliReport<'_>) -> Result<(), Memory> {
     report.with_message("old")?;
     report.with_message("m")?;
     report.with_label_opt(Some(SourceSpan::new(FILE, 0, 4)), "l")?;
@@ -20,13 +21,13 @@ fn fill(report: &mut CliReport<'_>) -> Result<(), AllocError> {
     report.with_help("h")
 }
 
-fn sources(alloc: Global) -> Result<SourceMap, AllocError> {
+fn sources(alloc: Global) -> Result<SourceMap, Memory> {
     let mut sources = SourceMap::new(alloc);
     sources.insert(FILE, SourceFile::new(alloc, "p", "type A")?)?;
     Ok(sources)
 }
 
-fn filled(alloc: Global, sources: &SourceMap) -> Result<CliReport<'_>, AllocError> {
+fn filled(alloc: Global, sources: &SourceMap) -> Result<CliReport<'_>, Memory> {
     let start = Some(SourceSpan::new(FILE, 0, 4));
     let mut report = CliReport::builder(alloc, sources, start);
     fill(&mut report)?;
@@ -55,7 +56,7 @@ fn an_empty_report_has_an_empty_message(rt: HostRuntime) -> Result<(), Fail> {
 }
 
 /// A report that was refused after its first message.
-fn refused(alloc: Global, sources: &SourceMap) -> Result<CliReport<'_>, AllocError> {
+fn refused(alloc: Global, sources: &SourceMap) -> Result<CliReport<'_>, Memory> {
     let mut report = CliReport::builder(alloc, sources, None);
     report.with_message("m")?;
     let _alloc = report.allocator();
