@@ -4,12 +4,14 @@ ghost use Rattle.std.specs.Prelude.{◌≡◌, Some, IfErr, IfOk, IsSome, codes}
 ghost use Rattle.std.specs.Map.{lookup};
 ghost use Rattle.std.specs.Str.{bytes_eq};
 ghost use Rattle.gql_source.specs.File.{is_file};
+ghost use Rattle.gql_cst.specs.Forest.{plain};
+ghost use Rattle.gql_ast.specs.Documents.{definitions};
 ghost use Rattle.gql_exec.specs.Selections.{selections_of};
 ghost use Rattle.gql_engine.specs.Meant.{IsUnread, IsUnmeantSchema, IsUnmeantQuery, OnFault, QueryMeant, ReadAs, SchemaMeant, one_file, query_sources};
 
 use gql_ast::Document;
 use gql_ast_laws::laws;
-use gql_cst::{Limits, parse_document};
+use gql_cst::{Limits, Tree, parse_document};
 use gql_cst_laws::laws as cst_laws;
 use gql_exec::{ObjectType, Schema, SelectionSet};
 use gql_plain::{NotPlain, plain_query, plain_schema};
@@ -99,8 +101,22 @@ fn document(
     if parsed.error.is_some() {
         return Err(Refused::Fault(NotPlain));
     }
+    Ok(document_of(alloc, file_id, path, text, &parsed.tree)?)
+}
+
+/// The document of a concrete tree of the text of the file.
+fn document_of(
+    alloc: Global,
+    file_id: FileId,
+    path: &str,
+    text: &str,
+    tree: &Tree,
+) -> Result<Document, Memory>
+    ensures definitions { IfOk result (λ document. document.definitions ≡ definitions text.now file_id (plain tree.now)) }
+    ensures sources { IfOk result (λ document. document.sources ≡ one_file file_id path.now text.now) }
+{
     let sources = only_file(alloc, file_id, path, text)?;
-    Ok(Document::from_cst(alloc, &parsed.tree, file_id, sources)?)
+    Document::from_cst(alloc, tree, file_id, sources)
 }
 
 /// One file alone.

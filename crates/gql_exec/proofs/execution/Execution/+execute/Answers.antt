@@ -13,7 +13,7 @@ use Rattle.gql_exec.specs.declared.selection.Field.{Field, out-Field}
 use Rattle.gql_exec.specs.Meaning.{gives_object}
 use Rattle.gql_exec.proofs.Distinct.{position-new}
 use Rattle.gql_exec.proofs.PathLemmas.{path_of-Key}
-use Rattle.gql_exec.proofs.Steps.{IsOnTheWay, leaves_out, takes, outcome_at-object, value-of_object, errors-of_object, execute-undefined, execute-defined}
+use Rattle.gql_exec.proofs.Progress.{IsOnTheWay, leaves_out, takes, outcome_at-object, value-of_object, errors-of_object, execute-undefined, execute-defined}
 use Rattle.gql_exec.proofs.Weight.{weight, within-selections, name-field, weight-field, drop-pair, value-beside}
 use Rattle.gql_exec.proofs.execution.Execution.+execute.Goals as goal
 use Rattle.gql_exec.proofs.execution.Execution.+execute.Goals.{execute_selection_set-in-Some+in_ok-value+in_ok-copy+in_ok-insert_new, execute_selection_set-in_default}

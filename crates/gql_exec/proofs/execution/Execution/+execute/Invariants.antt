@@ -5,7 +5,7 @@ use Rattle.gql_exec.specs.Path.{path_of}
 use Rattle.gql_exec.specs.Place.{setting}
 use Rattle.gql_exec.specs.Execution.{execute}
 use Rattle.gql_exec.proofs.Weight.{weight}
-use Rattle.gql_exec.proofs.Steps.{IsOnTheWay}
+use Rattle.gql_exec.proofs.Progress.{IsOnTheWay}
 use Rattle.gql_exec.proofs.execution.Execution.+execute.Given as goal
 
 abbrev pub decreases-complete_object : goal.decreases-complete_object
