@@ -10,12 +10,19 @@ use Rattle.gql_exec.specs.declared.schema.TypeRef.{TypeRef}
 use Rattle.gql_exec.specs.declared.schema.ObjectType.{ObjectType}
 use Rattle.gql_response.specs.declared.graphql_error.GraphQLError.{GraphQLError}
 use Rattle.gql_response.specs.declared.path.ResponseDataPathSegment.{ResponseDataPathSegment}
-use Rattle.gql_exec.specs.declared.selection.Field.{Field}
+use Rattle.gql_response.specs.declared.path.ResponseDataPathSegment.TheVariants.{Field as Step}
+use Rattle.std.specs.Borrow.{Bor}
+use Rattle.gql_ast_base.specs.Names.{Named}
+use Rattle.gql_exec.specs.declared.path.Path.{Path}
+use Rattle.gql_exec.specs.declared.path.Path.TheVariants.{Key}
+use Rattle.gql_exec.specs.declared.selection.Field.{Field, out-Field}
+use Rattle.gql_exec.specs.Path.{path_of}
+use Rattle.gql_exec.proofs.PathLemmas.{path_of-Key}
 use Rattle.gql_exec.specs.Meaning.{Meaning, gives_object}
 use Rattle.gql_exec.specs.Selections.{Selections, selections_of, field_tree}
 use Rattle.gql_exec.specs.Place.{Setting, Place, place_of, object_type_of, fault_at}
 use Rattle.gql_exec.specs.Execution.{Executed, completed, execute, outcome_at}
-use Rattle.gql_exec.proofs.Weight.{drop-pair}
+use Rattle.gql_exec.proofs.Weight.{drop-pair, name-field}
 use Rattle.gql_exec.proofs.Distinct.{distinct-without, keys_push}
 
 -- the members and errors so far, with what is left to come, are all of them; no key that is left is there already
@@ -74,6 +81,32 @@ module _ {O : Type 0} (world : Setting O) where
       → outcome_at world place ≡ (json.Object made.0, made.1) → after ≡ before ++ made.1 → after ≡ before ++ (outcome_at world place).1
   errors-of_object place made before after outcome same =
       same ∙ ap (λ (es : List GraphQLError). before ++ es) (sym (ap (λ (o : Value × List GraphQLError). o.1) outcome))
+
+  -- what a field's place makes, by the path and the names that the code has for it
+  spelled : (T : ObjectType) (object : O) (path below : List ResponseDataPathSegment) (key told : List ℕ) (f : Field) (ty : TypeRef)
+      → below ≡ path ++ Step (out-Field f).name ∷ [] → told ≡ key
+      → outcome_at world (record { path = below; location = (field_tree f).0.location; type = ty; within = (field_tree f).1; outcome = world.resolves world.schema T told object })
+      ≡ outcome_at world (place_of world T object path key (field_tree f).0 (field_tree f).1 ty)
+  spelled T object path below key told f ty is same =
+      ap (λ (b : List ResponseDataPathSegment). outcome_at world (record { path = b; location = (field_tree f).0.location; type = ty; within = (field_tree f).1; outcome = world.resolves world.schema T told object }))
+      (is ∙ ap (λ (n : Named). path ++ Step n ∷ []) (sym (name-field f)))
+      ∙ ap (λ (k : List ℕ). outcome_at world (place_of world T object path k (field_tree f).0 (field_tree f).1 ty)) same
+
+  pub value-spelled : (T : ObjectType) (object : O) (parent : Bor Path) (name : Bor Named) (key told : List ℕ) (f : Field) (ty : TypeRef) (value : Value)
+      → value ≡ (outcome_at world (record { path = path_of (Key parent name); location = (field_tree f).0.location; type = ty; within = (field_tree f).1; outcome = world.resolves world.schema T told object })).0
+      → name.now ≡ (out-Field f).name → told ≡ key
+      → value ≡ (outcome_at world (place_of world T object (path_of parent.now) key (field_tree f).0 (field_tree f).1 ty)).0
+  value-spelled T object parent name key told f ty value is named same =
+      is ∙ ap (λ (o : Value × List GraphQLError). o.0)
+      (spelled T object (path_of parent.now) (path_of (Key parent name)) key told f ty (path_of-Key parent name ∙ ap (λ (n : Named). path_of parent.now ++ Step n ∷ []) named) same)
+
+  pub errors-spelled : (T : ObjectType) (object : O) (parent : Bor Path) (name : Bor Named) (key told : List ℕ) (f : Field) (ty : TypeRef) (before after : List GraphQLError)
+      → after ≡ before ++ (outcome_at world (record { path = path_of (Key parent name); location = (field_tree f).0.location; type = ty; within = (field_tree f).1; outcome = world.resolves world.schema T told object })).1
+      → name.now ≡ (out-Field f).name → told ≡ key
+      → after ≡ before ++ (outcome_at world (place_of world T object (path_of parent.now) key (field_tree f).0 (field_tree f).1 ty)).1
+  errors-spelled T object parent name key told f ty before after is named same =
+      is ∙ ap (λ (o : Value × List GraphQLError). before ++ o.1)
+      (spelled T object (path_of parent.now) (path_of (Key parent name)) key told f ty (path_of-Key parent name ∙ ap (λ (n : Named). path_of parent.now ++ Step n ∷ []) named) same)
 
   -- a key that the type doesn't define adds nothing
   pub execute-undefined : (T : ObjectType) (object : O) (path : List ResponseDataPathSegment) (fs : List (List ℕ × Field)) (i : ℕ) (key : List ℕ) (f : Field)

@@ -12,9 +12,8 @@ use Rattle.jb_tree.specs.declared.value.Value.{Value}
 use Rattle.gql_exec.specs.declared.selection.Field.{Field, out-Field}
 use Rattle.gql_exec.specs.Meaning.{gives_object}
 use Rattle.gql_exec.proofs.Distinct.{position-new}
-use Rattle.gql_exec.proofs.PathLemmas.{path_of-Key}
-use Rattle.gql_exec.proofs.Progress.{IsOnTheWay, leaves_out, takes, outcome_at-object, value-of_object, errors-of_object, execute-undefined, execute-defined}
-use Rattle.gql_exec.proofs.Weight.{weight, within-selections, name-field, weight-field, drop-pair, value-beside}
+use Rattle.gql_exec.proofs.Progress.{IsOnTheWay, leaves_out, takes, outcome_at-object, value-of_object, errors-of_object, execute-undefined, execute-defined, value-spelled, errors-spelled}
+use Rattle.gql_exec.proofs.Weight.{weight, within-selections, weight-field, drop-pair, value-beside}
 use Rattle.gql_exec.proofs.execution.Execution.+execute.Goals as goal
 use Rattle.gql_exec.proofs.execution.Execution.+execute.Goals.{execute_selection_set-in-Some+in_ok-value+in_ok-copy+in_ok-insert_new, execute_selection_set-in_default}
 
@@ -84,8 +83,8 @@ execute_selection_set-loop-index-preserved g t c =
           let so_far : IsOnTheWay left all c.loop-index.members c.loop-index.errors c.args.errors.now (key ∷ keys) =
           subst (λ l. IsOnTheWay left all c.loop-index.members c.loop-index.errors c.args.errors.now (keys_of l)) (drop-pair fs i key f c.key_at-key.ensures w.value_at-field.ensures) c.loop-index.invariant in
           let same = execute-defined world T object path fs i key f ty c.key_at-key.ensures w.value_at-field.ensures defined in
-          let value_is : w.in_ok-value.value ≡ made.0 = rw (path_of-Key, ← (name-field f), c.as_str-name.ensures) at w.in_ok-value.ensures.value in
-          let listed_is : w.execute_field.new.errors ≡ c.loop-index.errors ++ made.1 = rw (path_of-Key, ← (name-field f), c.as_str-name.ensures) at w.in_ok-value.ensures.listed in
+          let value_is : w.in_ok-value.value ≡ made.0 = value-spelled world T object _ _ key _ f ty _ w.in_ok-value.ensures.value refl c.as_str-name.ensures in
+          let listed_is : w.execute_field.new.errors ≡ c.loop-index.errors ++ made.1 = errors-spelled world T object _ _ key _ f ty _ _ w.in_ok-value.ensures.listed refl c.as_str-name.ensures in
           takes left rest all c.loop-index.members c.loop-index.errors c.args.errors.now key keys made so_far same _ _
           (w.members-is ∙ w.in_ok-insert_new.ensures.pairs ∙ ap (λ k. c.loop-index.members ++ (k, w.in_ok-value.value) ∷ []) w.in_ok-copy.ensures
           ∙ ap (λ (v : Value). c.loop-index.members ++ (key, v) ∷ []) value_is)
