@@ -134,7 +134,8 @@ fn answer_or_refuse<O: ObjectValue>(
     ensures answered { IfOk result (Answered O.type_of O.resolves root.now schema.now query.now) }
     ensures refused { IfErr result (HasCause schema.now query.now operation_name.entry variables.now introspection) }
 {
-    if asks_options(alloc, operation_name, variables, introspection)? {
+    let asks = asks_options(alloc, operation_name, variables, introspection)?;
+    if asks {
         return Err(AnswerError::Unbuilt {
             part: UnbuiltPart::Options,
         });
