@@ -13,4 +13,4 @@ abbrev pub invariant-selections_on-loop-selection : goal.invariant-selections_on
 invariant-selections_on-loop-selection l =
     (fields_on l.self.schema.now l.object_type (selected l.selections)
     ≡ followed (viewed l.set) (fields_on l.self.schema.now l.object_type (selected (drop l.selection-index l.selections))))
-    × (l.cursor ≡) × IsDistinct bytes_eq (keys_of l.set)
+    × IsDistinct bytes_eq (keys_of l.set)
