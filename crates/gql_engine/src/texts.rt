@@ -48,7 +48,7 @@ pub(crate) fn schema(alloc: Global, text: &str) -> Result<Schema, Refused<NotPla
 
 /// What a text asks of a schema: selections, and the file that their places are in.
 #[derive(Drop)]
-pub(crate) struct Query {
+pub(crate) struct PlainQuery {
     pub(crate) selections: SelectionSet,
     pub(crate) sources: SourceMap,
 }
@@ -63,7 +63,7 @@ pub(crate) fn query(
     schema: &Schema,
     root_type: &ObjectType,
     text: &str,
-) -> Result<Query, Refused<NotPlain>>
+) -> Result<PlainQuery, Refused<NotPlain>>
     ensures meant { IfOk result (λ query. QueryMeant schema.now root_type.now text.now (selections_of query.selections)) }
     ensures sources { IfOk result (λ query. query.sources ≡ query_sources text.now) }
     ensures unmeant { IfErr result (λ refused. OnFault refused (IsUnmeantQuery schema.now root_type.now text.now)) }
@@ -74,7 +74,7 @@ pub(crate) fn query(
         definitions,
     } = document(alloc, QUERY_FILE, "query.graphql", text)?;
     let selections = plain_query(alloc, schema, root_type, &definitions)?;
-    Ok(Query {
+    Ok(PlainQuery {
         selections,
         sources,
     })
