@@ -1,5 +1,5 @@
 -- A plain request is refused for no cause.
-use Rattle.std.proofs.Common.{◌≡◌, ◌≢◌, ◌≤◌, ◌<◌, ◌⊎◌, ℕ, zero, suc, Bool, true, false, List, [], ◌++◌, length, Option, Some, None, Result, Ok, Err, IfOk, IfErr, refl, ◌∙◌, sym, ap, subst, inl, inr, arith, length-append, append-nil}
+use Rattle.std.proofs.Common.{◌≡◌, ◌≢◌, ◌≤◌, ◌<◌, ◌⊎◌, ℕ, zero, suc, Bool, true, false, List, [], ◌++◌, length, Option, Some, None, Result, Ok, Err, IfOk, IfErr, IsErrAnd, refl, ◌∙◌, sym, ap, subst, inl, inr, arith, length-append, append-nil}
 use Rattle.std.specs.Prelude.{OnOk}
 use Rattle.std.specs.Borrow.{Bor}
 use Rattle.std.specs.Option.{IsSomeAnd}
@@ -59,6 +59,25 @@ both_ways one name variables introspection h k =
     let no : are_options name k.members introspection ≡ false = k.asked in
     cc (e, yes, no)
 
+module _ (s q : List ℕ) (name : Option (Bor (List ℕ))) (v : List ℕ) (i : Bool) where
+  -- a refusal of the variables' text has its cause
+  text_cause : (error : AnswerError) → IsRefusedText v error → HasCause s q name v i error
+  text_cause (Variables (Read fault)) h = h
+  text_cause (Variables NotObject) h = h
+  text_cause (Unbuilt part) h = absurd h
+  text_cause Memory h = tt
+
+  pub handed_cause : {A : Type 0} (result : Result A AnswerError) (error : AnswerError) → IsErrAnd result (λ e. e ≡ error) → IsRefusedText v error
+      → IfErr result (HasCause s q name v i)
+  handed_cause (Ok bytes) error is h = absurd is
+  handed_cause (Err e) error is h = subst (λ (x : AnswerError). HasCause s q name v i x) (sym is) (text_cause error h)
+
+  -- a text that means nothing is a cause where no option is asked for
+  pub part_cause : (part : UnbuiltPart) → AsksNoOptions name v i → IsUnplainPart s q part → HasCause s q name v i (Unbuilt part)
+  part_cause Options none h = absurd h
+  part_cause Schema none h = (none, h)
+  part_cause Query none h = (none, h)
+
 module _ (one : OneValue) (one_fault : OneFault) (not_both : NotBoth) (s q : List ℕ) (name : Option (Bor (List ℕ))) (v : List ℕ) (i : Bool) where
   unread_object : (fault : ReadFault) (xs : Members) → JsonFault v fault → IsObjectText v xs → ⊥
   unread_object fault xs h k = not_both v k.value fault k.read h
@@ -97,19 +116,6 @@ module _ (one : OneValue) (one_fault : OneFault) (not_both : NotBoth) (s q : Lis
   one_cause (Unbuilt Query) (Unbuilt Schema) told h k = absurd (meant_or_not k.1 h.1)
   one_cause (Unbuilt Query) (Unbuilt Query) told h k = inl refl
 
-  -- a refusal of the variables' text has its cause
-  pub text_cause : (error : AnswerError) → IsRefusedText v error → HasCause s q name v i error
-  text_cause (Variables (Read fault)) h = h
-  text_cause (Variables NotObject) h = h
-  text_cause (Unbuilt part) h = absurd h
-  text_cause Memory h = tt
-
-  -- a text that means nothing is a cause where no option is asked for
-  pub part_cause : (part : UnbuiltPart) → AsksNoOptions name v i → IsUnplainPart s q part → HasCause s q name v i (Unbuilt part)
-  part_cause Options none h = absurd h
-  part_cause Schema none h = (none, h)
-  part_cause Query none h = (none, h)
-
   -- what is asked plainly has no cause of a refusal
   pub only_memory : AsksPlainly s q name v i → (error : AnswerError) → HasCause s q name v i error → error ≡ Memory
   only_memory p (Variables (Read fault)) h = absurd (unread_object fault p.no_options.members h p.no_options.object)
@@ -123,15 +129,16 @@ module _ (one : OneValue) (one_fault : OneFault) (not_both : NotBoth) (s q : Lis
   plain_result (Ok bytes) h p = tt
   plain_result (Err error) h p = only_memory p error h
 
-  same_error : {A : Type 0} (error other : AnswerError) → (error ≡ other) ⊎ (other ≡ Memory) → (Err {A} other ≡ Err error) ⊎ (Err {A} other ≡ Err Memory)
-  same_error error other (inl e) = inl (ap Err (sym e))
-  same_error error other (inr e) = inr (ap Err e)
+  same_error : {A : Type 0} (result : Result A AnswerError) (error other : AnswerError) → result ≡ Err other → (error ≡ other) ⊎ (other ≡ Memory)
+      → (result ≡ Err error) ⊎ (result ≡ Err Memory)
+  same_error result error other is (inl e) = inl (is ∙ ap Err (sym e))
+  same_error result error other is (inr e) = inr (is ∙ ap Err e)
 
   -- where a cause holds its refusal comes, unless memory fails
   pub exact_result : {A : Type 0} (result : Result A AnswerError) → IfOk result (λ _. AsksPlainly s q name v i) → IfErr result (HasCause s q name v i)
       → (error : AnswerError) → error ≢ Memory → HasCause s q name v i error → (result ≡ Err error) ⊎ (result ≡ Err Memory)
   exact_result (Ok bytes) asks refused error told h = absurd (told (only_memory asks error h))
-  exact_result (Err other) asks refused error told h = same_error error other (one_cause error other told h refused)
+  exact_result (Err other) asks refused error told h = same_error (Err other) error other refl (one_cause error other told h refused)
 
   -- what is answered is asked plainly
   pub plainly : {A : Type 0} (result : Result A AnswerError) (B : A → Type 0) → ((a : A) → B a → PlainTexts s q) → OnOk result (AsksNoOptions name v i) → IfOk result B
