@@ -1,3 +1,4 @@
 mod Orders
 mod Names
 mod OneSort
+mod OwnFiles

@@ -6,9 +6,10 @@ use Rattle.std.specs.Cmp.Lexicographic.{slice_cmp}
 use Rattle.gql_source.specs.Span.{Span}
 use Rattle.gql_diag_messages.specs.declared.details.RuleFault.{RuleFault}
 use Rattle.gql_diag_messages.specs.declared.details.Details.{Details}
-use Rattle.gql_diag_messages.specs.declared.details.Details.TheVariants.{ParserLimit, SyntaxError, SchemaBuildError, ExecutableBuildError, CompilerDiagnostic, RecursionLimitError}
+use Rattle.gql_diag_messages.specs.declared.details.Details.TheVariants.{ParserLimit, SyntaxError, SchemaBuildError}
+use Rattle.gql_diag_messages.specs.declared.details.Details.TheVariants.{ExecutableBuildError, CompilerDiagnostic, RecursionLimitError}
 use Rattle.gql_diag_messages.specs.declared.diagnostic_data.DiagnosticData.{DiagnosticData}
-use Rattle.gql_diag_messages.specs.Row.{row}
+use Rattle.gql_diag_messages.specs.RuleText.{row}
 
 -- no place comes first, and then places go by file and by offset
 abbrev pub place_key : Option Span → List ℕ

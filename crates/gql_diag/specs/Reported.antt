@@ -14,7 +14,8 @@ use Rattle.gql_diag_reports.specs.Report.{Report, labelled}
 -- the lines and columns of both ends of a location, where they are found in the files
 abbrev pub range_in : Option Span → Files → Option (Range LineColumn)
 range_in None sources = None
-range_in (Some span) sources = option_and_then (λ file. line_column_range_within file.source_text span.offset span.end_offset) (lookup (is_file span.file_id) sources)
+range_in (Some span) sources =
+    option_and_then (λ file. line_column_range_within file.source_text span.offset span.end_offset) (lookup (is_file span.file_id) sources)
 
 -- a report that says this and no more
 abbrev pub message_alone : Files → List ℕ → Report

@@ -5,11 +5,12 @@ ghost use Rattle.gql_response.specs.ErrorAt.{error_at};
 ghost use Rattle.gql_diag.specs.Reported.{compat_or_message, message_alone, range_in};
 
 use crate::to_cli_report::ToCliReport;
-use gql_diag_reports::CliReport;
 use gql_diag_messages::DiagnosticData;
+use gql_diag_reports::CliReport;
 use gql_response::GraphQLError;
 use gql_source::{LineColumn, SourceMap};
-use std::alloc::{AllocError, Global};
+use jb_text::Memory;
+use std::alloc::Global;
 use std::ops::Range;
 
 /// A diagnostic, and the files that it is of.
@@ -34,7 +35,7 @@ impl<'s, T: ToCliReport> Diagnostic<'s, T> {
 
     /// The error of a response: the message, and the start of the place where that is found, without a path and
     /// extensions. `Err` only for want of memory.
-    pub fn to_json(&self, alloc: Global) -> Result<GraphQLError, AllocError>
+    pub fn to_json(&self, alloc: Global) -> Result<GraphQLError, Memory>
         ensures { IfOk result (λ error. error ≡ error_at (T.text self.now.error.now) (T.place self.now.error.now) self.now.sources.now) }
     {
         let message = self.error.message(alloc)?;
@@ -42,7 +43,7 @@ impl<'s, T: ToCliReport> Diagnostic<'s, T> {
     }
 
     /// A report of it: its message, and what it adds. `Err` only for want of memory.
-    pub fn to_report(&self, alloc: Global) -> Result<CliReport<'s>, AllocError>
+    pub fn to_report(&self, alloc: Global) -> Result<CliReport<'s>, Memory>
         ensures { IfOk result (λ report. report ≡ T.reported self.now.error.now (message_alone self.now.sources.now (T.text self.now.error.now))) }
     {
         self.error.to_report(alloc, self.sources)
@@ -52,7 +53,7 @@ impl<'s, T: ToCliReport> Diagnostic<'s, T> {
 impl<'s> Diagnostic<'s, DiagnosticData> {
     /// The error of a response, with what the reference implementation says of it in place of the message where it has
     /// words for that. `Err` only for want of memory.
-    pub fn unstable_to_json_compat(&self, alloc: Global) -> Result<GraphQLError, AllocError>
+    pub fn unstable_to_json_compat(&self, alloc: Global) -> Result<GraphQLError, Memory>
         ensures { IfOk result (λ error. error ≡ error_at (compat_or_message self.now.error.now) self.now.error.now.location self.now.sources.now) }
     {
         let message = match self.error.unstable_compat_message(alloc)? {

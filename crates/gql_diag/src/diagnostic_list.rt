@@ -10,7 +10,8 @@ use crate::diagnostics::Diagnostics;
 use crate::order::{sort_by_place, sort_in_order};
 use gql_diag_messages::DiagnosticData;
 use gql_source::SourceMap;
-use std::alloc::{AllocError, Global};
+use jb_text::Memory;
+use std::alloc::Global;
 use std::marker::Model;
 
 /// Diagnostics, and the files that they are of.
@@ -43,7 +44,7 @@ impl DiagnosticList {
     }
 
     /// Adds a diagnostic at the end. Refused for want of memory, the list is as it was.
-    pub fn push(&mut self, item: DiagnosticData) -> Result<(), AllocError>
+    pub fn push(&mut self, item: DiagnosticData) -> Result<(), Memory>
         ensures pushed { OnOk result (self.new ≡ record self.old { items = self.old.items ++ item ∷ [] }) }
         ensures unchanged { OnErr result (self.new ≡ self.old) }
     {
@@ -55,7 +56,7 @@ impl DiagnosticList {
     /// by the rows of the tables of rules, then by their names as bytes, then by the place of the other definition or
     /// field. A text that is no sentence, and a limit of the parser, come before all rows, and a chain that is too
     /// long behind them. Ties stay as they stand. Refused for want of memory, nothing is moved.
-    pub fn sort(&mut self) -> Result<(), AllocError>
+    pub fn sort(&mut self) -> Result<(), Memory>
         ensures sorted { OnOk result (IsStableSort list_order self.old.items self.new.items) }
         ensures sources { self.new.sources ≡ self.old.sources }
         ensures unchanged { OnErr result (self.new ≡ self.old) }
@@ -111,7 +112,7 @@ impl DiagnosticList {
     /// Takes the diagnostics and the files of another list too. All diagnostics are then sorted by their places, by
     /// file and offset, those without a place first, where at one place they stay as they stand, its own before the
     /// others. Where both have a file of one number, its own stays. Refused for want of memory, the list is as it was.
-    pub fn merge(&mut self, other: DiagnosticList) -> Result<(), AllocError>
+    pub fn merge(&mut self, other: DiagnosticList) -> Result<(), Memory>
         ensures items { OnOk result (IsStableSort by_place (self.old.items ++ other.items) self.new.items) }
         ensures sources { OnOk result (self.new.sources ≡ joined self.old.sources other.sources) }
         ensures unchanged { OnErr result (self.new ≡ self.old) }
@@ -130,7 +131,7 @@ impl DiagnosticList {
 }
 
 /// Puts the others behind the items, and sorts all by place. Refused for want of memory, the items are as they were.
-fn join(items: &mut Vec<DiagnosticData>, mut others: Vec<DiagnosticData>) -> Result<(), AllocError>
+fn join(items: &mut Vec<DiagnosticData>, mut others: Vec<DiagnosticData>) -> Result<(), Memory>
     ensures sorted { OnOk result (IsStableSort by_place (items.old.items ++ others.items) items.new.items) }
     ensures unchanged { OnErr result (items.new.items ≡ items.old.items) }
 {

@@ -21,8 +21,8 @@ pub use diagnostics::Diagnostics;
 pub use gql_diag_guards::{
     DepthCounter, DepthGuard, RecursionGuard, RecursionLimitError, RecursionStack,
 };
-pub use gql_diag_reports::CliReport;
 pub use gql_diag_messages::{Details, DiagnosticData, Rule, RuleFault};
+pub use gql_diag_reports::CliReport;
 pub use gql_response::{
     ExecutionResponse, GraphQLError, JsonMap, JsonValue, ResponseDataPathSegment, ResponseFault,
 };

@@ -8,15 +8,14 @@ ghost use Rattle.gql_diag.specs.List.{IsStableSort};
 
 use gql_diag_messages::{Details, DiagnosticData};
 use gql_source::SourceSpan;
-use jb_text::Text;
-use std::alloc::AllocError;
+use jb_text::{Memory, Text};
 use std::cmp::Ordering;
 
 /// The row of what is not a broken rule but a chain that is too long, behind all rows of rules.
 const LAST_ROW: usize = 67;
 
 /// Sorts by place; what is at one place stays as it stands. Refused for want of memory, nothing is moved.
-pub(crate) fn sort_by_place(items: &mut Vec<DiagnosticData>) -> Result<(), AllocError>
+pub(crate) fn sort_by_place(items: &mut Vec<DiagnosticData>) -> Result<(), Memory>
     ensures sorted { OnOk result (IsStableSort by_place items.old.items items.new.items) }
     ensures unchanged { OnErr result (items.new.items ≡ items.old.items) }
 {
@@ -25,7 +24,7 @@ pub(crate) fn sort_by_place(items: &mut Vec<DiagnosticData>) -> Result<(), Alloc
 }
 
 /// Sorts by place, row, names and other place; ties stay as they stand. Refused for want of memory, nothing is moved.
-pub(crate) fn sort_in_order(items: &mut Vec<DiagnosticData>) -> Result<(), AllocError>
+pub(crate) fn sort_in_order(items: &mut Vec<DiagnosticData>) -> Result<(), Memory>
     ensures sorted { OnOk result (IsStableSort list_order items.old.items items.new.items) }
     ensures unchanged { OnErr result (items.new.items ≡ items.old.items) }
 {

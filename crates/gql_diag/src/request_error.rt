@@ -5,8 +5,8 @@ ghost use Rattle.gql_diag.specs.RequestFault.{request_error, suspected_bug};
 
 use gql_response::{GraphQLError, JsonMap, JsonValue};
 use gql_source::{SourceMap, SourceSpan};
-use jb_text::{ByteString, Text};
-use std::alloc::{AllocError, Global};
+use jb_text::{ByteString, Memory, Text};
+use std::alloc::Global;
 
 /// Why a request gets no response: what is wrong, where in the document, and whether that points to a fault of
 /// validation rather than of the request.
@@ -40,7 +40,7 @@ impl RequestError {
         &self,
         alloc: Global,
         sources: &SourceMap,
-    ) -> Result<GraphQLError, AllocError>
+    ) -> Result<GraphQLError, Memory>
         ensures { IfOk result (λ error. error ≡ request_error self.now sources.now) }
     {
         let mut error = GraphQLError::new(alloc, self.message.as_str(), self.location, sources)?;
@@ -53,7 +53,7 @@ impl RequestError {
 }
 
 /// The extensions of an error that points to a fault of validation. `Err` only for want of memory.
-fn suspected_bug(alloc: Global) -> Result<JsonMap, AllocError>
+fn suspected_bug(alloc: Global) -> Result<JsonMap, Memory>
     ensures { IfOk result (λ extensions. extensions ≡ suspected_bug) }
 {
     let mut extensions = JsonMap::new(alloc);

@@ -7,11 +7,11 @@ ghost use Rattle.gql_diag_messages.specs.Details.{message_of};
 ghost use Rattle.gql_diag.specs.Reported.{data_reported, message_alone};
 
 use crate::diagnostic::Diagnostic;
-use gql_diag_reports::CliReport;
 use gql_diag_messages::DiagnosticData;
+use gql_diag_reports::CliReport;
 use gql_source::{SourceMap, SourceSpan};
-use jb_text::Text;
-use std::alloc::{AllocError, Global};
+use jb_text::{Memory, Text};
+use std::alloc::Global;
 
 /// What can be reported on the command line: it has a place, a message, and labels.
 pub trait ToCliReport {
@@ -27,11 +27,11 @@ pub trait ToCliReport {
         ensures { result ≡ place self.now };
 
     /// What is said to people. `Err` only for want of memory.
-    fn message(&self, alloc: Global) -> Result<Text, AllocError>
+    fn message(&self, alloc: Global) -> Result<Text, Memory>
         ensures { IfOk result (λ message. message ≡ text self.now) };
 
     /// Adds its labels, its help and its note to a report. `Err` only for want of memory, now or in an earlier call.
-    fn report(&self, report: &mut CliReport<'_>) -> Result<(), AllocError>
+    fn report(&self, report: &mut CliReport<'_>) -> Result<(), Memory>
         ensures added { OnOk result (report.new ≡ reported self.now report.old) }
         ensures refused { OnErr result (report.new.refused ≡ true) };
 
@@ -40,7 +40,7 @@ pub trait ToCliReport {
         &self,
         alloc: Global,
         sources: &'s SourceMap,
-    ) -> Result<CliReport<'s>, AllocError>
+    ) -> Result<CliReport<'s>, Memory>
         ensures { IfOk result (λ report. report ≡ reported self.now (message_alone sources.now (text self.now))) }
     {
         let mut report = CliReport::builder(alloc, sources, self.location());
@@ -75,12 +75,12 @@ impl ToCliReport for DiagnosticData {
         self.location
     }
 
-    fn message(&self, alloc: Global) -> Result<Text, AllocError> {
+    fn message(&self, alloc: Global) -> Result<Text, Memory> {
         self.details.message(alloc)
     }
 
     /// A label at its place, and `previous definition here` at the place of the other definition or field.
-    fn report(&self, report: &mut CliReport<'_>) -> Result<(), AllocError> {
+    fn report(&self, report: &mut CliReport<'_>) -> Result<(), Memory> {
         match self.details.label(report.allocator()) {
             Ok(label) => report.with_label_opt(self.location, label.as_str())?,
             Err(want) => {
@@ -103,11 +103,11 @@ impl<T: ToCliReport> ToCliReport for &T {
         (**self).location()
     }
 
-    fn message(&self, alloc: Global) -> Result<Text, AllocError> {
+    fn message(&self, alloc: Global) -> Result<Text, Memory> {
         (**self).message(alloc)
     }
 
-    fn report(&self, report: &mut CliReport<'_>) -> Result<(), AllocError> {
+    fn report(&self, report: &mut CliReport<'_>) -> Result<(), Memory> {
         (**self).report(report)
     }
 }

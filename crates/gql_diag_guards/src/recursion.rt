@@ -7,8 +7,8 @@ ghost use Rattle.gql_diag_guards.specs.Stack.{popped, with_name};
 
 use crate::depth::{DEFAULT_LIMIT, RecursionLimitError};
 use gql_ast_base::{Copying, Name};
-use jb_text::Refused;
-use std::alloc::{AllocError, Global};
+use jb_text::{Memory, Refused};
+use std::alloc::Global;
 use std::marker::Model;
 
 /// The names that a recursion is in, with a limit.
@@ -51,7 +51,7 @@ impl RecursionStack {
     }
 
     /// The root alone, which counts as a name, and a limit of 32. `Err` only for want of memory.
-    pub fn with_root(alloc: Global, root: Name) -> Result<RecursionStack, AllocError>
+    pub fn with_root(alloc: Global, root: Name) -> Result<RecursionStack, Memory>
         ensures { IfOk result (λ stack. stack ≡ record { names = root ∷ []; limit = 32 }) }
     {
         let mut names = Vec::new(alloc);
@@ -114,7 +114,7 @@ impl RecursionStack {
         Ok(count)
     }
 
-    fn add(&mut self, name: &Name) -> Result<(), AllocError>
+    fn add(&mut self, name: &Name) -> Result<(), Memory>
         ensures added { OnOk result (self.new ≡ with_name name.now self.old) }
         ensures unchanged { OnErr result (self.new ≡ self.old) }
     {

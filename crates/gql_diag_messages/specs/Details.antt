@@ -5,11 +5,11 @@ use Rattle.gql_diag_messages.specs.declared.rule.Rule.{Rule}
 use Rattle.gql_diag_messages.specs.declared.rule.Rule.TheVariants.{UndefinedRootOperation}
 use Rattle.gql_diag_messages.specs.declared.details.RuleFault.{RuleFault}
 use Rattle.gql_diag_messages.specs.declared.details.Details.{Details}
-use Rattle.gql_diag_messages.specs.declared.details.Details.TheVariants.{ParserLimit, SyntaxError, SchemaBuildError, ExecutableBuildError, CompilerDiagnostic, RecursionLimitError}
+use Rattle.gql_diag_messages.specs.declared.details.Details.TheVariants.{ParserLimit, SyntaxError, SchemaBuildError}
+use Rattle.gql_diag_messages.specs.declared.details.Details.TheVariants.{ExecutableBuildError, CompilerDiagnostic, RecursionLimitError}
 use Rattle.gql_diag_messages.specs.Filled.{filled}
-use Rattle.gql_diag_messages.specs.RuleName.{rule_name}
-use Rattle.gql_diag_messages.specs.Message.{message_pattern}
-use Rattle.gql_diag_messages.specs.CompatMessage.{compat_pattern}
+use Rattle.gql_diag_messages.specs.NamedType.{compat_names}
+use Rattle.gql_diag_messages.specs.RuleText.{rule_name, message_pattern, compat_pattern}
 
 -- the message of a broken rule, with the names of what broke it
 abbrev pub fault_message : RuleFault → List ℕ
@@ -17,7 +17,8 @@ fault_message fault = filled (message_pattern fault.rule) fault.names
 
 -- the same in the words of the reference implementation, where it has any
 abbrev pub fault_compat : RuleFault → Option (List ℕ)
-fault_compat fault = option_map (λ pattern. filled pattern fault.names) (compat_pattern fault.rule fault.names)
+fault_compat fault =
+    option_map (λ pattern. filled pattern (compat_names fault.rule fault.names)) (compat_pattern fault.rule fault.names)
 
 -- what a report says at the place of a broken rule
 abbrev pub label_pattern : Rule → List ℕ

@@ -1,5 +1,6 @@
 -- Texts with places for names: `{0}` stands for the first name, `{1}` for the second, and so on.
-use Rattle.std.specs.Prelude.{ℕ, zero, suc, ◌-◌, Bool, ◌&&◌, ◌==◌, if◌then◌else◌, List, [], ◌∷◌, ◌++◌, length, slice_index, slice_index_or, Option, Some, None, encode_utf8}
+use Rattle.std.specs.Prelude.{ℕ, zero, suc, ◌-◌, Bool, ◌&&◌, ◌==◌, if◌then◌else◌, List}
+use Rattle.std.specs.Prelude.{[], ◌∷◌, ◌++◌, length, slice_index, slice_index_or, Option, Some, None, encode_utf8}
 use Rattle.std.specs.Char.{is_ascii_digit}
 
 -- the name of this number from 0 on, or the empty text where there is none
@@ -16,7 +17,8 @@ is_directive names = slice_index (name_at names 0) 0 == 64
 
 -- which name belongs here, where a place for one begins: a digit in braces
 abbrev pub place_for : List ℕ → Option ℕ
-place_for (open_brace ∷ digit ∷ close_brace ∷ rest) = if (open_brace == 123) && is_ascii_digit digit && (close_brace == 125) then Some (digit - 48) else None
+place_for (open_brace ∷ digit ∷ close_brace ∷ rest) =
+    if (open_brace == 123) && is_ascii_digit digit && (close_brace == 125) then Some (digit - 48) else None
 place_for _ = None
 
 -- What is written at one byte, and how many bytes behind it are done with that.

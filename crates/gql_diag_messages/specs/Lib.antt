@@ -1,6 +1,4 @@
 pub mod Filled
-pub mod Row
-pub mod RuleName
-pub mod Message
-pub mod CompatMessage
+pub mod RuleText
+pub mod NamedType
 pub mod Details

@@ -1,14 +1,17 @@
 //! What a diagnostic is about, and what is said of it.
 
-ghost use Rattle.std.specs.Prelude.{◌≡◌, ◌++◌, IfOk};
+ghost use Rattle.std.specs.Prelude.{◌≡◌, ◌++◌, [], ◌∷◌, IfOk};
 ghost use Rattle.std.specs.Option.{option_copied};
 ghost use Rattle.gql_diag_messages.specs.Details.{fault_message, fault_compat, fault_label, label_pattern, fault_of, label_of, other_of, message_of, compat_of, error_name};
+ghost use Rattle.gql_diag_messages.specs.Filled.{filled as filled_pattern, name_at as name_of};
+ghost use Rattle.gql_diag_messages.specs.NamedType.{compat_names, named_type as named_type_of};
 
-use crate::filled::filled;
+use crate::filled::{filled, name_at};
+use crate::named_type::named_type;
 use crate::rule::Rule;
 use gql_source::SourceSpan;
-use jb_text::{Listed, Text};
-use std::alloc::{AllocError, Global};
+use jb_text::{Listed, Memory, Text};
+use std::alloc::Global;
 
 /// A broken rule, with the names that its messages tell and, where there is an earlier definition or another field,
 /// that one's place.
@@ -24,29 +27,54 @@ pub struct RuleFault {
 
 impl RuleFault {
     /// The message of the rule with the names in their places. `Err` only for want of memory.
-    pub fn message(&self, alloc: Global) -> Result<Text, AllocError>
+    pub fn message(&self, alloc: Global) -> Result<Text, Memory>
         ensures { IfOk result (λ message. message ≡ fault_message self.now) }
     {
         filled(alloc, self.rule.message_pattern(), self.names.as_slice())
     }
 
-    /// The same in the words of the reference implementation, where it has any. `Err` only for want of memory.
-    pub fn compat_message(&self, alloc: Global) -> Result<Option<Text>, AllocError>
+    /// The same in the words of the reference implementation, where it has any. A literal of a wrong kind is told with
+    /// the named type alone: `Int` where the whole type is `[Int!]`. `Err` only for want of memory.
+    pub fn compat_message(&self, alloc: Global) -> Result<Option<Text>, Memory>
         ensures { IfOk result (λ message. message ≡ fault_compat self.now) }
     {
-        let names = self.names.as_slice();
-        match self.rule.compat_pattern(names) {
-            Some(pattern) => Ok(Some(filled(alloc, pattern, names)?)),
+        match self.rule.compat_pattern(self.names.as_slice()) {
+            Some(pattern) => Ok(Some(self.compat_filled(alloc, pattern)?)),
             None => Ok(None),
         }
     }
 
+    /// The words of the reference implementation with the names in their places.
+    fn compat_filled(&self, alloc: Global, pattern: &str) -> Result<Text, Memory>
+        ensures { IfOk result (λ text. text ≡ filled_pattern pattern.now (compat_names self.now.rule self.now.names)) }
+    {
+        match self.rule {
+            Rule::UnsupportedValueType => filled_with_named_type(
+                alloc,
+                pattern,
+                self.names.as_slice(),
+            ),
+            _ => filled(alloc, pattern, self.names.as_slice()),
+        }
+    }
+
     /// What a report says at the place. `Err` only for want of memory.
-    pub fn label(&self, alloc: Global) -> Result<Text, AllocError>
+    pub fn label(&self, alloc: Global) -> Result<Text, Memory>
         ensures { IfOk result (λ label. label ≡ fault_label self.now) }
     {
         filled(alloc, label_pattern(self.rule), self.names.as_slice())
     }
+}
+
+/// A pattern with the named type of the first name, and with the second name.
+fn filled_with_named_type(alloc: Global, pattern: &str, names: &[Text]) -> Result<Text, Memory>
+    ensures { IfOk result (λ text. text ≡ filled_pattern pattern.now (named_type_of (name_of names.now 0) ∷ name_of names.now 1 ∷ [])) }
+{
+    let told = [
+        named_type(alloc, name_at(names, 0))?,
+        Text::from_str(alloc, name_at(names, 1))?,
+    ];
+    filled(alloc, pattern, told.as_slice())
 }
 
 /// What a report says at the place of a broken rule, with places for names.
@@ -80,7 +108,7 @@ pub enum Details {
 
 impl Details {
     /// What is said to people. `Err` only for want of memory.
-    pub fn message(&self, alloc: Global) -> Result<Text, AllocError>
+    pub fn message(&self, alloc: Global) -> Result<Text, Memory>
         ensures { IfOk result (λ message. message ≡ message_of self.now) }
     {
         match self {
@@ -94,7 +122,7 @@ impl Details {
     }
 
     /// The same in the words of the reference implementation, where it has any. `Err` only for want of memory.
-    pub fn compat_message(&self, alloc: Global) -> Result<Option<Text>, AllocError>
+    pub fn compat_message(&self, alloc: Global) -> Result<Option<Text>, Memory>
         ensures { IfOk result (λ message. message ≡ compat_of self.now) }
     {
         match self {
@@ -119,7 +147,7 @@ impl Details {
     }
 
     /// What a report says at the place. `Err` only for want of memory.
-    pub fn label(&self, alloc: Global) -> Result<Text, AllocError>
+    pub fn label(&self, alloc: Global) -> Result<Text, Memory>
         ensures { IfOk result (λ label. label ≡ label_of (fault_of self.now)) }
     {
         match self.fault() {
@@ -156,7 +184,7 @@ impl Details {
 }
 
 /// A text behind another.
-fn prefixed(alloc: Global, prefix: &str, text: &str) -> Result<Text, AllocError>
+fn prefixed(alloc: Global, prefix: &str, text: &str) -> Result<Text, Memory>
     ensures { IfOk result (λ both. both ≡ prefix.now ++ text.now) }
 {
     let mut both = String::from_str(alloc, prefix)?;

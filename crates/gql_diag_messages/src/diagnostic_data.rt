@@ -6,8 +6,8 @@ ghost use Rattle.gql_diag_messages.specs.Details.{message_of, compat_of, error_n
 
 use crate::details::Details;
 use gql_source::SourceSpan;
-use jb_text::Text;
-use std::alloc::{AllocError, Global};
+use jb_text::{Memory, Text};
+use std::alloc::Global;
 
 /// What is wrong with a schema or a document, and where.
 #[derive(Debug, Drop)]
@@ -18,7 +18,7 @@ pub struct DiagnosticData {
 
 impl DiagnosticData {
     /// What is said to people. `Err` only for want of memory.
-    pub fn message(&self, alloc: Global) -> Result<Text, AllocError>
+    pub fn message(&self, alloc: Global) -> Result<Text, Memory>
         ensures { IfOk result (λ message. message ≡ message_of self.now.details) }
     {
         self.details.message(alloc)
@@ -35,7 +35,7 @@ impl DiagnosticData {
 
     /// What the reference implementation of GraphQL says of it, where it has words for that. `Err` only for want of
     /// memory.
-    pub fn unstable_compat_message(&self, alloc: Global) -> Result<Option<Text>, AllocError>
+    pub fn unstable_compat_message(&self, alloc: Global) -> Result<Option<Text>, Memory>
         ensures { IfOk result (λ message. message ≡ compat_of self.now.details) }
     {
         self.details.compat_message(alloc)

@@ -3,12 +3,12 @@
 ghost use Rattle.std.specs.Prelude.{◌≡◌, ◌<◌, ◌≤◌, ◌+◌, [], ◌∷◌, ◌++◌, drop, length, IfOk, OnOk, string_bytes};
 ghost use Rattle.gql_diag_messages.specs.Filled.{name_at, is_lacking, is_directive, place_for, filled, filled_behind};
 
-use jb_text::Text;
-use std::alloc::{AllocError, Global};
+use jb_text::{Memory, Text};
+use std::alloc::Global;
 
 /// The pattern with the names in their places: `{0}` stands for the first name, `{1}` for the second, and so on. A
 /// name that is not there is the empty text. `Err` only for want of memory.
-pub(crate) fn filled(alloc: Global, pattern: &str, names: &[Text]) -> Result<Text, AllocError>
+pub(crate) fn filled(alloc: Global, pattern: &str, names: &[Text]) -> Result<Text, Memory>
     ensures { IfOk result (λ text. text ≡ filled pattern.now names.now) }
 {
     let mut out = String::with_capacity(alloc, pattern.len())?;
@@ -21,7 +21,7 @@ pub(crate) fn filled(alloc: Global, pattern: &str, names: &[Text]) -> Result<Tex
 }
 
 /// Writes what stands at the front of a pattern, and gives the number of its bytes.
-fn write_next(out: &mut String, rest: &[u8], names: &[Text]) -> Result<usize, AllocError>
+fn write_next(out: &mut String, rest: &[u8], names: &[Text]) -> Result<usize, Memory>
     requires { 0 < length rest.now }
     ensures within { IfOk result (λ done. (0 < done) × (done ≤ length rest.now)) }
     ensures written { IfOk result (λ done. string_bytes out.new ++ filled (drop done rest.now) names.now
@@ -49,7 +49,7 @@ fn place_for(rest: &[u8]) -> Option<usize>
 }
 
 /// The name of this number, or the empty text where there is none.
-fn name_at(names: &[Text], number: usize) -> &str
+pub(crate) fn name_at(names: &[Text], number: usize) -> &str
     ensures { result.now ≡ name_at names.now number }
 {
     match names.get(number) {

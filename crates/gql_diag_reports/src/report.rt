@@ -8,7 +8,7 @@ ghost use Rattle.gql_diag_reports.specs.Report.{Report, FailsWrite, labelled, re
 use crate::text::{text_or_empty, write_labels, write_line};
 use gql_source::{SourceMap, SourceSpan};
 use jb_io::{Sink, SinkFault, write_all};
-use jb_text::{Listed, Refused, Text};
+use jb_text::{Listed, Memory, Refused, Text};
 use std::alloc::{AllocError, Global};
 use std::marker::Model;
 
@@ -72,7 +72,7 @@ impl<'s> CliReport<'s> {
     }
 
     /// Sets the message, in place of an earlier one. `Err` only for want of memory, now or in an earlier call.
-    pub fn with_message(&mut self, message: &str) -> Result<(), AllocError>
+    pub fn with_message(&mut self, message: &str) -> Result<(), Memory>
         ensures set { OnOk result (self.new ≡ record self.old { message = message.now }) }
         ensures refused { OnErr result (self.new ≡ record self.old { refused = true }) }
         ensures stays { self.old.refused ≡ true → IsErr result }
@@ -83,7 +83,7 @@ impl<'s> CliReport<'s> {
     }
 
     /// Sets the help, in place of an earlier one. `Err` only for want of memory, now or in an earlier call.
-    pub fn with_help(&mut self, help: &str) -> Result<(), AllocError>
+    pub fn with_help(&mut self, help: &str) -> Result<(), Memory>
         ensures set { OnOk result (self.new ≡ record self.old { help = Some help.now }) }
         ensures refused { OnErr result (self.new ≡ record self.old { refused = true }) }
         ensures stays { self.old.refused ≡ true → IsErr result }
@@ -94,7 +94,7 @@ impl<'s> CliReport<'s> {
     }
 
     /// Sets the note, in place of an earlier one. `Err` only for want of memory, now or in an earlier call.
-    pub fn with_note(&mut self, note: &str) -> Result<(), AllocError>
+    pub fn with_note(&mut self, note: &str) -> Result<(), Memory>
         ensures set { OnOk result (self.new ≡ record self.old { note = Some note.now }) }
         ensures refused { OnErr result (self.new ≡ record self.old { refused = true }) }
         ensures stays { self.old.refused ≡ true → IsErr result }
@@ -109,7 +109,7 @@ impl<'s> CliReport<'s> {
         &mut self,
         location: Option<SourceSpan>,
         message: &str,
-    ) -> Result<(), AllocError>
+    ) -> Result<(), Memory>
         ensures added { OnOk result (self.new ≡ labelled location message.now self.old) }
         ensures refused { OnErr result (self.new ≡ record self.old { refused = true }) }
         ensures stays { self.old.refused ≡ true → IsErr result }
@@ -123,7 +123,7 @@ impl<'s> CliReport<'s> {
         }
     }
 
-    fn add_label(&mut self, location: SourceSpan, message: &str) -> Result<(), AllocError>
+    fn add_label(&mut self, location: SourceSpan, message: &str) -> Result<(), Memory>
         ensures added { OnOk result (self.new ≡ labelled (Some location) message.now self.old) }
         ensures refused { OnErr result (self.new ≡ record self.old { refused = true }) }
         ensures stays { self.old.refused ≡ true → IsErr result }
@@ -139,7 +139,7 @@ impl<'s> CliReport<'s> {
     }
 
     /// A copy of a text, for a part of the report.
-    fn kept(&mut self, text: &str) -> Result<Text, AllocError>
+    fn kept(&mut self, text: &str) -> Result<Text, Memory>
         ensures kept { IfOk result (λ kept. kept ≡ text.now) }
         ensures unchanged { OnOk result (self.new ≡ self.old) }
         ensures refused { OnErr result (self.new ≡ record self.old { refused = true }) }
@@ -158,7 +158,7 @@ impl<'s> CliReport<'s> {
     }
 
     /// The lines of the report. `Err` only for want of memory, now or in an earlier call.
-    pub fn into_string(self, alloc: Global) -> Result<Text, AllocError>
+    pub fn into_string(self, alloc: Global) -> Result<Text, Memory>
         ensures text { IfOk result (λ text. text ≡ report_text self.entry) }
         ensures stays { self.entry.refused ≡ true → IsErr result }
     {
@@ -168,7 +168,7 @@ impl<'s> CliReport<'s> {
         self.lines(alloc)
     }
 
-    fn lines(&self, alloc: Global) -> Result<Text, AllocError>
+    fn lines(&self, alloc: Global) -> Result<Text, Memory>
         ensures { IfOk result (λ text. text ≡ report_text self.now) }
     {
         let mut out = String::new(alloc);

@@ -7,8 +7,7 @@ ghost use Rattle.gql_diag_reports.specs.Report.{label_line, line_of, placed_line
 
 use gql_source::{LineColumn, SourceFile, SourceMap, SourceSpan};
 use itoa::Buffer;
-use jb_text::Text;
-use std::alloc::AllocError;
+use jb_text::{Memory, Text};
 
 /// The text, or the empty one where there is none.
 pub(crate) fn text_or_empty(text: &Option<Text>) -> &str
@@ -25,7 +24,7 @@ pub(crate) fn write_labels(
     out: &mut String,
     sources: &SourceMap,
     labels: &[(SourceSpan, Text)],
-) -> Result<(), AllocError>
+) -> Result<(), Memory>
     ensures { OnOk result (string_bytes out.new ≡ string_bytes out.old ++ flat_map (label_line sources.now) labels.now) }
 {
     for label in labels {
@@ -40,7 +39,7 @@ fn write_label(
     sources: &SourceMap,
     location: SourceSpan,
     text: &str,
-) -> Result<(), AllocError>
+) -> Result<(), Memory>
     ensures { OnOk result (string_bytes out.new ≡ string_bytes out.old ++ label_line sources.now (location, text.now)) }
 {
     match sources.get(location.file_id()) {
@@ -57,7 +56,7 @@ fn write_placed(
     file: &SourceFile,
     place: LineColumn,
     text: &str,
-) -> Result<(), AllocError>
+) -> Result<(), Memory>
     ensures { OnOk result (string_bytes out.new ≡ string_bytes out.old ++ placed_line file.now (Some place) text.now) }
 {
     out.push_str(file.path())?;
@@ -71,11 +70,7 @@ fn write_placed(
 }
 
 /// Appends a line with this title, where its text is there.
-pub(crate) fn write_line(
-    out: &mut String,
-    title: &str,
-    text: &Option<Text>,
-) -> Result<(), AllocError>
+pub(crate) fn write_line(out: &mut String, title: &str, text: &Option<Text>) -> Result<(), Memory>
     ensures { OnOk result (string_bytes out.new ≡ string_bytes out.old ++ line_of title.now text.now) }
 {
     match text {
@@ -88,7 +83,7 @@ pub(crate) fn write_line(
     }
 }
 
-fn write_number(out: &mut String, number: usize) -> Result<(), AllocError>
+fn write_number(out: &mut String, number: usize) -> Result<(), Memory>
     ensures { OnOk result (string_bytes out.new ≡ string_bytes out.old ++ decimal number) }
 {
     let mut buffer = Buffer::new();

@@ -1,5 +1,6 @@
 -- A plain request is refused for no cause.
-use Rattle.std.proofs.Common.{◌≡◌, ◌≤◌, ◌<◌, ◌⊎◌, ℕ, zero, suc, Bool, false, List, [], ◌++◌, length, Option, Some, None, Result, Ok, Err, IfErr, refl, ◌∙◌, sym, ap, subst, inl, inr, arith, length-append, append-nil}
+use Rattle.std.proofs.Common.{◌≡◌, ◌≢◌, ◌≤◌, ◌<◌, ◌⊎◌, ℕ, zero, suc, Bool, true, false, List, [], ◌++◌, length, Option, Some, None, Result, Ok, Err, IfOk, IfErr, IsErrAnd, refl, ◌∙◌, sym, ap, subst, inl, inr, arith, length-append, append-nil}
+use Rattle.std.specs.Prelude.{OnOk}
 use Rattle.std.specs.Borrow.{Bor}
 use Rattle.std.specs.Option.{IsSomeAnd}
 use Rattle.jb_io.specs.Sink.{Told}
@@ -17,11 +18,11 @@ use Rattle.gql_engine.specs.declared.answering.AnswerError.{AnswerError}
 use Rattle.gql_engine.specs.declared.answering.AnswerError.TheVariants.{Variables, Unbuilt, Memory}
 use Rattle.gql_engine.specs.declared.task.Task.{Task}
 use Rattle.gql_engine.specs.declared.task.Task.TheVariants.{Answer}
-use Rattle.gql_engine.specs.AnswerError.{AsksPlainly, HasCause, HasOptions}
-use Rattle.gql_engine.specs.Meant.{PlainTexts}
+use Rattle.gql_engine.specs.AnswerError.{AsksNoOptions, AsksOptions, AsksPlainly, HasCause, IsNoObject, IsObjectText, IsRefusedText, IsUnplainPart, are_options}
+use Rattle.gql_engine.specs.Meant.{IsUnmeantSchema, IsUnplain, PlainTexts}
 use Rattle.gql_engine.specs.Program.{IsPlainInput}
 use Rattle.gql_engine.specs.Reply.{Cause, no_text, no_request, not_built, IsPlainRequest, IsUnbuilt, Refuses}
-use Rattle.gql_engine.specs.Request.{Asked, asked, has_options}
+use Rattle.gql_engine.specs.Request.{Asked, Members, asked, has_options}
 
 abbrev pub OneValue : Type 0
 OneValue = (bytes : List ℕ) (v w : Value) → JsonText bytes v → JsonText bytes w → v ≡ w
@@ -29,32 +30,121 @@ OneValue = (bytes : List ℕ) (v w : Value) → JsonText bytes v → JsonText by
 abbrev pub NotBoth : Type 0
 NotBoth = (bytes : List ℕ) (v : Value) (f : ReadFault) → JsonText bytes v → JsonFault bytes f → ⊥
 
+abbrev pub OneFault : Type 0
+OneFault = (bytes : List ℕ) (f g : ReadFault) → JsonFault bytes f → JsonFault bytes g → f ≡ g
+
 -- ---- of two texts
 
-no_options : OneValue → {s q : List ℕ} {name : Option (Bor (List ℕ))} {variables : List ℕ} {introspection : Bool} → AsksPlainly s q name variables introspection
-    → HasOptions name variables introspection → ⊥
-no_options one p (inl named) = let e = p.no_name in cc (e, named)
-no_options one p (inr (inl asks)) = let e = p.no_introspection in cc (e, asks)
-no_options one {variables = variables} p (inr (inr other)) = other.2 (ap object_members (one variables other.0 p.value other.1 p.read) ∙ p.no_variables)
+-- a JSON text of an object has one list of members
+same_members : OneValue → (text : List ℕ) (xs ys : Members) → IsObjectText text xs → IsObjectText text ys → xs ≡ ys
+same_members one text xs ys h k =
+    let e : object_members h.value ≡ object_members k.value = ap object_members (one text h.value k.value h.read k.read) in
+    let a : object_members h.value ≡ Some xs = h.object in
+    let b : object_members k.value ≡ Some ys = k.object in
+    cc (e, a, b)
 
-pub only_memory : OneValue → NotBoth → (s q : List ℕ) (name : Option (Bor (List ℕ))) (variables : List ℕ) (introspection : Bool) → AsksPlainly s q name variables introspection
-    → (error : AnswerError) → HasCause s q name variables introspection error → error ≡ Memory
-only_memory one not_both s q name variables introspection p (Variables (Read fault)) h = absurd (not_both variables p.value fault p.read h)
-only_memory one not_both s q name variables introspection p (Variables NotObject) h =
-    let e = ap object_members (one variables p.value h.value p.read h.read) in
-    let some = p.no_variables in
-    let none = h.other in
-    cc (e, some, none)
-only_memory one not_both s q name variables introspection p (Unbuilt Options) h = absurd (no_options one p h)
-only_memory one not_both s q name variables introspection p (Unbuilt Schema) h = absurd (h p.texts.schema p.texts.schema_meant)
-only_memory one not_both s q name variables introspection p (Unbuilt Query) h = absurd (h.1 p.texts)
-only_memory one not_both s q name variables introspection p Memory h = refl
+other_kind : OneValue → (text : List ℕ) (xs : Members) → IsNoObject text → IsObjectText text xs → ⊥
+other_kind one text xs h k =
+    let e : object_members h.value ≡ object_members k.value = ap object_members (one text h.value k.value h.read k.read) in
+    let none : object_members h.value ≡ None = h.other in
+    let some : object_members k.value ≡ Some xs = k.object in
+    cc (e, none, some)
 
-pub plain_result : OneValue → NotBoth → {A : Type 0} (result : Result A AnswerError) {s q : List ℕ} {name : Option (Bor (List ℕ))} {variables : List ℕ} {introspection : Bool}
-    → IfErr result (HasCause s q name variables introspection) → AsksPlainly s q name variables introspection → IfErr result (λ error. error ≡ Memory)
-plain_result one not_both (Ok bytes) h p = tt
-plain_result one not_both (Err error) {s = s} {q = q} {name = name} {variables = variables} {introspection = introspection} h p =
-    only_memory one not_both s q name variables introspection p error h
+both_ways : OneValue → (name : Option (Bor (List ℕ))) (variables : List ℕ) (introspection : Bool)
+    → AsksOptions name variables introspection → AsksNoOptions name variables introspection → ⊥
+both_ways one name variables introspection h k =
+    let e : are_options name h.members introspection ≡ are_options name k.members introspection =
+    ap (λ (ms : Members). are_options name ms introspection) (same_members one variables h.members k.members h.object k.object) in
+    let yes : are_options name h.members introspection ≡ true = h.asked in
+    let no : are_options name k.members introspection ≡ false = k.asked in
+    cc (e, yes, no)
+
+module _ (s q : List ℕ) (name : Option (Bor (List ℕ))) (v : List ℕ) (i : Bool) where
+  -- a refusal of the variables' text has its cause
+  text_cause : (error : AnswerError) → IsRefusedText v error → HasCause s q name v i error
+  text_cause (Variables (Read fault)) h = h
+  text_cause (Variables NotObject) h = h
+  text_cause (Unbuilt part) h = absurd h
+  text_cause Memory h = tt
+
+  pub handed_cause : {A : Type 0} (result : Result A AnswerError) (error : AnswerError) → IsErrAnd result (λ e. e ≡ error) → IsRefusedText v error
+      → IfErr result (HasCause s q name v i)
+  handed_cause (Ok bytes) error is h = absurd is
+  handed_cause (Err e) error is h = subst (λ (x : AnswerError). HasCause s q name v i x) (sym is) (text_cause error h)
+
+  -- a text that means nothing is a cause where no option is asked for
+  pub part_cause : (part : UnbuiltPart) → AsksNoOptions name v i → IsUnplainPart s q part → HasCause s q name v i (Unbuilt part)
+  part_cause Options none h = absurd h
+  part_cause Schema none h = (none, h)
+  part_cause Query none h = (none, h)
+
+module _ (one : OneValue) (one_fault : OneFault) (not_both : NotBoth) (s q : List ℕ) (name : Option (Bor (List ℕ))) (v : List ℕ) (i : Bool) where
+  unread_object : (fault : ReadFault) (xs : Members) → JsonFault v fault → IsObjectText v xs → ⊥
+  unread_object fault xs h k = not_both v k.value fault k.read h
+
+  -- a schema text that means nothing, and one of two texts that are not plain though it means something
+  meant_or_not : IsUnmeantSchema s → IsUnplain s q → ⊥
+  meant_or_not h k = h k.0.0 k.0.1
+
+  -- two causes are one, and none is want of memory
+  pub one_cause : (error other : AnswerError) → error ≢ Memory → HasCause s q name v i error → HasCause s q name v i other → (error ≡ other) ⊎ (other ≡ Memory)
+  one_cause error Memory told h k = inr refl
+  one_cause Memory other told h k = absurd (told refl)
+  one_cause (Variables (Read f)) (Variables (Read g)) told h k = inl (ap (λ (x : ReadFault). Variables (Read x)) (one_fault v f g h k))
+  one_cause (Variables (Read f)) (Variables NotObject) told h k = absurd (not_both v k.value f k.read h)
+  one_cause (Variables (Read f)) (Unbuilt Options) told h k = absurd (unread_object f k.members h k.object)
+  one_cause (Variables (Read f)) (Unbuilt Schema) told h k = absurd (unread_object f k.0.members h k.0.object)
+  one_cause (Variables (Read f)) (Unbuilt Query) told h k = absurd (unread_object f k.0.members h k.0.object)
+  one_cause (Variables NotObject) (Variables (Read g)) told h k = absurd (not_both v h.value g h.read k)
+  one_cause (Variables NotObject) (Variables NotObject) told h k = inl refl
+  one_cause (Variables NotObject) (Unbuilt Options) told h k = absurd (other_kind one v k.members h k.object)
+  one_cause (Variables NotObject) (Unbuilt Schema) told h k = absurd (other_kind one v k.0.members h k.0.object)
+  one_cause (Variables NotObject) (Unbuilt Query) told h k = absurd (other_kind one v k.0.members h k.0.object)
+  one_cause (Unbuilt Options) (Variables (Read g)) told h k = absurd (unread_object g h.members k h.object)
+  one_cause (Unbuilt Options) (Variables NotObject) told h k = absurd (other_kind one v h.members k h.object)
+  one_cause (Unbuilt Options) (Unbuilt Options) told h k = inl refl
+  one_cause (Unbuilt Options) (Unbuilt Schema) told h k = absurd (both_ways one name v i h k.0)
+  one_cause (Unbuilt Options) (Unbuilt Query) told h k = absurd (both_ways one name v i h k.0)
+  one_cause (Unbuilt Schema) (Variables (Read g)) told h k = absurd (unread_object g h.0.members k h.0.object)
+  one_cause (Unbuilt Schema) (Variables NotObject) told h k = absurd (other_kind one v h.0.members k h.0.object)
+  one_cause (Unbuilt Schema) (Unbuilt Options) told h k = absurd (both_ways one name v i k h.0)
+  one_cause (Unbuilt Schema) (Unbuilt Schema) told h k = inl refl
+  one_cause (Unbuilt Schema) (Unbuilt Query) told h k = absurd (meant_or_not h.1 k.1)
+  one_cause (Unbuilt Query) (Variables (Read g)) told h k = absurd (unread_object g h.0.members k h.0.object)
+  one_cause (Unbuilt Query) (Variables NotObject) told h k = absurd (other_kind one v h.0.members k h.0.object)
+  one_cause (Unbuilt Query) (Unbuilt Options) told h k = absurd (both_ways one name v i k h.0)
+  one_cause (Unbuilt Query) (Unbuilt Schema) told h k = absurd (meant_or_not k.1 h.1)
+  one_cause (Unbuilt Query) (Unbuilt Query) told h k = inl refl
+
+  -- what is asked plainly has no cause of a refusal
+  pub only_memory : AsksPlainly s q name v i → (error : AnswerError) → HasCause s q name v i error → error ≡ Memory
+  only_memory p (Variables (Read fault)) h = absurd (unread_object fault p.no_options.members h p.no_options.object)
+  only_memory p (Variables NotObject) h = absurd (other_kind one v p.no_options.members h p.no_options.object)
+  only_memory p (Unbuilt Options) h = absurd (both_ways one name v i h p.no_options)
+  only_memory p (Unbuilt Schema) h = absurd (h.1 p.texts.schema p.texts.schema_meant)
+  only_memory p (Unbuilt Query) h = absurd (h.1.1 p.texts)
+  only_memory p Memory h = refl
+
+  pub plain_result : {A : Type 0} (result : Result A AnswerError) → IfErr result (HasCause s q name v i) → AsksPlainly s q name v i → IfErr result (λ error. error ≡ Memory)
+  plain_result (Ok bytes) h p = tt
+  plain_result (Err error) h p = only_memory p error h
+
+  same_error : {A : Type 0} (result : Result A AnswerError) (error other : AnswerError) → result ≡ Err other → (error ≡ other) ⊎ (other ≡ Memory)
+      → (result ≡ Err error) ⊎ (result ≡ Err Memory)
+  same_error result error other is (inl e) = inl (is ∙ ap Err (sym e))
+  same_error result error other is (inr e) = inr (is ∙ ap Err e)
+
+  -- where a cause holds its refusal comes, unless memory fails
+  pub exact_result : {A : Type 0} (result : Result A AnswerError) → IfOk result (λ _. AsksPlainly s q name v i) → IfErr result (HasCause s q name v i)
+      → (error : AnswerError) → error ≢ Memory → HasCause s q name v i error → (result ≡ Err error) ⊎ (result ≡ Err Memory)
+  exact_result (Ok bytes) asks refused error told h = absurd (told (only_memory asks error h))
+  exact_result (Err other) asks refused error told h = same_error (Err other) error other refl (one_cause error other told h refused)
+
+  -- what is answered is asked plainly
+  pub plainly : {A : Type 0} (result : Result A AnswerError) (B : A → Type 0) → ((a : A) → B a → PlainTexts s q) → OnOk result (AsksNoOptions name v i) → IfOk result B
+      → IfOk result (λ _. AsksPlainly s q name v i)
+  plainly (Ok bytes) B texts asks answered = record { texts = texts bytes answered; no_options = asks }
+  plainly (Err error) B texts asks answered = tt
 
 -- ---- of the bytes of a request
 

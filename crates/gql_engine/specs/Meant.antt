@@ -1,9 +1,10 @@
 -- What the texts of a schema and of a query mean.
-use Rattle.std.specs.Prelude.{◌≡◌, ◌≤◌, ℕ, List, Some, codes}
+use Rattle.std.specs.Prelude.{◌≡◌, ◌≤◌, ℕ, List, [], ◌∷◌, Some, codes}
 use Rattle.std.specs.Str.{bytes_eq}
 use Rattle.std.specs.Map.{lookup}
 use Rattle.jb_text.specs.declared.refused.Refused.{Refused}
 use Rattle.jb_text.specs.declared.refused.Refused.TheVariants.{Fault, Memory}
+use Rattle.gql_source.specs.File.{Files}
 use Rattle.gql_source.specs.declared.file_id.FileId.{FileId}
 use Rattle.gql_cst_grammar.specs.declared.rule.Rule.TheVariants.{Document}
 use Rattle.gql_cst_grammar.specs.declared.syntax_kind.SyntaxKind.TheVariants as kind
@@ -18,12 +19,23 @@ use Rattle.gql_exec.specs.Selections.{Selections}
 use Rattle.gql_plain.specs.PlainSchema.{plain_schema}
 use Rattle.gql_plain.specs.PlainQuery.{plain_query}
 
--- the number of a text's file, which no schema and no selections tell
-abbrev pub file : FileId
-file = record { number = 3 }
+-- the numbers of the two texts' files
+abbrev pub schema_file : FileId
+schema_file = record { number = 3 }
 
--- the text is a document with these definitions, whose selection sets, values and types are nested at most 500 deep
-pub record ReadAs (text : List ℕ) (found : List Definition) : Type 0 where
+abbrev pub query_file : FileId
+query_file = record { number = 4 }
+
+-- one file alone
+abbrev pub one_file : FileId → List ℕ → List ℕ → Files
+one_file id path text = (id, record { path = path; source_text = text }) ∷ []
+
+-- the file that the places of errors are looked up in
+abbrev pub query_sources : List ℕ → Files
+query_sources text = one_file query_file (codes "query.graphql") text
+
+-- the text of a file is a document with these definitions, whose selection sets, values and types are nested at most 500 deep
+pub record ReadAs (file : FileId) (text : List ℕ) (found : List Definition) : Type 0 where
   pub children : Forest
   pub tree : IsTreeOf Document text children
   pub shallow : nesting children ≤ 500
@@ -31,12 +43,12 @@ pub record ReadAs (text : List ℕ) (found : List Definition) : Type 0 where
 
 -- the text means this schema
 abbrev pub SchemaMeant : List ℕ → Schema → Type 0
-SchemaMeant text schema = (found : List Definition) × ReadAs text found × (plain_schema found ≡ Some schema)
+SchemaMeant text schema = (found : List Definition) × ReadAs schema_file text found × (plain_schema found ≡ Some schema)
 
 -- the text asks these selections of the root type of the schema
 abbrev pub QueryMeant : Schema → ObjectType → List ℕ → Selections → Type 0
 QueryMeant schema root_type text selections =
-    (found : List Definition) × ReadAs text found × (plain_query schema root_type text found ≡ Some selections)
+    (found : List Definition) × ReadAs query_file text found × (plain_query schema root_type found ≡ Some selections)
 
 -- both texts are plain, and this is what they mean
 pub record PlainTexts (schema_text query_text : List ℕ) : Type 0 where
@@ -49,8 +61,8 @@ pub record PlainTexts (schema_text query_text : List ℕ) : Type 0 where
 
 -- ---- texts that mean nothing
 
-abbrev pub IsUnread : List ℕ → Type 0
-IsUnread text = (found : List Definition) → ReadAs text found → ⊥
+abbrev pub IsUnread : FileId → List ℕ → Type 0
+IsUnread file text = (found : List Definition) → ReadAs file text found → ⊥
 
 abbrev pub IsUnmeantSchema : List ℕ → Type 0
 IsUnmeantSchema text = (schema : Schema) → SchemaMeant text schema → ⊥

@@ -55,7 +55,8 @@ read_message fault = codes "request: " ++ (kind_name fault.kind ++ (codes " at b
 pub data Cause (bytes : List ℕ) : List ℕ → Type 0 where
   no_text : (fault : ReadFault) → JsonFault bytes fault → Cause bytes (read_message fault)
   no_request : (value : Value) (fault : RequestFault) → JsonText bytes value → asked value ≡ Err fault → Cause bytes (fault_message fault)
-  not_built : (value : Value) (request : Asked) (part : UnbuiltPart) → JsonText bytes value → asked value ≡ Ok request → IsUnbuilt request part → Cause bytes (unbuilt_message part)
+  not_built : (value : Value) (request : Asked) (part : UnbuiltPart) → JsonText bytes value → asked value ≡ Ok request
+      → IsUnbuilt request part → Cause bytes (unbuilt_message part)
 
 -- the JSON of a refusal with one message
 abbrev pub refusal_value : List ℕ → Value

@@ -1,5 +1,6 @@
 -- What a JSON value asks, where it is a request, and else why it is none.
-use Rattle.std.specs.Prelude.{◌≡◌, ℕ, Bool, false, if◌then◌else◌, List, [], ◌++◌, Option, Some, None, unwrap_or, Result, Ok, Err, codes, ◌||◌, not, is_some, nat_eq, length}
+use Rattle.std.specs.Prelude.{◌≡◌, ℕ, Bool, false, if◌then◌else◌, List, [], ◌++◌, Option, Some}
+use Rattle.std.specs.Prelude.{None, unwrap_or, Result, Ok, Err, codes, ◌||◌, not, is_some, nat_eq, length}
 use Rattle.std.specs.Borrow.{Bor}
 use Rattle.std.specs.Option.{option_map, option_copied}
 use Rattle.std.specs.Str.{bytes_eq}
@@ -54,8 +55,8 @@ abbrev pub given_value : Option Value → Option Value
 given_value (Some value) = if is_null value then None else Some value
 given_value None = None
 
-abbrev pub given : Member → Members → Option Value
-given member members = given_value (lookup (bytes_eq (member_name member)) members)
+abbrev pub member_given : Member → Members → Option Value
+member_given member members = given_value (lookup (bytes_eq (member_name member)) members)
 
 abbrev pub optional_of : {A : Type 0} → (Value → Option A) → Member → Option Value → Result (Option A) RequestFault
 optional_of kind member (Some value) = of_kind member (option_map Some (kind value))
@@ -63,7 +64,7 @@ optional_of kind member None = Ok None
 
 -- a member that may be absent or null
 abbrev pub optional : {A : Type 0} → (Value → Option A) → Member → Members → Result (Option A) RequestFault
-optional kind member members = optional_of kind member (given member members)
+optional kind member members = optional_of kind member (member_given member members)
 
 infixl 10 ◌>>=◌
 abbrev pub ◌>>=◌ : {A B : Type 0} → Result A RequestFault → (A → Result B RequestFault) → Result B RequestFault

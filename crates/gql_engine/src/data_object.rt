@@ -1,3 +1,5 @@
+//! Objects of plain JSON data as resolvers.
+
 ghost use Rattle.std.specs.Prelude.{◌≡◌};
 ghost use Rattle.std.specs.Option.{option_copied};
 ghost use Rattle.jb_tree.specs.Value.{object_members};
@@ -7,7 +9,7 @@ ghost use Rattle.gql_engine.specs.DataMeaning.{failure_text as failure_text_of, 
 use gql_exec::{
     FieldError, ObjectValue, ResolveError, ResolveInfo, ResolvedValue, Schema, TypeRef,
 };
-use jb_tree::{Map, Text, Value};
+use jb_tree::{ByteString, Map, Text, Value};
 use std::alloc::Global;
 use std::marker::Model;
 
@@ -28,12 +30,13 @@ pub struct DataObject<'d> {
     members: &'d Map,
 }
 
-/// The name of an object's type: told by its data, or taken from the type of the field that it stands at.
+/// The name of an object's type: told by its data, or that of the type of the field that it stands at, whose text is
+/// shared and not copied.
 #[derive(Drop)]
 enum ObjectName<'d> {
     Root,
     Told(&'d str),
-    Taken(Text),
+    Taken(ByteString),
 }
 
 impl<'d> Model for DataObject<'d> {
@@ -152,7 +155,7 @@ fn at_type<'d>(
 /// An object of the data at an object type of this name.
 fn object_or_leaf<'d>(
     alloc: Global,
-    name: &Text,
+    name: &ByteString,
     value: &'d Value,
 ) -> Result<ResolvedValue<DataObject<'d>>, ResolveError>
     ensures { Answers result (object_meaning name.now value.now (object_members value.now)) }

@@ -16,4 +16,5 @@ mod texts;
 
 pub use answering::{AnswerError, UnbuiltPart, VariablesFault, answer};
 pub use data_object::DataObject;
+pub use gql_exec::Steps;
 pub use program::{run, run_in_memory};

@@ -1,3 +1,5 @@
+//! The program: its words, its input and its output.
+
 ghost use Rattle.std.specs.Prelude.{◌≡◌, ◌≢◌, ◌≤◌, ◌⊎◌, ◌↔◌, IsTrue};
 ghost use Rattle.gql_engine.specs.Program.{AsksAnswer, IsLong, IsPlainInput, usage};
 ghost use Rattle.gql_engine.specs.Reply.{Answers, Refuses};
@@ -7,11 +9,13 @@ ghost use Rattle.jb_io.specs.Stream.{HasFailed};
 ghost use Rattle.jb_serve.specs.Run.{BreaksOff, Serves};
 
 use crate::task::task_asked;
+use gql_exec::Steps;
 use jb_io::{Sink, Source, SureSink, SureSource};
-use jb_read::laws::each_text_has_one_answer;
+use jb_read::laws;
 use jb_serve::serve;
 pub use jb_serve::{ANSWERED, MISUSED, NO_MEMORY, REFUSED, SINK_FAILED, SOURCE_FAILED, TOO_LONG};
 use std::alloc::Global;
+use std::sync::ledger::Ledger;
 
 const USAGE: &str = "usage: gql_program answer\n";
 
@@ -19,8 +23,15 @@ const USAGE: &str = "usage: gql_program answer\n";
 /// to [`TOO_LONG`].
 ///
 /// The words are looked at first, then `source` is read to its end, then the reply is computed, then it is written
-/// with one LF. Refusals and the usage line go to `sink` too.
-pub fn run<S: Source, K: Sink>(alloc: Global, words: &[String], source: &mut S, sink: &mut K) -> u8
+/// with one LF. Refusals and the usage line go to `sink` too. `steps` counts looks at selections; this far nothing is
+/// counted.
+pub fn run<S: Source, K: Sink, L: Ledger>(
+    alloc: Global,
+    words: &[String],
+    source: &mut S,
+    sink: &mut K,
+    steps: &mut Steps<L>,
+) -> u8
     ensures statuses { result ≤ TOO_LONG }
 
     // The words.
@@ -48,18 +59,20 @@ pub fn run<S: Source, K: Sink>(alloc: Global, words: &[String], source: &mut S, 
     // A plain request is answered, unless memory, the source or the sink fails.
     ensures plain { AsksAnswer words.now → IsPlainInput (S.left source.old)
         → (result ≡ ANSWERED) ⊎ ((result ≡ NO_MEMORY) ⊎ ((result ≡ SOURCE_FAILED) ⊎ (result ≡ SINK_FAILED))) }
+    ensures uncounted { steps.new ≡ steps.old }
 {
-    each_text_has_one_answer();
+    laws::each_text_has_one_answer();
     serve(alloc, task_asked(words), USAGE, source, sink)
 }
 
 /// [`run`] in memory, where neither reading nor writing fails: the status is never [`SOURCE_FAILED`] or
 /// [`SINK_FAILED`].
-pub fn run_in_memory(
+pub fn run_in_memory<L: Ledger>(
     alloc: Global,
     words: &[String],
     source: &mut SureSource,
     sink: &mut SureSink,
+    steps: &mut Steps<L>,
 ) -> u8
     ensures misused { result ≡ MISUSED ↔ ¬ AsksAnswer words.now }
     ensures read { result ≢ SOURCE_FAILED }
@@ -79,6 +92,7 @@ pub fn run_in_memory(
     // A plain request is answered, unless memory fails.
     ensures plain { AsksAnswer words.now → IsPlainInput (⟦<SureSource as Source>⟧.left source.old)
         → (result ≡ ANSWERED) ⊎ (result ≡ NO_MEMORY) }
+    ensures uncounted { steps.new ≡ steps.old }
 {
-    run(alloc, words, source, sink)
+    run(alloc, words, source, sink, steps)
 }

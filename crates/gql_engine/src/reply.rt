@@ -6,7 +6,7 @@ ghost use Rattle.gql_engine.specs.Decision.{Decides};
 ghost use Rattle.gql_engine.specs.Reply.{AnswersAsked, IsRefusedFor, read_message as read_message_of, refusal_value};
 ghost use Rattle.gql_engine.specs.Request.{asked_in, has_options as has_options_of};
 
-use crate::answering::{UnbuiltPart, respond};
+use crate::answering::{UnbuiltPart, are_options, respond};
 use crate::data_object::DataObject;
 use crate::request::{Request, decode};
 use crate::task::Task;
@@ -14,7 +14,7 @@ use bytes::Bytes;
 use jb_print::append_string;
 use jb_read::{ReadFault, from_bytes_whole};
 use jb_serve::{Command, Reply};
-use jb_tree::{Map, Refused, Text};
+use jb_tree::{Map, Memory, Refused, Text};
 use std::alloc::{AllocError, Global};
 
 impl Command for Task {
@@ -24,7 +24,7 @@ impl Command for Task {
 
     ghost refuses = { λ _. Refuses };
 
-    fn reply(&self, alloc: Global, bytes: &Bytes) -> Result<Reply, AllocError> {
+    fn reply(&self, alloc: Global, bytes: &Bytes) -> Result<Reply, Memory> {
         let Task::Answer = self;
         match decide(alloc, bytes)? {
             Decision::Answered(text) => Ok(Reply::Answer(text)),
@@ -40,7 +40,7 @@ pub(crate) enum Decision {
     Refused(Text),
 }
 
-fn decide(alloc: Global, bytes: &Bytes) -> Result<Decision, AllocError>
+fn decide(alloc: Global, bytes: &Bytes) -> Result<Decision, Memory>
     ensures { IfOk result (Decides bytes.now) }
 {
     let value = match from_bytes_whole(alloc, bytes) {
@@ -84,11 +84,11 @@ fn has_options(request: &Request<'_>) -> bool
         Some(variables) => variables.len(),
         None => 0,
     };
-    request.operation_name.is_some() || variables != 0 || request.introspection
+    are_options(request.operation_name, variables, request.introspection)
 }
 
 /// The message of a text that is no JSON.
-fn read_message(alloc: Global, fault: ReadFault) -> Result<Text, AllocError>
+fn read_message(alloc: Global, fault: ReadFault) -> Result<Text, Memory>
     ensures { IfOk result (λ text. text ≡ read_message_of fault) }
 {
     let kind = fault.kind.name();
@@ -97,7 +97,7 @@ fn read_message(alloc: Global, fault: ReadFault) -> Result<Text, AllocError>
 }
 
 /// The text of a refusal with this one message.
-fn refusal(alloc: Global, message: &str) -> Result<Bytes, AllocError>
+fn refusal(alloc: Global, message: &str) -> Result<Bytes, Memory>
     ensures { IfOk result (λ text. text ≡ compact (refusal_value message.now)) }
 {
     let mut out = String::new(alloc);

@@ -4,10 +4,10 @@ ghost use Rattle.std.specs.Prelude.{◌≡◌, Some, None, IfOk, MatchResult, co
 ghost use Rattle.jb_tree.specs.Value.{object_members, string_text, truth_value};
 ghost use Rattle.std.specs.Option.{option_copied};
 ghost use Rattle.gql_engine.specs.declared.request.RequestFault.TheVariants.{WrongKind};
-ghost use Rattle.gql_engine.specs.Request.{asked, asked_by_members, member_name, required, optional, given as given_member, fault_message, IsAsked, IsFound, IsFoundSome};
+ghost use Rattle.gql_engine.specs.Request.{asked, asked_by_members, member_name, required, optional, member_given as given_member, fault_message, IsAsked, IsFound, IsFoundSome};
 
-use jb_tree::{Map, Text, Value};
-use std::alloc::{AllocError, Global};
+use jb_tree::{Map, Memory, Text, Value};
+use std::alloc::Global;
 
 /// The members of a request, in the order in which they are checked.
 #[derive(Clone, Copy, Debug, PartialEq, Eq)]
@@ -49,7 +49,7 @@ pub enum RequestFault {
 
 impl RequestFault {
     /// The text of the refusal. `Err` only for want of memory.
-    pub fn message(self, alloc: Global) -> Result<Text, AllocError>
+    pub fn message(self, alloc: Global) -> Result<Text, Memory>
         ensures { IfOk result (λ text. text ≡ fault_message self) }
     {
         match self {
@@ -123,7 +123,7 @@ fn required_text(members: &Map, member: Member) -> Result<&str, RequestFault>
 }
 
 /// A member that is there and isn't null.
-fn given(members: &Map, member: Member) -> Option<&Value>
+fn member_given(members: &Map, member: Member) -> Option<&Value>
     ensures { option_copied result ≡ given_member member members.now }
 {
     match members.get(member.name()) {
@@ -135,7 +135,7 @@ fn given(members: &Map, member: Member) -> Option<&Value>
 fn optional_text(members: &Map, member: Member) -> Result<Option<&str>, RequestFault>
     ensures { IsFoundSome result (optional string_text member members.now) }
 {
-    match given(members, member) {
+    match member_given(members, member) {
         Some(value) => Ok(Some(of_kind(member, value.as_str())?)),
         None => Ok(None),
     }
@@ -144,7 +144,7 @@ fn optional_text(members: &Map, member: Member) -> Result<Option<&str>, RequestF
 fn optional_object(members: &Map, member: Member) -> Result<Option<&Map>, RequestFault>
     ensures { IsFoundSome result (optional object_members member members.now) }
 {
-    match given(members, member) {
+    match member_given(members, member) {
         Some(value) => Ok(Some(of_kind(member, value.as_object())?)),
         None => Ok(None),
     }
@@ -153,7 +153,7 @@ fn optional_object(members: &Map, member: Member) -> Result<Option<&Map>, Reques
 fn optional_truth(members: &Map, member: Member) -> Result<Option<bool>, RequestFault>
     ensures { result ≡ optional truth_value member members.now }
 {
-    match given(members, member) {
+    match member_given(members, member) {
         Some(value) => Ok(Some(of_kind(member, value.as_bool())?)),
         None => Ok(None),
     }

@@ -1,3 +1,5 @@
+//! What the words of the program ask for.
+
 ghost use Rattle.std.specs.Prelude.{◌≡◌};
 ghost use Rattle.gql_engine.specs.Task.{task_asked};
 

@@ -1,22 +1,23 @@
 //! What the texts of a schema and of a query mean.
 
-ghost use Rattle.std.specs.Prelude.{◌≡◌, IfErr, IfOk, IsSome, codes};
+ghost use Rattle.std.specs.Prelude.{◌≡◌, Some, IfErr, IfOk, IsSome, codes};
 ghost use Rattle.std.specs.Map.{lookup};
 ghost use Rattle.std.specs.Str.{bytes_eq};
-ghost use Rattle.gql_ast.specs.Documents.{definitions};
+ghost use Rattle.gql_source.specs.File.{is_file};
 ghost use Rattle.gql_cst.specs.Forest.{plain};
+ghost use Rattle.gql_ast.specs.Documents.{definitions};
 ghost use Rattle.gql_exec.specs.Selections.{selections_of};
-ghost use Rattle.gql_engine.specs.Meant.{file, IsUnread, IsUnmeantSchema, IsUnmeantQuery, OnFault, QueryMeant, ReadAs, SchemaMeant};
+ghost use Rattle.gql_engine.specs.Meant.{IsUnread, IsUnmeantSchema, IsUnmeantQuery, OnFault, QueryMeant, ReadAs, SchemaMeant, one_file, query_sources};
 
-use gql_ast::{Definition, Document};
+use gql_ast::Document;
+use gql_ast_laws::laws;
 use gql_cst::{Limits, Tree, parse_document};
-use gql_cst_laws::laws::parses_are_trees;
+use gql_cst_laws::laws as cst_laws;
 use gql_exec::{ObjectType, Schema, SelectionSet};
-use gql_ast_laws::laws::texts_have_one_document;
 use gql_plain::{NotPlain, plain_query, plain_schema};
 use gql_source::{FileId, SourceFile, SourceMap};
-use jb_tree::{Listed, Refused};
-use std::alloc::{AllocError, Global};
+use jb_tree::{Memory, Refused};
+use std::alloc::Global;
 
 /// The type that a query starts from (GraphQL October 2021, section 3.3.1).
 pub(crate) const ROOT_TYPE: &str = "Query";
@@ -24,8 +25,11 @@ pub(crate) const ROOT_TYPE: &str = "Query";
 /// How deep selection sets, values and types nest at most.
 const MOST_LEVELS: usize = 500;
 
-/// The number of a text's file. Only lines and columns of a text are told, so both texts have this one.
-const FILE: FileId = FileId { number: 3 };
+/// The file of a schema's text.
+const SCHEMA_FILE: FileId = FileId { number: 3 };
+
+/// The file of a query's text.
+const QUERY_FILE: FileId = FileId { number: 4 };
 
 /// The schema that a text means.
 ///
@@ -37,36 +41,58 @@ pub(crate) fn schema(alloc: Global, text: &str) -> Result<Schema, Refused<NotPla
     ensures query_type { IfOk result (λ schema. IsSome (lookup (bytes_eq (codes "Query")) schema.types)) }
     ensures unmeant { IfErr result (λ refused. OnFault refused (IsUnmeantSchema text.now)) }
 {
-    texts_have_one_document();
-    let found = definitions(alloc, text)?;
-    plain_schema(alloc, &found)
+    laws::texts_have_one_document();
+    let document = document(alloc, SCHEMA_FILE, "schema.graphql", text)?;
+    plain_schema(alloc, &document.definitions)
 }
 
-/// The selections that a text asks of the root type of a schema.
+/// What a text asks of a schema: selections, and the file that their places are in.
+#[derive(Drop)]
+pub(crate) struct PlainQuery {
+    pub(crate) selections: SelectionSet,
+    pub(crate) sources: SourceMap,
+}
+
+/// What a text asks of the root type of a schema.
 ///
 /// # Errors
 ///
-/// `NotPlain` exactly where the text asks none. Else want of memory alone.
+/// `NotPlain` exactly where the text asks nothing. Else want of memory alone.
 pub(crate) fn query(
     alloc: Global,
     schema: &Schema,
     root_type: &ObjectType,
     text: &str,
-) -> Result<SelectionSet, Refused<NotPlain>>
-    ensures meant { IfOk result (λ set. QueryMeant schema.now root_type.now text.now (selections_of set)) }
+) -> Result<PlainQuery, Refused<NotPlain>>
+    ensures meant { IfOk result (λ query. QueryMeant schema.now root_type.now text.now (selections_of query.selections)) }
+    ensures sources { IfOk result (λ query. query.sources ≡ query_sources text.now) }
     ensures unmeant { IfErr result (λ refused. OnFault refused (IsUnmeantQuery schema.now root_type.now text.now)) }
 {
-    texts_have_one_document();
-    let found = definitions(alloc, text)?;
-    plain_query(alloc, schema, root_type, &found, text)
+    laws::texts_have_one_document();
+    let Document {
+        sources,
+        definitions,
+    } = document(alloc, QUERY_FILE, "query.graphql", text)?;
+    let selections = plain_query(alloc, schema, root_type, &definitions)?;
+    Ok(PlainQuery {
+        selections,
+        sources,
+    })
 }
 
-/// The definitions of a text, where it is a document that is not nested too deep.
-fn definitions(alloc: Global, text: &str) -> Result<Listed<Definition>, Refused<NotPlain>>
-    ensures read { IfOk result (ReadAs text.now) }
-    ensures unread { IfErr result (λ refused. OnFault refused (IsUnread text.now)) }
+/// The document that the text of a file is, where it is one that is not nested too deep. The text is copied once, into
+/// the file.
+fn document(
+    alloc: Global,
+    file_id: FileId,
+    path: &str,
+    text: &str,
+) -> Result<Document, Refused<NotPlain>>
+    ensures read { IfOk result (λ document. ReadAs file_id text.now document.definitions) }
+    ensures sources { IfOk result (λ document. document.sources ≡ one_file file_id path.now text.now) }
+    ensures unread { IfErr result (λ refused. OnFault refused (IsUnread file_id text.now)) }
 {
-    parses_are_trees();
+    cst_laws::parses_are_trees();
     let limits = Limits {
         recursion: MOST_LEVELS,
         tokens: None,
@@ -75,15 +101,30 @@ fn definitions(alloc: Global, text: &str) -> Result<Listed<Definition>, Refused<
     if parsed.error.is_some() {
         return Err(Refused::Fault(NotPlain));
     }
-    Ok(definitions_in(alloc, text, &parsed.tree)?)
+    Ok(document_of(alloc, file_id, path, text, &parsed.tree)?)
 }
 
-/// The definitions of a concrete tree of the text.
-fn definitions_in(alloc: Global, text: &str, tree: &Tree) -> Result<Listed<Definition>, AllocError>
-    ensures { IfOk result (λ found. found ≡ definitions text.now file (plain tree.now)) }
+/// The document of a concrete tree of the text of the file.
+fn document_of(
+    alloc: Global,
+    file_id: FileId,
+    path: &str,
+    text: &str,
+    tree: &Tree,
+) -> Result<Document, Memory>
+    ensures definitions { IfOk result (λ document. document.definitions ≡ definitions text.now file_id (plain tree.now)) }
+    ensures sources { IfOk result (λ document. document.sources ≡ one_file file_id path.now text.now) }
+{
+    let sources = only_file(alloc, file_id, path, text)?;
+    Document::from_cst(alloc, tree, file_id, sources)
+}
+
+/// One file alone.
+fn only_file(alloc: Global, file_id: FileId, path: &str, text: &str) -> Result<SourceMap, Memory>
+    ensures sources { IfOk result (λ sources. sources ≡ one_file file_id path.now text.now) }
+    ensures found { IfOk result (λ sources. lookup (is_file file_id) sources ≡ Some (record { path = path.now; source_text = text.now })) }
 {
     let mut sources = SourceMap::new(alloc);
-    sources.insert(FILE, SourceFile::new(alloc, "", text)?)?;
-    let document = Document::from_cst(alloc, tree, FILE, sources)?;
-    Ok(document.definitions)
+    sources.insert(file_id, SourceFile::new(alloc, path, text)?)?;
+    Ok(sources)
 }

@@ -11,18 +11,18 @@ use Rattle.jb_tree.specs.declared.value.Value.{Value}
 use Rattle.jb_tree.specs.declared.value.Value.TheVariants as json
 use Rattle.gql_exec.specs.declared.schema.TypeRef.{TypeRef}
 use Rattle.gql_exec.specs.declared.schema.ObjectType.{ObjectType}
-use Rattle.gql_exec.specs.declared.error.GraphQLError.{GraphQLError}
-use Rattle.gql_exec.specs.declared.error.ResponseDataPathSegment.{ResponseDataPathSegment}
+use Rattle.gql_response.specs.declared.graphql_error.GraphQLError.{GraphQLError}
+use Rattle.gql_response.specs.declared.path.ResponseDataPathSegment.{ResponseDataPathSegment}
 use Rattle.std.specs.Option.{option_map}
-use Rattle.gql_source.specs.declared.line_column.LineColumn.{LineColumn}
-use Rattle.gql_exec.specs.declared.error.ResponseDataPathSegment.TheVariants.{Field}
+use Rattle.gql_ast_base.specs.Names.{Named}
+use Rattle.gql_response.specs.declared.path.ResponseDataPathSegment.TheVariants.{Field}
 use Rattle.gql_exec.specs.declared.schema.Schema.{Schema}
 use Rattle.gql_exec.specs.declared.schema.TypeRef.TheVariants.{Int, String, Boolean, Object}
 use Rattle.gql_exec.specs.Fit.{misfit_of_object, object_misfit, other_object, fault_of}
 use Rattle.gql_exec.specs.Meaning.{Meaning, gives_leaf, gives_object, fails_with}
 use Rattle.gql_exec.specs.Selections.{Selections, no_fields, field_then}
 use Rattle.gql_exec.specs.Place.{Setting, Place, place_of, object_type_of, fault_at, IsFieldOf, Reaches, at_root, below_object}
-use Rattle.gql_exec.specs.Execution.{error_at, executed_on, completed, complete, execute, followed_by}
+use Rattle.gql_exec.specs.Execution.{error_of, executed_on, completed, complete, execute, followed_by}
 use Rattle.gql_exec.specs.Explained.{IsFault, IsGood, FieldsAre, IsExplained, null_held, leaf_kept, object_kept, no_more, left_out, taken}
 
 module _ {X : Type 0} (P : X → Type 0) where
@@ -89,34 +89,34 @@ module _ {O : Type 0} (world : Setting O) where
         → Explains place.path place.within
         → let made = completed world (λ U found. execute world U found place.path place.within) place fault answer in
         AllByRecursion (Contains errors) made.1 → IsGood world errors place made.0
-    good_value place (Some text) answer told gives law listed = null_held place (error_at place text) listed.0 refl
+    good_value place (Some text) answer told gives law listed = null_held place (error_of world place text) listed.0 refl
     good_value place None (gives_leaf value) told gives law listed = leaf_kept place value gives told
     good_value place None (gives_object object) told gives law listed = good_object place object (object_type_of world object) refl gives told law listed
     good_value place None (fails_with text) told gives law listed = absurd (fault_of_failure place text gives told)
 
-    good_field : (T : ObjectType) (object : O) (path : List ResponseDataPathSegment) (key : List ℕ) (where_it_is : LineColumn) (within others : Selections)
-        (defined : Option TypeRef) → lookup (bytes_eq key) T.fields ≡ defined → Explains (path ++ Field key ∷ []) within → Explains path others
+    good_field : (T : ObjectType) (object : O) (path : List ResponseDataPathSegment) (key : List ℕ) (field_name : Named) (within others : Selections)
+        (defined : Option TypeRef) → lookup (bytes_eq key) T.fields ≡ defined → Explains (path ++ Field field_name ∷ []) within → Explains path others
         → let made = followed_by key
         (option_map
-        (λ ty. let place = place_of world T object path key where_it_is within ty in
+        (λ ty. let place = place_of world T object path key field_name within ty in
         complete world (λ U found. execute world U found place.path within) place)
         defined)
         (execute world T object path others) in
-        AllByRecursion (Contains errors) made.1 → FieldsAre world errors T object path (field_then key where_it_is within others) made.0
-    good_field T object path key where_it_is within others None same below law listed =
-        left_out T object path key where_it_is within others _ same (law T object listed)
-    good_field T object path key where_it_is within others (Some ty) same below law listed =
-        let place = place_of world T object path key where_it_is within ty in
-        taken T object path key where_it_is within others ty _ _ same
+        AllByRecursion (Contains errors) made.1 → FieldsAre world errors T object path (field_then key field_name within others) made.0
+    good_field T object path key field_name within others None same below law listed =
+        left_out T object path key field_name within others _ same (law T object listed)
+    good_field T object path key field_name within others (Some ty) same below law listed =
+        let place = place_of world T object path key field_name within ty in
+        taken T object path key field_name within others ty _ _ same
         (good_value place (fault_at world place) place.outcome refl refl below (all_first (Contains errors) _ _ listed))
         (law T object (all_second (Contains errors) _ _ listed))
 
     pub good_fields : (T : ObjectType) (object : O) (path : List ResponseDataPathSegment) (selections : Selections)
         → AllByRecursion (Contains errors) (execute world T object path selections).1 → FieldsAre world errors T object path selections (execute world T object path selections).0
     good_fields T object path no_fields listed = no_more T object path
-    good_fields T object path (field_then key where_it_is within others) listed =
-        good_field T object path key where_it_is within others (lookup (bytes_eq key) T.fields) refl
-        (λ U found. good_fields U found (path ++ Field key ∷ []) within) (λ U found. good_fields U found path others) listed
+    good_fields T object path (field_then key field_name within others) listed =
+        good_field T object path key field_name within others (lookup (bytes_eq key) T.fields) refl
+        (λ U found. good_fields U found (path ++ Field field_name ∷ []) within) (λ U found. good_fields U found path others) listed
 
   module _ (root : ObjectType) (initial : O) (all : Selections) where
     -- the law of the selections below a place: where their places are reached, their errors are true faults
@@ -133,24 +133,24 @@ module _ {O : Type 0} (world : Setting O) where
     true_value : (place : Place O) (fault : Option (List ℕ)) (answer : Meaning O) → fault_at world place ≡ fault → place.outcome ≡ answer
         → Reaches world root initial all place → Faults place.path place.within
         → AllByRecursion (IsFault world root initial all) (completed world (λ U found. execute world U found place.path place.within) place fault answer).1
-    true_value place (Some text) answer told gives reached law = (record { place = place; reached = reached; message = told; locations = refl; path = refl }, tt)
+    true_value place (Some text) answer told gives reached law = (record { place = place; reached = reached; message = told; locations = refl; path = refl; extensions = refl }, tt)
     true_value place None (gives_leaf value) told gives reached law = tt
     true_value place None (gives_object object) told gives reached law = true_object place object (object_type_of world object) refl gives told reached law
     true_value place None (fails_with text) told gives reached law = tt
 
-    true_field : (T : ObjectType) (object : O) (path : List ResponseDataPathSegment) (key : List ℕ) (where_it_is : LineColumn) (within others : Selections)
+    true_field : (T : ObjectType) (object : O) (path : List ResponseDataPathSegment) (key : List ℕ) (field_name : Named) (within others : Selections)
         (defined : Option TypeRef) → lookup (bytes_eq key) T.fields ≡ defined
-        → ((place : Place O) → IsFieldOf world T object path (field_then key where_it_is within others) place → Reaches world root initial all place)
-        → Faults (path ++ Field key ∷ []) within → Faults path others
+        → ((place : Place O) → IsFieldOf world T object path (field_then key field_name within others) place → Reaches world root initial all place)
+        → Faults (path ++ Field field_name ∷ []) within → Faults path others
         → AllByRecursion (IsFault world root initial all) (followed_by key
         (option_map
-        (λ ty. let place = place_of world T object path key where_it_is within ty in
+        (λ ty. let place = place_of world T object path key field_name within ty in
         complete world (λ U found. execute world U found place.path within) place)
         defined)
         (execute world T object path others)).1
-    true_field T object path key where_it_is within others None same reached below law = law T object (λ p field. reached p (inr field))
-    true_field T object path key where_it_is within others (Some ty) same reached below law =
-        let place = place_of world T object path key where_it_is within ty in
+    true_field T object path key field_name within others None same reached below law = law T object (λ p field. reached p (inr field))
+    true_field T object path key field_name within others (Some ty) same reached below law =
+        let place = place_of world T object path key field_name within ty in
         all_joined (IsFault world root initial all) _ _
         (true_value place (fault_at world place) place.outcome refl refl (reached place (inl (ty, same, refl))) below)
         (law T object (λ p field. reached p (inr field)))
@@ -159,9 +159,9 @@ module _ {O : Type 0} (world : Setting O) where
         → ((place : Place O) → IsFieldOf world T object path selections place → Reaches world root initial all place)
         → AllByRecursion (IsFault world root initial all) (execute world T object path selections).1
     true_faults T object path no_fields reached = tt
-    true_faults T object path (field_then key where_it_is within others) reached =
-        true_field T object path key where_it_is within others (lookup (bytes_eq key) T.fields) refl reached
-        (λ U found. true_faults U found (path ++ Field key ∷ []) within) (λ U found. true_faults U found path others)
+    true_faults T object path (field_then key field_name within others) reached =
+        true_field T object path key field_name within others (lookup (bytes_eq key) T.fields) refl reached
+        (λ U found. true_faults U found (path ++ Field field_name ∷ []) within) (λ U found. true_faults U found path others)
 
   -- what execution gives is explained
   pub execute-explained : (T : ObjectType) (object : O) (selections : Selections) (errors : List GraphQLError) (members : List (List ℕ × Value))

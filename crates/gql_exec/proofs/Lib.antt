@@ -1,5 +1,5 @@
 pub mod ExplainedLemmas
 pub mod Distinct
 pub mod PathLemmas
-pub mod Steps
+pub mod Progress
 pub mod Weight

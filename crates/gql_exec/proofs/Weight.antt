@@ -2,7 +2,7 @@
 use Rattle.std.proofs.Common.{◌≡◌, ℕ, ◌+◌, ◌<◌, List, [], ◌∷◌, map, drop, zero, suc, Some, refl, ap, sym, ◌∙◌, arith, add-one}
 use Rattle.std.specs.Prelude.{slice_get}
 use Rattle.std.specs.Map.{keys_of, values_of}
-use Rattle.gql_source.specs.declared.line_column.LineColumn.{LineColumn}
+use Rattle.gql_ast_base.specs.Names.{Named}
 use Rattle.gql_exec.specs.Selections.{Selections, no_fields, field_then, field_tree, selections_of, selections_from}
 use Rattle.gql_exec.specs.declared.selection.Field.{Field, out-Field, fold_out-Field}
 use Rattle.gql_exec.specs.declared.selection.Field.TheOpen.{Field-F}
@@ -17,8 +17,12 @@ selections_from-map (f ∷ fs) = ap (field_then f.0 (field_tree f.1).0 (field_tr
 
 -- what is selected below a field, as the field's own tree has it
 pub within-selections : (f : Field) → (field_tree f).1 ≡ selections_of (out-Field f).selections
-within-selections f = let h = fold_out-Field (LineColumn × Selections) (λ (field : Field-F (LineColumn × Selections)). (field.location, selections_from field.selections)) f in
-    ap (λ (p : LineColumn × Selections). p.1) h ∙ selections_from-map (out-Field f).selections
+within-selections f = let h = fold_out-Field (Named × Selections) (λ (field : Field-F (Named × Selections)). (field.name, selections_from field.selections)) f in
+    ap (λ (p : Named × Selections). p.1) h ∙ selections_from-map (out-Field f).selections
+
+-- a field's name, as its own tree has it
+pub name-field : (f : Field) → (field_tree f).0 ≡ (out-Field f).name
+name-field f = ap (λ (p : Named × Selections). p.0) (fold_out-Field (Named × Selections) (λ (field : Field-F (Named × Selections)). (field.name, selections_from field.selections)) f)
 
 -- a field's selections are fewer than those of its set
 pub weight-field : (fs : List (List ℕ × Field)) (i : ℕ) (f : Field) → slice_get (values_of fs) i ≡ Some f → weight (field_tree f).1 < weight (selections_of fs)

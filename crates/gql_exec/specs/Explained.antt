@@ -1,26 +1,28 @@
 -- When a response is explained by the schema, the selections and the resolvers: the law that execution keeps.
-use Rattle.std.specs.Prelude.{◌≡◌, ℕ, List, [], ◌∷◌, Some, None, All, Contains, MatchOption}
+use Rattle.std.specs.Prelude.{◌≡◌, ℕ, List, [], ◌∷◌, Some, None, option_to_list, All, Contains, MatchOption}
 use Rattle.std.specs.Str.{bytes_eq}
 use Rattle.std.specs.Map.{lookup}
 use Rattle.jb_tree.specs.declared.value.Value.{Value}
 use Rattle.jb_tree.specs.declared.value.Value.TheVariants as json
-use Rattle.gql_source.specs.declared.line_column.LineColumn.{LineColumn}
+use Rattle.gql_ast_base.specs.Names.{Named}
+use Rattle.gql_response.specs.ErrorAt.{place_in}
 use Rattle.gql_exec.specs.declared.schema.TypeRef.{TypeRef}
 use Rattle.gql_exec.specs.declared.schema.ObjectType.{ObjectType}
-use Rattle.gql_exec.specs.declared.error.GraphQLError.{GraphQLError}
-use Rattle.gql_exec.specs.declared.error.ResponseDataPathSegment.{ResponseDataPathSegment}
-use Rattle.gql_exec.specs.declared.response.ExecutionResponse.{ExecutionResponse}
+use Rattle.gql_response.specs.declared.graphql_error.GraphQLError.{GraphQLError}
+use Rattle.gql_response.specs.declared.path.ResponseDataPathSegment.{ResponseDataPathSegment}
+use Rattle.gql_response.specs.declared.execution_response.ExecutionResponse.{ExecutionResponse}
 use Rattle.gql_exec.specs.Meaning.{gives_leaf, gives_object}
 use Rattle.gql_exec.specs.Selections.{Selections, no_fields, field_then}
 use Rattle.gql_exec.specs.Place.{Setting, Place, place_of, object_type_of, fault_at, Reaches}
 
--- an error is a true fault: it tells the fault of a place that is reached, with that place's location and path
+-- an error is a true fault: it tells the fault of a place that is reached, with that place's location, as it is found in the files, and its path
 pub record IsFault {O : Type 0} (world : Setting O) (T : ObjectType) (object : O) (selections : Selections) (error : GraphQLError) : Type 0 where
   pub place : Place O
   pub reached : Reaches world T object selections place
   pub message : fault_at world place ≡ Some error.message
-  pub locations : error.locations ≡ place.location ∷ []
+  pub locations : error.locations ≡ option_to_list (place_in place.location world.sources)
   pub path : error.path ≡ place.path
+  pub extensions : error.extensions ≡ []
 
 -- the error is held at the place: its null falls there, since each type is nullable and so each place holds its own fault
 abbrev pub IsHeldAt : {O : Type 0} → Place O → GraphQLError → Type 0
@@ -40,13 +42,15 @@ mutual
   pub data FieldsAre {O : Type 0} (world : Setting O) (errors : List GraphQLError)
       : ObjectType → O → List ResponseDataPathSegment → Selections → List (List ℕ × Value) → Type 0 where
     no_more : (T : ObjectType) (object : O) (path : List ResponseDataPathSegment) → FieldsAre world errors T object path no_fields []
-    left_out : (T : ObjectType) (object : O) (path : List ResponseDataPathSegment) (key : List ℕ) (where_it_is : LineColumn) (within others : Selections) (members : List (List ℕ × Value))
+    left_out : (T : ObjectType) (object : O) (path : List ResponseDataPathSegment)
+        (key : List ℕ) (field_name : Named) (within others : Selections) (members : List (List ℕ × Value))
         → lookup (bytes_eq key) T.fields ≡ None → FieldsAre world errors T object path others members
-        → FieldsAre world errors T object path (field_then key where_it_is within others) members
-    taken : (T : ObjectType) (object : O) (path : List ResponseDataPathSegment) (key : List ℕ) (where_it_is : LineColumn) (within others : Selections) (ty : TypeRef) (value : Value) (members : List (List ℕ × Value))
-        → lookup (bytes_eq key) T.fields ≡ Some ty → IsGood world errors (place_of world T object path key where_it_is within ty) value
+        → FieldsAre world errors T object path (field_then key field_name within others) members
+    taken : (T : ObjectType) (object : O) (path : List ResponseDataPathSegment)
+        (key : List ℕ) (field_name : Named) (within others : Selections) (ty : TypeRef) (value : Value) (members : List (List ℕ × Value))
+        → lookup (bytes_eq key) T.fields ≡ Some ty → IsGood world errors (place_of world T object path key field_name within ty) value
         → FieldsAre world errors T object path others members
-        → FieldsAre world errors T object path (field_then key where_it_is within others) ((key, value) ∷ members)
+        → FieldsAre world errors T object path (field_then key field_name within others) ((key, value) ∷ members)
 
 -- each listed error is a true fault, and the data is explained
 pub record IsExplained {O : Type 0} (world : Setting O) (T : ObjectType) (object : O) (selections : Selections) (response : ExecutionResponse) : Type 0 where

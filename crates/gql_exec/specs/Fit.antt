@@ -1,4 +1,4 @@
--- What fits a type, and what is said of what doesn't (GraphQL, section 6.4.3).
+-- What fits a type, and what is said of what doesn't (GraphQL October 2021, section 6.4.3).
 use Rattle.std.specs.Prelude.{ℕ, ◌^◌, ℤ, pos, negsuc, List, ◌++◌, Option, Some, None, if◌then◌else◌, nat_lt, codes, bytes_eq}
 use Rattle.std.specs.Map.{lookup}
 use Rattle.jb_tree.specs.declared.value.Value.{Value, out-Value}

@@ -9,4 +9,3 @@ pub mod Place
 pub mod FieldPlace
 pub mod Execution
 pub mod Explained
-pub mod Response

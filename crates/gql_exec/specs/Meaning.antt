@@ -1,4 +1,4 @@
--- What a resolver answers (GraphQL, section 6.4.2), whatever memory does.
+-- What a resolver answers (GraphQL October 2021, section 6.4.2), whatever memory does.
 use Rattle.std.specs.Prelude.{◌≡◌, ℕ, List, Result, Ok, Err}
 use Rattle.jb_tree.specs.declared.value.Value.{Value}
 use Rattle.gql_exec.specs.declared.resolved_value.ResolvedValue.{ResolvedValue}

@@ -1,7 +1,7 @@
 -- A path that is linked from its end, as the list of its steps from the root.
 use Rattle.std.specs.Prelude.{List, [], ◌∷◌, ◌++◌}
-use Rattle.gql_exec.specs.declared.error.ResponseDataPathSegment.{ResponseDataPathSegment}
-use Rattle.gql_exec.specs.declared.error.ResponseDataPathSegment.TheVariants.{Field}
+use Rattle.gql_response.specs.declared.path.ResponseDataPathSegment.{ResponseDataPathSegment}
+use Rattle.gql_response.specs.declared.path.ResponseDataPathSegment.TheVariants.{Field}
 use Rattle.gql_exec.specs.declared.path.Path.{Path, fold-Path}
 use Rattle.gql_exec.specs.declared.path.Path.TheOpen.{Path-F, Root, Key}
 

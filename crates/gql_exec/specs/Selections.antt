@@ -1,21 +1,21 @@
--- A selection set as a tree (GraphQL, section 2.4): each response key in order, with the place of its field in the
--- document and what is selected below it.
+-- A selection set as a tree (GraphQL October 2021, section 2.4): each response key in order, with the name of its field as
+-- it stands in the document and what is selected below it.
 use Rattle.std.specs.Prelude.{ℕ, List, [], ◌∷◌}
-use Rattle.gql_source.specs.declared.line_column.LineColumn.{LineColumn}
+use Rattle.gql_ast_base.specs.Names.{Named}
 use Rattle.gql_exec.specs.declared.selection.Field.{Field, fold-Field}
 
 pub data Selections : Type 0 where
   no_fields : Selections
-  field_then : List ℕ → LineColumn → Selections → Selections → Selections
+  field_then : List ℕ → Named → Selections → Selections → Selections
 
--- the tree of fields that are trees already, each with its key and its place
-abbrev pub selections_from : List (List ℕ × (LineColumn × Selections)) → Selections
+-- the tree of fields that are trees already, each with its key and its name
+abbrev pub selections_from : List (List ℕ × (Named × Selections)) → Selections
 selections_from [] = no_fields
 selections_from (f ∷ fs) = field_then f.0 f.1.0 f.1.1 (selections_from fs)
 
--- a field's place, and the tree of what is selected below it
-abbrev pub field_tree : Field → LineColumn × Selections
-field_tree = fold-Field (LineColumn × Selections) (λ field. (field.location, selections_from field.selections))
+-- a field's name, and the tree of what is selected below it
+abbrev pub field_tree : Field → Named × Selections
+field_tree = fold-Field (Named × Selections) (λ field. (field.name, selections_from field.selections))
 
 -- a selection set as a tree
 abbrev pub selections_of : List (List ℕ × Field) → Selections

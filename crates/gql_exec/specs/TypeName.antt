@@ -1,4 +1,4 @@
--- The name of a type (GraphQL, section 3.4).
+-- The name of a type (GraphQL October 2021, section 3.4).
 use Rattle.std.specs.Prelude.{ℕ, List, codes}
 use Rattle.gql_exec.specs.declared.schema.TypeRef.{TypeRef}
 use Rattle.gql_exec.specs.declared.schema.TypeRef.TheVariants.{Int, String, Boolean, Object}

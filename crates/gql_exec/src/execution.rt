@@ -1,43 +1,48 @@
-//! Execution of a selection set, of a field and of a value (GraphQL, sections 6.3 and 6.4).
+//! Execution of a selection set, of a field and of a value (GraphQL October 2021, sections 6.3 and 6.4).
 
-ghost use Rattle.std.specs.Prelude.{◌≡◌, ◌++◌, [], Some, IfOk, OnOk};
+ghost use Rattle.std.specs.Prelude.{◌≡◌, ◌++◌, IfOk, OnOk};
 ghost use Rattle.gql_exec.specs.Meaning.{meaning_of, gives_leaf, gives_object};
 ghost use Rattle.gql_exec.specs.Selections.{selections_of};
 ghost use Rattle.gql_exec.specs.Path.{path_of};
 ghost use Rattle.gql_exec.specs.Place.{setting};
 ghost use Rattle.gql_exec.specs.FieldPlace.{place_in};
-ghost use Rattle.gql_exec.specs.Execution.{execute, outcome_at};
+ghost use Rattle.gql_exec.specs.Execution.{execute, outcome_at, response_of};
 ghost use Rattle.gql_exec.specs.Explained.{IsExplained};
 
-use super::error::GraphQLError;
-use super::fit::{fitting_object_type, leaf_misfit, resolver_error};
-use super::path::Path;
-use super::place::FieldPlace;
-use super::resolved_value::ResolvedValue;
-use super::resolver::{ObjectValue, ResolveError, ResolveInfo};
-use super::response::ExecutionResponse;
-use super::schema::{ObjectType, Schema};
-use super::selection::SelectionSet;
-use jb_tree::{Listed, Map, Refused, Value};
+use crate::fit::{fitting_object_type, leaf_misfit, resolver_error};
+use crate::path::Path;
+use crate::place::FieldPlace;
+use crate::resolved_value::ResolvedValue;
+use crate::resolver::{ObjectValue, ResolveError, ResolveInfo};
+use crate::schema::{ObjectType, Schema};
+use crate::selection::SelectionSet;
+use gql_response::{ExecutionResponse, GraphQLError};
+use gql_source::SourceMap;
+use jb_tree::{Listed, Map, Memory, Refused, Value};
 use std::alloc::{AllocError, Global};
 
 /// Executes the selections on the initial object, which is taken to be of the root type whatever type it names. Below
-/// the root an object is executed on the type that it names. `Err` only for want of memory.
+/// the root an object is executed on the type that it names. The places of errors are looked up in `sources`. `Err` only
+/// for want of memory.
 pub fn execute<O: ObjectValue>(
     alloc: Global,
     schema: &Schema,
+    sources: &SourceMap,
     root_type: &ObjectType,
     selections: &SelectionSet,
     initial: &O,
-) -> Result<ExecutionResponse, AllocError>
+) -> Result<ExecutionResponse, Memory>
     ensures executed { IfOk result (λ response.
-        let made = execute (setting schema.now O.type_of O.resolves) root_type.now initial.now [] (selections_of selections.now) in
-        response ≡ record { errors = made.1; root = Some made.0 }) }
+        response ≡ response_of (setting schema.now sources.now O.type_of O.resolves) root_type.now initial.now (selections_of selections.now)) }
     ensures explained { IfOk result
-        (IsExplained (setting schema.now O.type_of O.resolves) root_type.now initial.now (selections_of selections.now)) }
+        (IsExplained (setting schema.now sources.now O.type_of O.resolves) root_type.now initial.now (selections_of selections.now)) }
 {
     let mut errors = Listed::new(alloc);
-    let execution = Execution { alloc, schema };
+    let execution = Execution {
+        alloc,
+        schema,
+        sources,
+    };
     let root = execution.execute_selection_set(
         root_type,
         initial,
@@ -56,6 +61,7 @@ pub fn execute<O: ObjectValue>(
 struct Execution<'s> {
     alloc: Global,
     schema: &'s Schema,
+    sources: &'s SourceMap,
 }
 
 impl<'s> Execution<'s> {
@@ -68,21 +74,22 @@ impl<'s> Execution<'s> {
         path: &Path<'_>,
         selections: &SelectionSet,
         errors: &mut Listed<GraphQLError>,
-    ) -> Result<Map, AllocError>
+    ) -> Result<Map, Memory>
         ensures members { IfOk result (λ members. members ≡
-            (execute (setting self.now.schema.now O.type_of O.resolves) object_type.now object.now (path_of path.now) (selections_of selections.now)).0) }
+            (execute (setting self.now.schema.now self.now.sources.now O.type_of O.resolves) object_type.now object.now (path_of path.now) (selections_of selections.now)).0) }
         ensures listed { OnOk result (errors.new ≡ errors.old ++
-            (execute (setting self.now.schema.now O.type_of O.resolves) object_type.now object.now (path_of path.now) (selections_of selections.now)).1) }
+            (execute (setting self.now.schema.now self.now.sources.now O.type_of O.resolves) object_type.now object.now (path_of path.now) (selections_of selections.now)).1) }
     {
         let mut members = Map::new(self.alloc);
         for index in 0..selections.len() {
             let key = selections.key_at(index);
             let name = key.as_str();
             if let Some(expected) = object_type.field_type(name) {
-                let below = Path::Key(path, name);
+                let field = selections.value_at(index);
+                let below = Path::Key(path, &field.name);
                 let place = FieldPlace {
                     path: &below,
-                    field: selections.value_at(index),
+                    field,
                     expected,
                 };
                 let value = self.execute_field(object_type, object, name, &place, errors)?;
@@ -101,12 +108,12 @@ impl<'s> Execution<'s> {
         name: &str,
         place: &FieldPlace<'_>,
         errors: &mut Listed<GraphQLError>,
-    ) -> Result<Value, AllocError>
+    ) -> Result<Value, Memory>
         ensures value { IfOk result (λ value. value ≡
-            (outcome_at (setting self.now.schema.now O.type_of O.resolves)
+            (outcome_at (setting self.now.schema.now self.now.sources.now O.type_of O.resolves)
             (place_in place.now (O.resolves self.now.schema.now object_type.now name.now object.now))).0) }
         ensures listed { OnOk result (errors.new ≡ errors.old ++
-            (outcome_at (setting self.now.schema.now O.type_of O.resolves)
+            (outcome_at (setting self.now.schema.now self.now.sources.now O.type_of O.resolves)
             (place_in place.now (O.resolves self.now.schema.now object_type.now name.now object.now))).1) }
     {
         let info = ResolveInfo::new(self.schema, object_type, name);
@@ -114,7 +121,7 @@ impl<'s> Execution<'s> {
             Ok(resolved) => self.complete_value(place, resolved, errors),
             Err(ResolveError::Field(error)) => {
                 let message = resolver_error(self.alloc, error.message.as_str())?;
-                place.refuse(self.alloc, message, errors)
+                place.refuse(self.alloc, self.sources, message, errors)
             }
             Err(ResolveError::Memory) => Err(AllocError),
         }
@@ -127,11 +134,11 @@ impl<'s> Execution<'s> {
         place: &FieldPlace<'_>,
         resolved: ResolvedValue<O>,
         errors: &mut Listed<GraphQLError>,
-    ) -> Result<Value, AllocError>
+    ) -> Result<Value, Memory>
         ensures value { IfOk result (λ value. value ≡
-            (outcome_at (setting self.now.schema.now O.type_of O.resolves) (place_in place.now (meaning_of resolved))).0) }
+            (outcome_at (setting self.now.schema.now self.now.sources.now O.type_of O.resolves) (place_in place.now (meaning_of resolved))).0) }
         ensures listed { OnOk result (errors.new ≡ errors.old ++
-            (outcome_at (setting self.now.schema.now O.type_of O.resolves) (place_in place.now (meaning_of resolved))).1) }
+            (outcome_at (setting self.now.schema.now self.now.sources.now O.type_of O.resolves) (place_in place.now (meaning_of resolved))).1) }
     {
         match resolved {
             ResolvedValue::Leaf(value) => self.complete_leaf::<O>(place, value, errors),
@@ -145,15 +152,15 @@ impl<'s> Execution<'s> {
         place: &FieldPlace<'_>,
         value: Value,
         errors: &mut Listed<GraphQLError>,
-    ) -> Result<Value, AllocError>
+    ) -> Result<Value, Memory>
         ensures value { IfOk result (λ made. made ≡
-            (outcome_at (setting self.now.schema.now O.type_of O.resolves) (place_in place.now (gives_leaf value))).0) }
+            (outcome_at (setting self.now.schema.now self.now.sources.now O.type_of O.resolves) (place_in place.now (gives_leaf value))).0) }
         ensures listed { OnOk result (errors.new ≡ errors.old ++
-            (outcome_at (setting self.now.schema.now O.type_of O.resolves) (place_in place.now (gives_leaf value))).1) }
+            (outcome_at (setting self.now.schema.now self.now.sources.now O.type_of O.resolves) (place_in place.now (gives_leaf value))).1) }
     {
         match leaf_misfit(self.alloc, self.schema, place.expected, &value)? {
             None => Ok(value),
-            Some(message) => place.refuse(self.alloc, message, errors),
+            Some(message) => place.refuse(self.alloc, self.sources, message, errors),
         }
     }
 
@@ -164,11 +171,11 @@ impl<'s> Execution<'s> {
         place: &FieldPlace<'_>,
         object: &O,
         errors: &mut Listed<GraphQLError>,
-    ) -> Result<Value, AllocError>
+    ) -> Result<Value, Memory>
         ensures value { IfOk result (λ value. value ≡
-            (outcome_at (setting self.now.schema.now O.type_of O.resolves) (place_in place.now (gives_object object.now))).0) }
+            (outcome_at (setting self.now.schema.now self.now.sources.now O.type_of O.resolves) (place_in place.now (gives_object object.now))).0) }
         ensures listed { OnOk result (errors.new ≡ errors.old ++
-            (outcome_at (setting self.now.schema.now O.type_of O.resolves) (place_in place.now (gives_object object.now))).1) }
+            (outcome_at (setting self.now.schema.now self.now.sources.now O.type_of O.resolves) (place_in place.now (gives_object object.now))).1) }
     {
         match fitting_object_type(self.alloc, self.schema, place.expected, object.type_name()) {
             Ok(object_type) => {
@@ -181,7 +188,7 @@ impl<'s> Execution<'s> {
                 )?;
                 Ok(Value::Object(members))
             }
-            Err(Refused::Fault(message)) => place.refuse(self.alloc, message, errors),
+            Err(Refused::Fault(message)) => place.refuse(self.alloc, self.sources, message, errors),
             Err(Refused::Memory) => Err(AllocError),
         }
     }

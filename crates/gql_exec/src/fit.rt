@@ -1,13 +1,13 @@
-//! What fits a type, and the text of what doesn't (GraphQL, section 6.4.3).
+//! What fits a type, and the text of what doesn't (GraphQL October 2021, section 6.4.3).
 
 ghost use Rattle.std.specs.Prelude.{◌≡◌, IfOk};
 ghost use Rattle.gql_exec.specs.Fit.{leaf_misfit, scalar_misfit, number_misfit, unexpected_leaf, undefined_type, object_at_scalar, other_object, resolver_error};
 ghost use Rattle.gql_exec.specs.ObjectFit.{IsFitOfObject};
 
-use super::schema::{ObjectType, Schema, TypeRef};
+use crate::schema::{ObjectType, Schema, TypeRef};
 use jb_print::to_text;
-use jb_tree::{Number, Refused, Text, Value};
-use std::alloc::{AllocError, Global};
+use jb_tree::{Memory, Number, Refused, Text, Value};
+use std::alloc::Global;
 
 /// The text of a leaf that doesn't fit its type, `None` where it fits.
 pub fn leaf_misfit(
@@ -15,7 +15,7 @@ pub fn leaf_misfit(
     schema: &Schema,
     expected: &TypeRef,
     value: &Value,
-) -> Result<Option<Text>, AllocError>
+) -> Result<Option<Text>, Memory>
     ensures { IfOk result (λ misfit. misfit ≡ leaf_misfit schema.now expected.now value.now) }
 {
     if let Value::Null = value {
@@ -36,11 +36,7 @@ pub fn leaf_misfit(
 }
 
 /// The text of a leaf that doesn't fit a scalar type.
-fn scalar_misfit(
-    alloc: Global,
-    expected: &TypeRef,
-    value: &Value,
-) -> Result<Option<Text>, AllocError>
+fn scalar_misfit(alloc: Global, expected: &TypeRef, value: &Value) -> Result<Option<Text>, Memory>
     ensures { IfOk result (λ misfit. misfit ≡ scalar_misfit expected.now value.now) }
 {
     match (expected, value) {
@@ -53,7 +49,7 @@ fn scalar_misfit(
 }
 
 /// The text of a number that is no `Int`: one that 64 bits with a sign hold overflows it.
-fn number_misfit(alloc: Global, number: &Number, value: &Value) -> Result<Option<Text>, AllocError>
+fn number_misfit(alloc: Global, number: &Number, value: &Value) -> Result<Option<Text>, Memory>
     ensures { IfOk result (λ misfit. misfit ≡ number_misfit value.now number.now) }
 {
     match number.as_i64() {
@@ -69,7 +65,7 @@ fn number_misfit(alloc: Global, number: &Number, value: &Value) -> Result<Option
     }
 }
 
-fn unexpected_leaf(alloc: Global, value: &Value, expected: &str) -> Result<Text, AllocError>
+fn unexpected_leaf(alloc: Global, value: &Value, expected: &str) -> Result<Text, Memory>
     ensures { IfOk result (λ text. text ≡ unexpected_leaf value.now expected.now) }
 {
     let text = to_text(alloc, value)?;
@@ -77,7 +73,7 @@ fn unexpected_leaf(alloc: Global, value: &Value, expected: &str) -> Result<Text,
     Ok(Text::from_string(format!(in alloc; "resolver returned {text}, expected {expected}")?))
 }
 
-fn undefined_type(alloc: Global, name: &str) -> Result<Text, AllocError>
+fn undefined_type(alloc: Global, name: &str) -> Result<Text, Memory>
     ensures { IfOk result (λ text. text ≡ undefined_type name.now) }
 {
     Ok(Text::from_string(format!(in alloc; "undefined type {name}")?))
@@ -104,7 +100,7 @@ pub fn fitting_object_type<'a>(
     }
 }
 
-fn object_at_scalar(alloc: Global, found: &str, expected: &str) -> Result<Text, AllocError>
+fn object_at_scalar(alloc: Global, found: &str, expected: &str) -> Result<Text, Memory>
     ensures { IfOk result (λ text. text ≡ object_at_scalar found.now expected.now) }
 {
     Ok(Text::from_string(format!(in alloc;
@@ -112,7 +108,7 @@ fn object_at_scalar(alloc: Global, found: &str, expected: &str) -> Result<Text, 
     )?))
 }
 
-fn other_object(alloc: Global, found: &str, expected: &str) -> Result<Text, AllocError>
+fn other_object(alloc: Global, found: &str, expected: &str) -> Result<Text, Memory>
     ensures { IfOk result (λ text. text ≡ other_object found.now expected.now) }
 {
     Ok(Text::from_string(format!(in alloc;
@@ -121,7 +117,7 @@ fn other_object(alloc: Global, found: &str, expected: &str) -> Result<Text, Allo
 }
 
 /// The text of a resolver's failure.
-pub fn resolver_error(alloc: Global, text: &str) -> Result<Text, AllocError>
+pub fn resolver_error(alloc: Global, text: &str) -> Result<Text, Memory>
     ensures { IfOk result (λ message. message ≡ resolver_error text.now) }
 {
     Ok(Text::from_string(format!(in alloc; "resolver error: {text}")?))

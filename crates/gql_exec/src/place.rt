@@ -4,12 +4,13 @@ ghost use Rattle.std.specs.Prelude.{◌≡◌, [], ◌∷◌, ◌++◌, IfOk, On
 ghost use Rattle.jb_tree.specs.declared.value.Value.TheVariants as json;
 ghost use Rattle.gql_exec.specs.FieldPlace.{error_in};
 
-use super::error::GraphQLError;
-use super::path::Path;
-use super::schema::TypeRef;
-use super::selection::Field;
-use jb_tree::{Listed, Text, Value};
-use std::alloc::{AllocError, Global};
+use crate::path::Path;
+use crate::schema::TypeRef;
+use crate::selection::Field;
+use gql_response::GraphQLError;
+use gql_source::SourceMap;
+use jb_tree::{Listed, Memory, Text, Value};
+use std::alloc::Global;
 
 /// A place: its path, the field that is selected there and the type that is expected.
 #[derive(Clone, Copy)]
@@ -20,23 +21,21 @@ pub struct FieldPlace<'a> {
 }
 
 impl<'a> FieldPlace<'a> {
-    /// Lists an error at this place, which is then null. `Err` only for want of memory.
+    /// Lists an error at this place, which is then null. Its location is looked up in the files. `Err` only for want of
+    /// memory.
     pub fn refuse(
         &self,
         alloc: Global,
+        sources: &SourceMap,
         message: Text,
         errors: &mut Listed<GraphQLError>,
-    ) -> Result<Value, AllocError>
+    ) -> Result<Value, Memory>
         ensures null { IfOk result (λ value. value ≡ json.Null) }
-        ensures listed { OnOk result (errors.new ≡ errors.old ++ error_in self.now message ∷ []) }
+        ensures listed { OnOk result (errors.new ≡ errors.old ++ error_in sources.now self.now message ∷ []) }
     {
-        let mut locations = Listed::new(alloc);
-        locations.push(self.field.location)?;
-        errors.push(GraphQLError {
-            message,
-            locations,
-            path: self.path.to_segments(alloc)?,
-        })?;
+        let mut error = GraphQLError::of_text(alloc, message, self.field.name.location(), sources)?;
+        error.path = self.path.to_segments(alloc)?;
+        errors.push(error)?;
         Ok(Value::Null)
     }
 }

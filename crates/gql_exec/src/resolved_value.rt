@@ -1,3 +1,5 @@
+//! What resolvers give.
+
 use jb_tree::Value;
 
 /// What a resolver gives for a field: a JSON value as it stands, or an object whose fields are resolved in turn.

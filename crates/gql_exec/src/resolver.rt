@@ -2,10 +2,10 @@
 
 ghost use Rattle.std.specs.Prelude.{◌≡◌};
 
-use super::resolved_value::ResolvedValue;
-use super::schema::{ObjectType, Schema};
-use jb_tree::Text;
-use std::alloc::{AllocError, Global};
+use crate::resolved_value::ResolvedValue;
+use crate::schema::{ObjectType, Schema};
+use jb_tree::{Memory, Text};
+use std::alloc::Global;
 
 /// Why a resolver has no value: the text after `resolver error: `.
 #[derive(Drop)]
@@ -20,13 +20,13 @@ pub enum ResolveError {
     Memory,
 }
 
-impl From<AllocError> for ResolveError {
+impl From<Memory> for ResolveError {
     ghost use Rattle.std.specs.Prelude.{◌≡◌};
     ghost use Rattle.gql_exec.specs.declared.resolver.ResolveError.TheVariants as refused;
 
     ghost from_gives = { λ _ error. error ≡ refused.Memory };
 
-    fn from(_want: AllocError) -> ResolveError {
+    fn from(_want: Memory) -> ResolveError {
         ResolveError::Memory
     }
 }
@@ -81,7 +81,7 @@ impl<'a> ResolveInfo<'a> {
     }
 }
 
-/// An object of the data, which knows the name of its type and resolves its fields (GraphQL, section 6.4.2).
+/// An object of the data, which knows the name of its type and resolves its fields (GraphQL October 2021, section 6.4.2).
 pub trait ObjectValue: Drop {
     ghost use Rattle.std.specs.Prelude.{List, ℕ};
     ghost use Rattle.gql_exec.specs.declared.schema.Schema.{Schema};

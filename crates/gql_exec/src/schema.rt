@@ -1,19 +1,21 @@
+//! Object types and their fields: a thin schema that stands here until schemas are built whole.
+
 ghost use Rattle.std.specs.Prelude.{◌≡◌};
 ghost use Rattle.std.specs.Option.{option_copied};
 ghost use Rattle.std.specs.Str.{bytes_eq};
 ghost use Rattle.std.specs.Map.{lookup};
 ghost use Rattle.gql_exec.specs.TypeName.{type_name};
 
-use jb_tree::{Pairs, Text};
+use jb_tree::{ByteString, Pairs, Text};
 
-/// The type of a field (GraphQL, section 3.4). Each of them may be null.
+/// The type of a field (GraphQL October 2021, section 3.4). Each of them may be null.
 #[derive(Drop)]
 pub enum TypeRef {
     Int,
     String,
     Boolean,
-    /// The object type of this name.
-    Object(Text),
+    /// The object type of this name, whose copies share its text.
+    Object(ByteString),
 }
 
 impl TypeRef {
@@ -30,7 +32,7 @@ impl TypeRef {
     }
 }
 
-/// An object type: its name, and the type of each of its fields (GraphQL, section 3.6).
+/// An object type: its name, and the type of each of its fields (GraphQL October 2021, section 3.6).
 #[derive(Drop)]
 pub struct ObjectType {
     pub name: Text,
@@ -46,7 +48,7 @@ impl ObjectType {
     }
 }
 
-/// The object types of a schema by name (GraphQL, section 3.3).
+/// The object types of a schema by name (GraphQL October 2021, section 3.3).
 #[derive(Drop)]
 pub struct Schema {
     pub types: Pairs<ObjectType>,

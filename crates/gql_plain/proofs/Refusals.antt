@@ -2,7 +2,7 @@
 use Rattle.std.proofs.Common.{true, ◌≡◌, List, ℕ, Option, None, Result, Ok, Err, IsErrAnd, sym, subst}
 use Rattle.jb_text.specs.declared.refused.Refused.{Refused}
 use Rattle.jb_text.specs.declared.refused.Refused.TheVariants.{Fault, Memory}
-use Rattle.gql_source.specs.declared.line_column.LineColumn.{LineColumn}
+use Rattle.gql_ast_base.specs.Names.{Named}
 use Rattle.gql_exec.specs.declared.selection.Field.{Field}
 use Rattle.gql_exec.specs.Selections.{Selections}
 use Rattle.gql_plain.specs.declared.not_plain.NotPlain.{NotPlain}
@@ -26,7 +26,7 @@ pub told_set : (e : Refused NotPlain) (m : Option Selections) → GivesSet (Err 
 told_set (Fault x) m gives = gives
 told_set Memory m gives = tt
 
-pub told_field : (e : Refused NotPlain) (m : Option (List ℕ × (LineColumn × Selections))) → GivesField (Err e) m → Tells e (m ≡ None)
+pub told_field : (e : Refused NotPlain) (m : Option (List ℕ × (Named × Selections))) → GivesField (Err e) m → Tells e (m ≡ None)
 told_field (Fault x) m gives = gives
 told_field Memory m gives = tt
 
@@ -40,7 +40,7 @@ gives_set (Ok x) e m is none = absurd is
 gives_set (Err (Fault x)) e m is none = subst (λ f. Tells f (m ≡ None)) (sym is) none
 gives_set (Err Memory) e m is none = tt
 
-pub gives_field : (r : Result (List ℕ × Field) (Refused NotPlain)) (e : Refused NotPlain) (m : Option (List ℕ × (LineColumn × Selections))) → IsErrAnd r (λ f. f ≡ e) → Tells e (m ≡ None) → GivesField r m
+pub gives_field : (r : Result (List ℕ × Field) (Refused NotPlain)) (e : Refused NotPlain) (m : Option (List ℕ × (Named × Selections))) → IsErrAnd r (λ f. f ≡ e) → Tells e (m ≡ None) → GivesField r m
 gives_field (Ok x) e m is none = absurd is
 gives_field (Err (Fault x)) e m is none = subst (λ f. Tells f (m ≡ None)) (sym is) none
 gives_field (Err Memory) e m is none = tt

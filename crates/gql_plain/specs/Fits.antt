@@ -3,9 +3,7 @@ use Rattle.std.specs.Prelude.{ℕ, Bool, true, false, List, [], Option, Some, No
 use Rattle.std.specs.Option.{option_map, option_and_then}
 use Rattle.std.specs.Str.{bytes_eq}
 use Rattle.std.specs.Map.{lookup}
-use Rattle.gql_source.specs.Lines.{line_column_within}
-use Rattle.gql_source.specs.Span.{Span}
-use Rattle.gql_source.specs.declared.line_column.LineColumn.{LineColumn}
+use Rattle.gql_ast_base.specs.Names.{Named}
 use Rattle.gql_exec.specs.declared.schema.ObjectType.{ObjectType}
 use Rattle.gql_exec.specs.declared.schema.Schema.{Schema}
 use Rattle.gql_exec.specs.declared.schema.TypeRef.{TypeRef}
@@ -16,13 +14,8 @@ use Rattle.gql_plain.specs.Selected.{Selected, Chosen, nothing, bare_then, other
 
 abbrev pub is_nothing : Selected → Bool
 is_nothing nothing = true
-is_nothing (bare_then name at below others) = false
+is_nothing (bare_then name below others) = false
 is_nothing (other_then others) = false
-
--- where a name begins in the text
-abbrev pub place_of : List ℕ → Option Span → Option LineColumn
-place_of text None = None
-place_of text (Some span) = line_column_within text span.offset
 
 -- no selections, where there are none
 abbrev pub none_if : Bool → Option Selections
@@ -36,31 +29,31 @@ at_type schema none below (Some Int) = none_if none
 at_type schema none below (Some String) = none_if none
 at_type schema none below (Some Boolean) = none_if none
 
--- a name, with a place and with selections, where there are both
-abbrev pub named : List ℕ → Option LineColumn → Option Selections → Option (List ℕ × (LineColumn × Selections))
-named name place below = option_and_then (λ at. option_map (λ made. (name, (at, made))) below) place
+-- a name with its selections, where there are any, under its text
+abbrev pub named : Named → Option Selections → Option (List ℕ × (Named × Selections))
+named name below = option_map (λ made. (name.text, (name, made))) below
 
 abbrev pub Fields : Type 0
-Fields = List (List ℕ × (LineColumn × Selections))
+Fields = List (List ℕ × (Named × Selections))
 
 -- the fields that are selected on the object type T, no two of one name
-abbrev pub fields_on : Schema → List ℕ → ObjectType → Selected → Option Fields
-fields_on schema text T nothing = Some []
-fields_on schema text T (other_then others) = None
-fields_on schema text T (bare_then name at below others) =
+abbrev pub fields_on : Schema → ObjectType → Selected → Option Fields
+fields_on schema T nothing = Some []
+fields_on schema T (other_then others) = None
+fields_on schema T (bare_then name below others) =
     added
-    (named name (place_of text at) (at_type schema (is_nothing below) (λ U. option_map selections_from (fields_on schema text U below)) (lookup (bytes_eq name) T.fields)))
-    (fields_on schema text T others)
+    (named name (at_type schema (is_nothing below) (λ U. option_map selections_from (fields_on schema U below)) (lookup (bytes_eq name.text) T.fields)))
+    (fields_on schema T others)
 
 -- the same as a tree
-abbrev pub fits : Schema → List ℕ → ObjectType → Selected → Option Selections
-fits schema text T row = option_map selections_from (fields_on schema text T row)
+abbrev pub fits : Schema → ObjectType → Selected → Option Selections
+fits schema T row = option_map selections_from (fields_on schema T row)
 
 -- what is selected at a field of this type, if there is one
-abbrev pub fits_type : Schema → List ℕ → Option TypeRef → Selected → Option Selections
-fits_type schema text type row = at_type schema (is_nothing row) (λ U. fits schema text U row) type
+abbrev pub fits_type : Schema → Option TypeRef → Selected → Option Selections
+fits_type schema type row = at_type schema (is_nothing row) (λ U. fits schema U row) type
 
 -- what one selection selects
-abbrev pub field_in : Schema → List ℕ → ObjectType → Chosen → Option (List ℕ × (LineColumn × Selections))
-field_in schema text T None = None
-field_in schema text T (Some field) = named field.0 (place_of text field.1.0) (fits_type schema text (lookup (bytes_eq field.0) T.fields) field.1.1)
+abbrev pub field_in : Schema → ObjectType → Chosen → Option (List ℕ × (Named × Selections))
+field_in schema T None = None
+field_in schema T (Some field) = named field.0 (fits_type schema (lookup (bytes_eq field.0.text) T.fields) field.1)

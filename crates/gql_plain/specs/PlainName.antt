@@ -10,4 +10,5 @@ is_reserved name = starts_with nat_eq name (codes "__")
 -- the name of a built-in scalar (section 3.5)
 abbrev pub is_built_in : List ℕ → Bool
 is_built_in name =
-    bytes_eq name (codes "Int") || bytes_eq name (codes "Float") || bytes_eq name (codes "String") || bytes_eq name (codes "Boolean") || bytes_eq name (codes "ID")
+    bytes_eq name (codes "Int") || bytes_eq name (codes "Float") || bytes_eq name (codes "String")
+    || bytes_eq name (codes "Boolean") || bytes_eq name (codes "ID")

@@ -1,5 +1,5 @@
 -- The selections that the definitions of a document ask, where they are a plain query.
-use Rattle.std.specs.Prelude.{ℕ, Bool, true, false, ◌&&◌, not, List, [], ◌∷◌, Option, Some, None, is_none, if◌then◌else◌}
+use Rattle.std.specs.Prelude.{Bool, true, false, ◌&&◌, not, List, [], ◌∷◌, Option, Some, None, is_none, if◌then◌else◌}
 use Rattle.std.specs.Option.{option_and_then}
 use Rattle.gql_ast.specs.declared.definition.Definition.{Definition}
 use Rattle.gql_ast.specs.declared.definition.Definition.TheVariants as definition
@@ -30,7 +30,7 @@ only_operation (definition.OperationDefinition operation ∷ []) = Some operatio
 only_operation _ = None
 
 -- what a plain query selects on the root type
-abbrev pub plain_query : Schema → ObjectType → List ℕ → List Definition → Option Selections
-plain_query schema root_type text definitions =
-    option_and_then (λ operation. if is_plain operation then fits schema text root_type (selected operation.selection_set) else None)
+abbrev pub plain_query : Schema → ObjectType → List Definition → Option Selections
+plain_query schema root_type definitions =
+    option_and_then (λ operation. if is_plain operation then fits schema root_type (selected operation.selection_set) else None)
     (only_operation definitions)

@@ -5,6 +5,8 @@
 //! types and of each other, and one query of fields without a name. A plain document is valid too: its names are
 //! distinct, and what it names is defined (sections 3.6 and 5.3). What the documents make is a definition, and each of
 //! the two gives exactly that, or [`NotPlain`] exactly where there is none.
+//!
+//! This crate is scaffolding: it goes once schemas and documents are built whole.
 #![tactic(auto)]
 
 mod distinct;

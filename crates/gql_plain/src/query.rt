@@ -10,10 +10,9 @@ ghost use Rattle.gql_plain.specs.Selected.{chosen, is_bare as is_bare_field, sel
 use crate::NotPlain;
 use crate::distinct::add;
 use gql_ast::{
-    Definition, Field as FieldSelection, Name, OperationDefinition, OperationType, Selection,
+    Copying, Definition, Field as FieldSelection, OperationDefinition, OperationType, Selection,
 };
 use gql_exec::{Field, ObjectType, Schema, SelectionSet, TypeRef};
-use gql_source::{LineColumn, LineCursor};
 use jb_map::Pairs;
 use jb_text::{ByteString, Listed, Refused};
 use std::alloc::Global;
@@ -27,17 +26,6 @@ fn is_bare(field: &FieldSelection) -> bool
         && field.directives.as_slice().is_empty()
 }
 
-/// Where a name stands in the text.
-fn place(name: &Name, cursor: &mut LineCursor<'_>) -> Option<LineColumn>
-    ensures place { result ≡ spec.place_of cursor.old name.now.location }
-    ensures text { cursor.new ≡ cursor.old }
-{
-    match name.location() {
-        Some(span) => cursor.get_line_column(span.offset()),
-        None => None,
-    }
-}
-
 /// What stays the same throughout a query.
 #[derive(Clone, Copy)]
 struct Query<'s> {
@@ -48,19 +36,17 @@ struct Query<'s> {
 impl<'s> Query<'s> {
     /// The fields that are selected on an object type.
     #[cycle(selections)]
-    fn set(
+    fn selections_on(
         &self,
         object_type: &ObjectType,
         selections: &Listed<Selection>,
-        cursor: &mut LineCursor<'_>,
     ) -> Result<SelectionSet, Refused<NotPlain>>
-        ensures set { GivesSet result (spec.fits self.now.schema.now cursor.old object_type.now (selected selections.now)) }
-        ensures text { cursor.new ≡ cursor.old }
+        ensures { GivesSet result (spec.fits self.now.schema.now object_type.now (selected selections.now)) }
     {
         let mut set = Pairs::new(self.alloc);
         for selection in selections.as_slice() {
-            let (name, field) = self.field(object_type, selection, cursor)?;
-            add(&mut set, name, field)?;
+            let (key, field) = self.field(object_type, selection)?;
+            add(&mut set, key, field)?;
         }
         Ok(set)
     }
@@ -71,10 +57,8 @@ impl<'s> Query<'s> {
         &self,
         object_type: &ObjectType,
         selection: &Selection,
-        cursor: &mut LineCursor<'_>,
     ) -> Result<(ByteString, Field), Refused<NotPlain>>
-        ensures field { GivesField result (spec.field_in self.now.schema.now cursor.old object_type.now (chosen selection.now)) }
-        ensures text { cursor.new ≡ cursor.old }
+        ensures { GivesField result (spec.field_in self.now.schema.now object_type.now (chosen selection.now)) }
     {
         let Selection::Field(field) = selection else {
             return Err(Refused::Fault(NotPlain));
@@ -82,19 +66,11 @@ impl<'s> Query<'s> {
         if !is_bare(field) {
             return Err(Refused::Fault(NotPlain));
         }
-        let Some(location) = place(&field.name, cursor) else {
-            return Err(Refused::Fault(NotPlain));
-        };
         let field_type = object_type.field_type(field.name.as_str());
-        let selections = self.below(field_type, &field.selection_set, cursor)?;
-        let name = ByteString::from_text(self.alloc, field.name.as_str())?;
-        Ok((
-            name,
-            Field {
-                location,
-                selections,
-            },
-        ))
+        let selections = self.below(field_type, &field.selection_set)?;
+        let key = ByteString::from_text(self.alloc, field.name.as_str())?;
+        let name = field.name.copy(self.alloc)?;
+        Ok((key, Field { name, selections }))
     }
 
     /// What is selected on a field of the type, if there is such a field.
@@ -103,10 +79,8 @@ impl<'s> Query<'s> {
         &self,
         field_type: Option<&TypeRef>,
         selections: &Listed<Selection>,
-        cursor: &mut LineCursor<'_>,
     ) -> Result<SelectionSet, Refused<NotPlain>>
-        ensures set { GivesSet result (spec.fits_type self.now.schema.now cursor.old (option_copied field_type.entry) (selected selections.now)) }
-        ensures text { cursor.new ≡ cursor.old }
+        ensures { GivesSet result (spec.fits_type self.now.schema.now (option_copied field_type.entry) (selected selections.now)) }
     {
         let is_empty = selections.as_slice().is_empty();
         let Some(field_type) = field_type else {
@@ -121,7 +95,7 @@ impl<'s> Query<'s> {
                     return Err(Refused::Fault(NotPlain));
                 }
                 match self.schema.get_object(name.as_str()) {
-                    Some(object_type) => self.set(object_type, selections, cursor),
+                    Some(object_type) => self.selections_on(object_type, selections),
                     None => Err(Refused::Fault(NotPlain)),
                 }
             }
@@ -162,23 +136,22 @@ fn only_operation(definitions: &[Definition]) -> Option<&OperationDefinition>
     }
 }
 
-/// The selections that the definitions of a document ask of the root type of a schema, where `text` is the text of the
-/// document. Each field has the line and the column of its name there.
+/// The selections that the definitions of a document ask of the root type of a schema. Each field has its name as it
+/// stands in the document.
 ///
 /// # Errors
 ///
 /// [`NotPlain`] exactly where they ask nothing plain: where they are not one query without a name, variables and
-/// directives; where a selection is no field, or one with an alias, arguments or directives; where a field comes twice in
-/// a set, is not defined on its type, or has selections and is of no object type, or has none and is of one; or where the
-/// name of a field has no place in the text, as it has where the document was read from it. Else `Memory` alone.
+/// directives; where a selection is no field, or one with an alias, arguments or directives; or where a field comes twice
+/// in a set, is not defined on its type, or has selections and is of no object type, or has none and is of one. Else
+/// `Memory` alone.
 pub fn plain_query(
     alloc: Global,
     schema: &Schema,
     root_type: &ObjectType,
     definitions: &Listed<Definition>,
-    text: &str,
 ) -> Result<SelectionSet, Refused<NotPlain>>
-    ensures { GivesSet result (query.plain_query schema.now root_type.now text.now definitions.now) }
+    ensures { GivesSet result (query.plain_query schema.now root_type.now definitions.now) }
 {
     let Some(operation) = only_operation(definitions.as_slice()) else {
         return Err(Refused::Fault(NotPlain));
@@ -186,7 +159,6 @@ pub fn plain_query(
     if !is_plain(operation) {
         return Err(Refused::Fault(NotPlain));
     }
-    let mut cursor = LineCursor::new(text);
     let query = Query { alloc, schema };
-    query.set(root_type, &operation.selection_set, &mut cursor)
+    query.selections_on(root_type, &operation.selection_set)
 }

@@ -32,7 +32,7 @@ fn named_type(alloc: Global, name: &str) -> Result<TypeRef, Memory>
     if name == "Boolean" {
         return Ok(TypeRef::Boolean);
     }
-    Ok(TypeRef::Object(Text::from_str(alloc, name)?))
+    Ok(TypeRef::Object(ByteString::from_text(alloc, name)?))
 }
 
 /// The type of a field: a name alone.

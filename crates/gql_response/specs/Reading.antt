@@ -65,7 +65,8 @@ put_error parts member =
 
 abbrev pub whole_error : ErrorParts → Result GraphQLError ShapeError
 whole_error parts =
-    and_then (present parts.message) (λ message. Ok (record { message = message; locations = parts.locations; path = parts.path; extensions = parts.extensions }))
+    and_then (present parts.message)
+    (λ message. Ok (record { message = message; locations = parts.locations; path = parts.path; extensions = parts.extensions }))
 
 abbrev pub no_parts : ErrorParts
 no_parts = record { message = None; locations = []; path = []; extensions = [] }

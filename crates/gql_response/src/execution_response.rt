@@ -16,9 +16,9 @@ use bytes::Bytes;
 use jb_print::append_object;
 use jb_read::from_bytes_whole;
 use jb_shape::{FromValue, ShapeError};
-use jb_text::{Listed, Refused};
+use jb_text::{Listed, Memory, Refused};
 use jb_tree::{Map, Value};
-use std::alloc::{AllocError, Global};
+use std::alloc::Global;
 
 /// Room for a short response, so that it is allocated once.
 const FIRST_ROOM: usize = 256;
@@ -35,7 +35,7 @@ pub struct ExecutionResponse {
 impl ExecutionResponse {
     /// The response as JSON without white space: `errors` where there are any, then `data`. `Err` only for want of
     /// memory.
-    pub fn to_bytes(&self, alloc: Global) -> Result<Bytes, AllocError>
+    pub fn to_bytes(&self, alloc: Global) -> Result<Bytes, Memory>
         ensures { IfOk result (λ bytes. bytes ≡ compact (response_value self.now)) }
     {
         let mut out = String::with_capacity(alloc, FIRST_ROOM)?;
@@ -86,7 +86,7 @@ impl Parts for ExecutionResponse {
 impl Printed for ExecutionResponse {
     ghost value_of = { response_value };
 
-    fn append(&self, out: &mut String) -> Result<(), AllocError> {
+    fn append(&self, out: &mut String) -> Result<(), Memory> {
         out.push_str("{")?;
         append_errors(out, self.errors.as_slice())?;
         append_key(out, false, "data")?;
@@ -97,7 +97,7 @@ impl Printed for ExecutionResponse {
 }
 
 /// Appends the errors where there are any, and the comma that then stands before another member.
-fn append_errors(out: &mut String, errors: &[GraphQLError]) -> Result<(), AllocError>
+fn append_errors(out: &mut String, errors: &[GraphQLError]) -> Result<(), Memory>
     ensures { OnOk result ((member : Member) → string_bytes out.new ++ member_piece member
         ≡ string_bytes out.old ++ pieces_text false (map member_piece (list_member (codes "errors") (map error_value errors.now) ++ member ∷ []))) }
 {
@@ -110,7 +110,7 @@ fn append_errors(out: &mut String, errors: &[GraphQLError]) -> Result<(), AllocE
     Ok(())
 }
 
-fn append_data(out: &mut String, root: &Option<Map>) -> Result<(), AllocError>
+fn append_data(out: &mut String, root: &Option<Map>) -> Result<(), Memory>
     ensures { OnOk result (string_bytes out.new ≡ string_bytes out.old ++ compact (data_value root.now)) }
 {
     match root {

@@ -8,9 +8,9 @@ use crate::path::ResponseDataPathSegment;
 use crate::printed::{Printed, append_key, append_list_member, append_object_member};
 use gql_source::{LineColumn, SourceMap, SourceSpan};
 use jb_print::append_string;
-use jb_text::{Listed, Text};
+use jb_text::{Listed, Memory, Text};
 use jb_tree::Map;
-use std::alloc::{AllocError, Global};
+use std::alloc::Global;
 
 /// An error of a response (GraphQL October 2021, section 7.1.2): what went wrong, where in the documents, at which
 /// place of the data, and what else is said of it. Errors are compared part by part; the order of the pairs of
@@ -31,15 +31,27 @@ impl GraphQLError {
         message: &str,
         location: Option<SourceSpan>,
         sources: &SourceMap,
-    ) -> Result<GraphQLError, AllocError>
+    ) -> Result<GraphQLError, Memory>
         ensures { IfOk result (λ error. error ≡ error_at message.now location sources.now) }
+    {
+        GraphQLError::of_text(alloc, Text::from_str(alloc, message)?, location, sources)
+    }
+
+    /// The same of a text that is the message from then on. `Err` only for want of memory.
+    pub fn of_text(
+        alloc: Global,
+        message: Text,
+        location: Option<SourceSpan>,
+        sources: &SourceMap,
+    ) -> Result<GraphQLError, Memory>
+        ensures { IfOk result (λ error. error ≡ error_at message location sources.now) }
     {
         let mut locations = Listed::new(alloc);
         if let Some(place) = place_in(location, sources) {
             locations.push(place)?;
         }
         Ok(GraphQLError {
-            message: Text::from_str(alloc, message)?,
+            message,
             locations,
             path: Listed::new(alloc),
             extensions: Map::new(alloc),
@@ -60,7 +72,7 @@ fn place_in(location: Option<SourceSpan>, sources: &SourceMap) -> Option<LineCol
 impl Printed for GraphQLError {
     ghost value_of = { error_value };
 
-    fn append(&self, out: &mut String) -> Result<(), AllocError> {
+    fn append(&self, out: &mut String) -> Result<(), Memory> {
         out.push_str("{")?;
         append_key(out, false, "message")?;
         append_string(out, self.message.as_str())?;

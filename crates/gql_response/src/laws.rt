@@ -12,7 +12,7 @@ ghost use Rattle.gql_response.specs.declared.execution_response.ExecutionRespons
 
 use crate::execution_response::ExecutionResponse;
 use crate::graphql_error::GraphQLError;
-use jb_io::laws::compact_reads_back;
+use jb_io::laws;
 
 /// A response that prints nested at most 127 is read back from its print, the places of names aside: for each response
 /// whose names are names and whose counts are of 64 bits, and whose value is one that JSON texts can hold.
@@ -20,7 +20,7 @@ pub fn responses_read_back()
     ensures { (response : Response) → IsHeld response → IsProper (tree (response_value response)) → depth (tree (response_value response)) ≤ 127
         → response_read (compact (response_value response)) ≡ Ok (unplaced response) }
 {
-    compact_reads_back();
+    laws::compact_reads_back();
 }
 
 /// Errors are equal just where they are the same, the order of pairs and the places of names aside.

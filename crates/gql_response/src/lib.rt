@@ -8,6 +8,7 @@ mod error_parts;
 mod execution_response;
 mod fault;
 mod graphql_error;
+mod json;
 pub mod laws;
 mod location;
 mod parts;
@@ -17,10 +18,5 @@ mod printed;
 pub use execution_response::ExecutionResponse;
 pub use fault::ResponseFault;
 pub use graphql_error::GraphQLError;
+pub use json::{JsonMap, JsonValue};
 pub use path::ResponseDataPathSegment;
-
-/// An object of JSON, as the data of a response.
-pub type JsonMap = jb_tree::Map;
-
-/// A JSON value.
-pub type JsonValue = jb_tree::Value;

@@ -10,14 +10,14 @@ use crate::parts::{Parts, read_parts};
 use crate::printed::{Printed, append_key, append_whole};
 use gql_source::LineColumn;
 use jb_shape::{FromValue, ShapeError};
-use jb_text::{Listed, Refused};
+use jb_text::{Listed, Memory, Refused};
 use jb_tree::Value;
-use std::alloc::{AllocError, Global};
+use std::alloc::Global;
 
 impl Printed for LineColumn {
     ghost value_of = { location_value };
 
-    fn append(&self, out: &mut String) -> Result<(), AllocError> {
+    fn append(&self, out: &mut String) -> Result<(), Memory> {
         out.push_str("{")?;
         append_key(out, false, "line")?;
         append_whole(out, self.line)?;

@@ -10,9 +10,9 @@ use crate::printed::{Printed, append_whole};
 use gql_ast_base::Name;
 use jb_print::append_string;
 use jb_shape::{FromValue, ShapeError};
-use jb_text::Refused;
+use jb_text::{Memory, Refused};
 use jb_tree::Value;
-use std::alloc::{AllocError, Global};
+use std::alloc::Global;
 
 /// A step from the response's data to a place in it (GraphQL October 2021, section 7.1.2). Steps are compared by the
 /// text of the name or by the place; where a name was read is left aside.
@@ -27,7 +27,7 @@ pub enum ResponseDataPathSegment {
 impl Printed for ResponseDataPathSegment {
     ghost value_of = { segment_value };
 
-    fn append(&self, out: &mut String) -> Result<(), AllocError> {
+    fn append(&self, out: &mut String) -> Result<(), Memory> {
         match self {
             ResponseDataPathSegment::Field(name) => append_string(out, name.as_str()),
             ResponseDataPathSegment::ListIndex(index) => append_whole(out, *index),

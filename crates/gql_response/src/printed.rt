@@ -9,9 +9,8 @@ ghost use Rattle.jb_print.specs.Pieces.{comma_after, pieces_text, member_piece};
 ghost use Rattle.gql_response.specs.Response.{list_member, object_member};
 
 use jb_print::{append_object, append_string, append_value};
-use jb_text::Number;
+use jb_text::{Memory, Number};
 use jb_tree::{Map, Value};
-use std::alloc::AllocError;
 
 /// What is printed as a JSON value.
 pub(crate) trait Printed {
@@ -19,12 +18,12 @@ pub(crate) trait Printed {
     ghost value_of: { Self → JsonValue };
 
     /// Appends the compact text of the value. `Err` only for want of memory.
-    fn append(&self, out: &mut String) -> Result<(), AllocError>
+    fn append(&self, out: &mut String) -> Result<(), Memory>
         ensures { OnOk result (string_bytes out.new ≡ string_bytes out.old ++ compact (value_of self.now)) };
 }
 
 /// Appends an array of the items. `Err` only for want of memory.
-pub(crate) fn append_list<T: Printed>(out: &mut String, items: &[T]) -> Result<(), AllocError>
+pub(crate) fn append_list<T: Printed>(out: &mut String, items: &[T]) -> Result<(), Memory>
     ensures { OnOk result (string_bytes out.new ≡ string_bytes out.old ++ compact (json.Array (map T.value_of items.now))) }
 {
     out.push_str("[")?;
@@ -43,7 +42,7 @@ pub(crate) fn append_list_member<T: Printed>(
     out: &mut String,
     key: &str,
     items: &[T],
-) -> Result<(), AllocError>
+) -> Result<(), Memory>
     ensures { OnOk result (string_bytes out.new ≡ string_bytes out.old
         ++ pieces_text true (map member_piece (list_member key.now (map T.value_of items.now)))) }
 {
@@ -55,11 +54,7 @@ pub(crate) fn append_list_member<T: Printed>(
 }
 
 /// Appends a later member whose value is an object, where that has members. `Err` only for want of memory.
-pub(crate) fn append_object_member(
-    out: &mut String,
-    key: &str,
-    members: &Map,
-) -> Result<(), AllocError>
+pub(crate) fn append_object_member(out: &mut String, key: &str, members: &Map) -> Result<(), Memory>
     ensures { OnOk result (string_bytes out.new ≡ string_bytes out.old
         ++ pieces_text true (map member_piece (object_member key.now members.now))) }
 {
@@ -71,7 +66,7 @@ pub(crate) fn append_object_member(
 }
 
 /// Appends the key of a member, behind a comma where it is a later one. `Err` only for want of memory.
-pub(crate) fn append_key(out: &mut String, later: bool, key: &str) -> Result<(), AllocError>
+pub(crate) fn append_key(out: &mut String, later: bool, key: &str) -> Result<(), Memory>
     ensures { OnOk result (string_bytes out.new ≡ string_bytes out.old ++ (comma_after later ++ (quoted key.now ++ codes ":"))) }
 {
     append_comma(out, later)?;
@@ -79,14 +74,14 @@ pub(crate) fn append_key(out: &mut String, later: bool, key: &str) -> Result<(),
     out.push_str(":")
 }
 
-fn append_comma(out: &mut String, later: bool) -> Result<(), AllocError>
+fn append_comma(out: &mut String, later: bool) -> Result<(), Memory>
     ensures { OnOk result (string_bytes out.new ≡ string_bytes out.old ++ comma_after later) }
 {
     if later { out.push_str(",") } else { Ok(()) }
 }
 
 /// Appends a count as a JSON number. `Err` only for want of memory.
-pub(crate) fn append_whole(out: &mut String, count: usize) -> Result<(), AllocError>
+pub(crate) fn append_whole(out: &mut String, count: usize) -> Result<(), Memory>
     ensures { OnOk result (string_bytes out.new ≡ string_bytes out.old ++ compact (json.Number (pos count))) }
 {
     append_value(out, &Value::Number(Number::from_u64(count as u64)))

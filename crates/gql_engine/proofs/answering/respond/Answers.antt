@@ -18,12 +18,13 @@ returns-clause-answered g c =
       texts = record {
         schema = c.in-Ok.schema;
         root_type = c.unwrap-root_type.result.now;
-        selections = selections_of c.in-Ok-query.selections;
+        selections = selections_of c.in-Ok-query.query.selections;
         schema_meant = c.in-Ok.ensures.meant;
         query_type = query_type;
         query_meant = c.in-Ok-query.ensures.meant;
       };
       response = c.in_ok-response.response;
-      explained = c.in_ok-response.ensures.explained;
-      written = c.in_ok-into_bytes.ensures;
+      executed = rw c.in-Ok-query.ensures.sources at c.in_ok-response.ensures.executed;
+      explained = rw c.in-Ok-query.ensures.sources at c.in_ok-response.ensures.explained;
+      written = c.in_ok-to_bytes.ensures;
     }

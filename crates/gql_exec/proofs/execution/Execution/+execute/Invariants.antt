@@ -5,7 +5,7 @@ use Rattle.gql_exec.specs.Path.{path_of}
 use Rattle.gql_exec.specs.Place.{setting}
 use Rattle.gql_exec.specs.Execution.{execute}
 use Rattle.gql_exec.proofs.Weight.{weight}
-use Rattle.gql_exec.proofs.Steps.{IsOnTheWay}
+use Rattle.gql_exec.proofs.Progress.{IsOnTheWay}
 use Rattle.gql_exec.proofs.execution.Execution.+execute.Given as goal
 
 abbrev pub decreases-complete_object : goal.decreases-complete_object
@@ -23,6 +23,6 @@ decreases-execute_selection_set g l = 4 * weight (selections_of l.selections.now
 abbrev pub invariant-execute_selection_set-loop-index :
     goal.invariant-execute_selection_set-loop-index
 invariant-execute_selection_set-loop-index g l =
-    let left = execute (setting l.self.schema.now g.O.ObjectValue.type_of g.O.ObjectValue.resolves) l.object_type l.object (path_of l.path) (selections_of (drop l.index l.selections)) in
-    let all = execute (setting l.self.schema.now g.O.ObjectValue.type_of g.O.ObjectValue.resolves) l.object_type l.object (path_of l.path) (selections_of l.selections) in
+    let left = execute (setting l.self.schema.now l.self.sources.now g.O.ObjectValue.type_of g.O.ObjectValue.resolves) l.object_type l.object (path_of l.path) (selections_of (drop l.index l.selections)) in
+    let all = execute (setting l.self.schema.now l.self.sources.now g.O.ObjectValue.type_of g.O.ObjectValue.resolves) l.object_type l.object (path_of l.path) (selections_of l.selections) in
     IsOnTheWay left all l.members l.errors l.fn.errors (keys_of (drop l.index l.selections))

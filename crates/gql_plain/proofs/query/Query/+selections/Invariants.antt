@@ -9,8 +9,8 @@ use Rattle.gql_plain.proofs.Rows.{viewed}
 use Rattle.gql_plain.proofs.query.Query.+selections.Given as goal
 
 -- what is made and what is left make the whole
-abbrev pub invariant-set-loop-selection : goal.invariant-set-loop-selection
-invariant-set-loop-selection l =
-    (fields_on l.self.schema.now l.initial.cursor l.object_type (selected l.selections)
-    ≡ followed (viewed l.set) (fields_on l.self.schema.now l.initial.cursor l.object_type (selected (drop l.selection-index l.selections))))
-    × (l.cursor ≡ l.initial.cursor) × IsDistinct bytes_eq (keys_of l.set)
+abbrev pub invariant-selections_on-loop-selection : goal.invariant-selections_on-loop-selection
+invariant-selections_on-loop-selection l =
+    (fields_on l.self.schema.now l.object_type (selected l.selections)
+    ≡ followed (viewed l.set) (fields_on l.self.schema.now l.object_type (selected (drop l.selection-index l.selections))))
+    × IsDistinct bytes_eq (keys_of l.set)
