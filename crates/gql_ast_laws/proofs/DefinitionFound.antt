@@ -1,42 +1,42 @@
 -- A definition of a sentence stands for one.
-use Rattle.std.proofs.Common.{◌≡◌, ℕ, suc, ◌+◌, ◌≤◌, arith, Bool, true, false, if◌then◌else◌, List, [], ◌∷◌, ◌++◌, length, is_some, option_to_list, Option, Some, None, refl, sym, ap, ◌∙◌, subst}
-use Rattle.std.specs.Prelude.{◌&&◌, map, slice_get, codes, option_and_then}
-use Rattle.std.specs.Option.{option_map}
+use Rattle.std.proofs.Common.{◌≡◌, ℕ, ◌+◌, ◌≤◌, arith, Bool, true, false, if◌then◌else◌, List, [], ◌∷◌, ◌++◌, length, is_some, Option, Some, None, refl, sym, ap, ◌∙◌, subst}
+use Rattle.std.specs.Prelude.{map, slice_get, codes, option_and_then}
 use Rattle.std.specs.Str.{bytes_eq}
 use Rattle.gql_source.specs.declared.file_id.FileId.{FileId}
 use Rattle.gql_cst_grammar.specs.declared.word.Word.{Word}
-use Rattle.gql_cst_grammar.specs.declared.word.Word.TheVariants.{ExtendWord, SchemaWord, ScalarWord, TypeWord, InterfaceWord, UnionWord, EnumWord, InputWord}
+use Rattle.gql_cst_grammar.specs.declared.word.Word.TheVariants.{SchemaWord, ScalarWord, TypeWord, InterfaceWord, UnionWord, EnumWord, InputWord}
 use Rattle.gql_cst_grammar.specs.declared.symbol.Symbol.{Symbol}
-use Rattle.gql_cst_grammar.specs.declared.symbol.Terminal.TheVariants.{Exactly, AnyName}
-use Rattle.gql_cst_grammar.specs.declared.rule.Rule.{Rule}
 use Rattle.gql_cst_grammar.specs.declared.rule.Rule.TheVariants as rule
 use Rattle.gql_cst_grammar.specs.declared.syntax_kind.SyntaxKind.{SyntaxKind}
 use Rattle.gql_cst_grammar.specs.declared.syntax_kind.SyntaxKind.TheVariants as kind
 use Rattle.gql_cst_grammar.specs.Grammar.{declared}
 use Rattle.gql_cst_grammar.specs.Word.{is_same, is_name as names}
 use Rattle.gql_cst_grammar.specs.Nodes.{IsAllowed, AllAllowed}
-use Rattle.gql_cst_grammar.specs.Row.{Row, nothing as no_row, leaf, node as row_node}
+use Rattle.gql_cst_grammar.specs.Row.{Row, leaf}
 use Rattle.gql_cst_grammar.specs.Sentence.{Fits, token, tree, group, IsOneOf, here, there}
 use Rattle.gql_cst.specs.Forest.{Forest, Plain, nothing, tree_then}
-use Rattle.gql_cst.specs.Leaves.{Part, node, part_of, leaves}
+use Rattle.gql_cst.specs.Leaves.{node, part_of, leaves}
 use Rattle.gql_cst.specs.Sentences.{shown}
 use Rattle.gql_cst.specs.Words.{word_of}
 use Rattle.gql_ast_base.specs.Kinds.{is_kind}
-use Rattle.gql_ast_base.specs.Parts.{Text, or_else, head, gather, first as first_of, child, inside, is_word, nth_text, nth_name}
+use Rattle.gql_ast_base.specs.Parts.{Text, or_else, gather, first as first_of, child, inside, is_word, nth_text, nth_name}
 use Rattle.gql_ast_base.specs.NamedTypes.{named_type_in}
 use Rattle.gql_ast_operations.specs.Operations.{operation_of, fragment_of}
 use Rattle.gql_ast_operations.specs.Selections.{type_condition}
 use Rattle.gql_ast_definitions.specs.Definitions.{scalar_of, object_of, interface_of, union_of, enum_of, input_object_of}
 use Rattle.gql_ast_definitions.specs.Extensions.{extends, schema_extension_of, scalar_extension_of, object_extension_of, interface_extension_of, union_extension_of, enum_extension_of, input_object_extension_of}
 use Rattle.gql_ast_definitions.specs.Schemas.{directive_definition_of, schema_of}
+use Rattle.std.specs.Option.{option_map}
+use Rattle.gql_ast.specs.declared.definition.Definition.{Definition}
+use Rattle.gql_ast.specs.declared.definition.Definition.TheVariants as definition
 use Rattle.gql_ast.specs.Documents.{executable_definition_of, schema_definition_of, type_definition_of, extension_of, choice_of, definition_of}
 use Rattle.gql_ast_laws.proofs.Blind.{tree as plain_tree}
 use Rattle.gql_ast_laws.proofs.Inner.{both_ways, here as child_here, later as child_later}
 use Rattle.gql_ast_laws.proofs.Named.{nth_text-is}
-use Rattle.gql_ast_laws.proofs.Shown.{AreSpelled, Child, child-of, inside-is, name-at, texts, tops-shown}
-use Rattle.gql_ast_laws.proofs.Tops.{IsIn, first, next, HasNode, tops, name-taken, has-node}
+use Rattle.gql_ast_laws.proofs.Shown.{AreSpelled, child-of, inside-is, name-at, texts, tops-shown}
+use Rattle.gql_ast_laws.proofs.Tops.{first, next, HasNode, tops, name-taken, has-node}
 use Rattle.gql_ast_laws.proofs.TypeFound.{some-map, head-first, head-rest}
-use Rattle.gql_ast_laws.proofs.Ways.{Made, made, only-names, only-node}
+use Rattle.gql_ast_laws.proofs.Ways.{made, only-names, only-node}
 use Rattle.gql_ast_laws.proofs.Extended.{word-schema, word-scalar, word-type, word-interface, word-union, word-enum, word-input}
 
 some-same : {A : Type 0} (x y : A) → Some x ≡ Some y → x ≡ y
@@ -91,24 +91,24 @@ two w u x p q = rw (p, q) refl
 one-later : (z : Word) (x : Row) → names z ≡ true → 1 ≤ length (tops (leaf z x))
 one-later z x p = rw p (omega arith)
 
-extended : {ss : List Symbol} {ws vs : List Word} {row : Row} (w : Word) → names w ≡ true → (way : List Symbol) → IsOneOf way (declared rule.ExtendedDefinition) → Fits (way ++ ss) ws row vs → Extends (leaf w row)
-extended w p _ here (token {row = x} t u e g) = record { front = w; second = u; later = tops x; are = two w u x p (name-taken t u e refl); which = of_schema e }
-extended w p _ (there here) (token t u e (token {row = x} s z q g)) =
+extended : (ss : List Symbol) {ws vs : List Word} {row : Row} (w : Word) → names w ≡ true → (way : List Symbol) → IsOneOf way (declared rule.ExtendedDefinition) → Fits (way ++ ss) ws row vs → Extends (leaf w row)
+extended ss w p _ here (token {row = x} t u e g) = record { front = w; second = u; later = tops x; are = two w u x p (name-taken t u e refl); which = of_schema e }
+extended ss w p _ (there here) (token t u e (token {row = x} s z q g)) =
     record { front = w; second = u; later = tops (leaf z x); are = two w u (leaf z x) p (name-taken t u e refl); which = of_scalar e (one-later z x (name-taken s z q refl)) }
-extended w p _ (there (there here)) (token t u e (token {row = x} s z q g)) =
+extended ss w p _ (there (there here)) (token t u e (token {row = x} s z q g)) =
     record { front = w; second = u; later = tops (leaf z x); are = two w u (leaf z x) p (name-taken t u e refl); which = of_type e (one-later z x (name-taken s z q refl)) }
-extended w p _ (there (there (there here))) (token t u e (token {row = x} s z q g)) =
+extended ss w p _ (there (there (there here))) (token t u e (token {row = x} s z q g)) =
     record { front = w; second = u; later = tops (leaf z x); are = two w u (leaf z x) p (name-taken t u e refl); which = of_interface e (one-later z x (name-taken s z q refl)) }
-extended w p _ (there (there (there (there here)))) (token t u e (token {row = x} s z q g)) =
+extended ss w p _ (there (there (there (there here)))) (token t u e (token {row = x} s z q g)) =
     record { front = w; second = u; later = tops (leaf z x); are = two w u (leaf z x) p (name-taken t u e refl); which = of_union e (one-later z x (name-taken s z q refl)) }
-extended w p _ (there (there (there (there (there here))))) (token t u e (token {row = x} s z q g)) =
+extended ss w p _ (there (there (there (there (there here))))) (token t u e (token {row = x} s z q g)) =
     record { front = w; second = u; later = tops (leaf z x); are = two w u (leaf z x) p (name-taken t u e refl); which = of_enum e (one-later z x (name-taken s z q refl)) }
-extended w p _ (there (there (there (there (there (there here)))))) (token t u e (token {row = x} s z q g)) =
+extended ss w p _ (there (there (there (there (there (there here)))))) (token t u e (token {row = x} s z q g)) =
     record { front = w; second = u; later = tops (leaf z x); are = two w u (leaf z x) p (name-taken t u e refl); which = of_input e (one-later z x (name-taken s z q refl)) }
-extended w p _ (there (there (there (there (there (there (there x))))))) f = elim x [ ]
+extended ss w p _ (there (there (there (there (there (there (there x))))))) f = elim x [ ]
 
 extends-way : {ws vs : List Word} {row : Row} (way : List Symbol) → IsOneOf way (declared rule.Extension) → Fits way ws row vs → Extends row
-extends-way _ here (token t w e (group {ss = ss} r way m o f)) = extended {ss = ss} w (name-taken t w e refl) way o f
+extends-way _ here (token t w e (group {ss = ss} r way m o f)) = extended ss w (name-taken t w e refl) way o f
 extends-way _ here (token t w e (tree r k way m o f g)) = absurd (cc)
 extends-way _ (there x) f = elim x [ ]
 
@@ -166,6 +166,58 @@ definition-way _ (there (there (there (there (there (there (there (there (there 
 definition-way _ (there (there (there (there (there (there (there (there (there (there (there x))))))))))) f = elim x [ ]
 
 module _ (text : Text) (file : FileId) where
+  -- each way to define something
+  abbrev as_operation : Plain → Option Definition
+  as_operation t = option_map definition.OperationDefinition (operation_of text file t)
+
+  abbrev as_fragment : Plain → Option Definition
+  as_fragment t = option_map definition.FragmentDefinition (fragment_of text file t)
+
+  abbrev as_directive : Plain → Option Definition
+  as_directive t = option_map definition.DirectiveDefinition (directive_definition_of text file t)
+
+  abbrev as_schema : Plain → Option Definition
+  as_schema t = option_map definition.SchemaDefinition (schema_of text file t)
+
+  abbrev as_scalar : Plain → Option Definition
+  as_scalar t = option_map definition.ScalarTypeDefinition (scalar_of text file t)
+
+  abbrev as_object : Plain → Option Definition
+  as_object t = option_map definition.ObjectTypeDefinition (object_of text file t)
+
+  abbrev as_interface : Plain → Option Definition
+  as_interface t = option_map definition.InterfaceTypeDefinition (interface_of text file t)
+
+  abbrev as_union : Plain → Option Definition
+  as_union t = option_map definition.UnionTypeDefinition (union_of text file t)
+
+  abbrev as_enum : Plain → Option Definition
+  as_enum t = option_map definition.EnumTypeDefinition (enum_of text file t)
+
+  abbrev as_input_object : Plain → Option Definition
+  as_input_object t = option_map definition.InputObjectTypeDefinition (input_object_of text file t)
+
+  abbrev as_schema_extension : Plain → Option Definition
+  as_schema_extension t = option_map definition.SchemaExtension (schema_extension_of text file t)
+
+  abbrev as_scalar_extension : Plain → Option Definition
+  as_scalar_extension t = option_map definition.ScalarTypeExtension (scalar_extension_of text file t)
+
+  abbrev as_object_extension : Plain → Option Definition
+  as_object_extension t = option_map definition.ObjectTypeExtension (object_extension_of text file t)
+
+  abbrev as_interface_extension : Plain → Option Definition
+  as_interface_extension t = option_map definition.InterfaceTypeExtension (interface_extension_of text file t)
+
+  abbrev as_union_extension : Plain → Option Definition
+  as_union_extension t = option_map definition.UnionTypeExtension (union_extension_of text file t)
+
+  abbrev as_enum_extension : Plain → Option Definition
+  as_enum_extension t = option_map definition.EnumTypeExtension (enum_extension_of text file t)
+
+  abbrev as_input_object_extension : Plain → Option Definition
+  as_input_object_extension t = option_map definition.InputObjectTypeExtension (input_object_extension_of text file t)
+
   -- the name of the first named type in a row that has one
   type-named : (f : Forest) → AllAllowed (shown text f) → AreSpelled text (leaves f) → HasNode kind.NamedType (shown text f) → is_some (named_type_in text file f) ≡ true
   unfolding named_type_in
@@ -292,13 +344,41 @@ module _ (text : Text) (file : FileId) where
     extension-which : (x : Text) (second : Word) (later : List Word) → nth_text text 1 children ≡ Some x → word_of x ≡ second → 2 + length later ≤ length (tops (shown text children)) → Which second later
         → is_some (extension_of text file (plain_tree kind.Extension start end children)) ≡ true
     unfolding extension_of
-    extension-which x second later e s le (of_schema q) = some-left _ _ (some-map _ _ (schema_extension-found x e (ap (λ v. is_same SchemaWord v) s ∙ q)))
-    extension-which x second later e s le (of_scalar q n) = some-right _ _ (some-left _ _ (some-map _ _ (scalar_extension-found x e (ap (λ v. is_same ScalarWord v) s ∙ q) (omega arith))))
-    extension-which x second later e s le (of_type q n) = some-right _ _ (some-right _ _ (some-left _ _ (some-map _ _ (object_extension-found x e (ap (λ v. is_same TypeWord v) s ∙ q) (omega arith)))))
-    extension-which x second later e s le (of_interface q n) = some-right _ _ (some-right _ _ (some-right _ _ (some-left _ _ (some-map _ _ (interface_extension-found x e (ap (λ v. is_same InterfaceWord v) s ∙ q) (omega arith))))))
-    extension-which x second later e s le (of_union q n) = some-right _ _ (some-right _ _ (some-right _ _ (some-right _ _ (some-left _ _ (some-map _ _ (union_extension-found x e (ap (λ v. is_same UnionWord v) s ∙ q) (omega arith)))))))
-    extension-which x second later e s le (of_enum q n) = some-right _ _ (some-right _ _ (some-right _ _ (some-right _ _ (some-right _ _ (some-left _ _ (some-map _ _ (enum_extension-found x e (ap (λ v. is_same EnumWord v) s ∙ q) (omega arith))))))))
-    extension-which x second later e s le (of_input q n) = some-right _ _ (some-right _ _ (some-right _ _ (some-right _ _ (some-right _ _ (some-right _ _ (some-map _ _ (input_object_extension-found x e (ap (λ v. is_same InputWord v) s ∙ q) (omega arith))))))))
+    extension-which x second later e s le (of_schema q) =
+        some-left (as_schema_extension (plain_tree kind.Extension start end children)) _ (some-map definition.SchemaExtension (schema_extension_of text file (plain_tree kind.Extension start end children)) (schema_extension-found x e (ap (λ v. is_same SchemaWord v) s ∙ q)))
+    extension-which x second later e s le (of_scalar q n) =
+        some-right (as_schema_extension (plain_tree kind.Extension start end children)) _
+        (some-left (as_scalar_extension (plain_tree kind.Extension start end children)) _ (some-map definition.ScalarTypeExtension (scalar_extension_of text file (plain_tree kind.Extension start end children)) (scalar_extension-found x e (ap (λ v. is_same ScalarWord v) s ∙ q) (omega arith))))
+    extension-which x second later e s le (of_type q n) =
+        some-right (as_schema_extension (plain_tree kind.Extension start end children)) _
+        (some-right (as_scalar_extension (plain_tree kind.Extension start end children)) _
+        (some-left (as_object_extension (plain_tree kind.Extension start end children)) _ (some-map definition.ObjectTypeExtension (object_extension_of text file (plain_tree kind.Extension start end children)) (object_extension-found x e (ap (λ v. is_same TypeWord v) s ∙ q) (omega arith)))))
+    extension-which x second later e s le (of_interface q n) =
+        some-right (as_schema_extension (plain_tree kind.Extension start end children)) _
+        (some-right (as_scalar_extension (plain_tree kind.Extension start end children)) _
+        (some-right (as_object_extension (plain_tree kind.Extension start end children)) _
+        (some-left (as_interface_extension (plain_tree kind.Extension start end children)) _ (some-map definition.InterfaceTypeExtension (interface_extension_of text file (plain_tree kind.Extension start end children)) (interface_extension-found x e (ap (λ v. is_same InterfaceWord v) s ∙ q) (omega arith))))))
+    extension-which x second later e s le (of_union q n) =
+        some-right (as_schema_extension (plain_tree kind.Extension start end children)) _
+        (some-right (as_scalar_extension (plain_tree kind.Extension start end children)) _
+        (some-right (as_object_extension (plain_tree kind.Extension start end children)) _
+        (some-right (as_interface_extension (plain_tree kind.Extension start end children)) _
+        (some-left (as_union_extension (plain_tree kind.Extension start end children)) _ (some-map definition.UnionTypeExtension (union_extension_of text file (plain_tree kind.Extension start end children)) (union_extension-found x e (ap (λ v. is_same UnionWord v) s ∙ q) (omega arith)))))))
+    extension-which x second later e s le (of_enum q n) =
+        some-right (as_schema_extension (plain_tree kind.Extension start end children)) _
+        (some-right (as_scalar_extension (plain_tree kind.Extension start end children)) _
+        (some-right (as_object_extension (plain_tree kind.Extension start end children)) _
+        (some-right (as_interface_extension (plain_tree kind.Extension start end children)) _
+        (some-right (as_union_extension (plain_tree kind.Extension start end children)) _
+        (some-left (as_enum_extension (plain_tree kind.Extension start end children)) _ (some-map definition.EnumTypeExtension (enum_extension_of text file (plain_tree kind.Extension start end children)) (enum_extension-found x e (ap (λ v. is_same EnumWord v) s ∙ q) (omega arith))))))))
+    extension-which x second later e s le (of_input q n) =
+        some-right (as_schema_extension (plain_tree kind.Extension start end children)) _
+        (some-right (as_scalar_extension (plain_tree kind.Extension start end children)) _
+        (some-right (as_object_extension (plain_tree kind.Extension start end children)) _
+        (some-right (as_interface_extension (plain_tree kind.Extension start end children)) _
+        (some-right (as_union_extension (plain_tree kind.Extension start end children)) _
+        (some-right (as_enum_extension (plain_tree kind.Extension start end children)) _
+        (some-map definition.InputObjectTypeExtension (input_object_extension_of text file (plain_tree kind.Extension start end children)) (input_object_extension-found x e (ap (λ v. is_same InputWord v) s ∙ q) (omega arith))))))))
 
     extension-found : IsAllowed kind.Extension (shown text children) → is_some (extension_of text file (plain_tree kind.Extension start end children)) ≡ true
     extension-found a =
@@ -312,21 +392,82 @@ module _ (text : Text) (file : FileId) where
   chosen : (k : SyntaxKind) → is_defining k ≡ true → (start end : ℕ) (children : Forest) → IsAllowed k (shown text children) → AllAllowed (shown text children) → AreSpelled text (leaves children)
       → is_some (choice_of text file (plain_tree k start end children)) ≡ true
   unfolding choice_of executable_definition_of schema_definition_of type_definition_of
-  chosen kind.OperationDefinition e start end children a below h = some-left _ _ (some-left _ _ (some-map _ _ (operation-found start end children below h a)))
-  chosen kind.FragmentDefinition e start end children a below h = some-left _ _ (some-right _ _ (some-map _ _ (fragment-found start end children below h a)))
-  chosen kind.DirectiveDefinition e start end children a below h = some-right _ _ (some-left _ _ (some-left _ _ (some-map _ _ (directive-found start end children below h a))))
-  chosen kind.SchemaDefinition e start end children a below h = some-right _ _ (some-left _ _ (some-right _ _ (some-map _ _ (schema-found start end children below h))))
-  chosen kind.ScalarTypeDefinition e start end children a below h = some-right _ _ (some-right _ _ (some-left _ _ (some-left _ _ (some-map _ _ (scalar-found start end children below h a)))))
-  chosen kind.ObjectTypeDefinition e start end children a below h = some-right _ _ (some-right _ _ (some-left _ _ (some-right _ _ (some-left _ _ (some-map _ _ (object-found start end children below h a))))))
-  chosen kind.InterfaceTypeDefinition e start end children a below h = some-right _ _ (some-right _ _ (some-left _ _ (some-right _ _ (some-right _ _ (some-left _ _ (some-map _ _ (interface-found start end children below h a)))))))
-  chosen kind.UnionTypeDefinition e start end children a below h = some-right _ _ (some-right _ _ (some-left _ _ (some-right _ _ (some-right _ _ (some-right _ _ (some-left _ _ (some-map _ _ (union-found start end children below h a))))))))
-  chosen kind.EnumTypeDefinition e start end children a below h = some-right _ _ (some-right _ _ (some-left _ _ (some-right _ _ (some-right _ _ (some-right _ _ (some-right _ _ (some-left _ _ (some-map _ _ (enum-found start end children below h a)))))))))
-  chosen kind.InputObjectTypeDefinition e start end children a below h = some-right _ _ (some-right _ _ (some-left _ _ (some-right _ _ (some-right _ _ (some-right _ _ (some-right _ _ (some-right _ _ (some-map _ _ (input_object-found start end children below h a)))))))))
-  chosen kind.Extension e start end children a below h = some-right _ _ (some-right _ _ (some-right _ _ (extension-found start end children below h a)))
+  chosen kind.OperationDefinition e start end children a below h =
+      some-left (executable_definition_of text file (plain_tree kind.OperationDefinition start end children)) _
+      (some-left (as_operation (plain_tree kind.OperationDefinition start end children)) _
+      (some-map definition.OperationDefinition (operation_of text file (plain_tree kind.OperationDefinition start end children)) (operation-found start end children below h a)))
+  chosen kind.FragmentDefinition e start end children a below h =
+      some-left (executable_definition_of text file (plain_tree kind.FragmentDefinition start end children)) _
+      (some-right (as_operation (plain_tree kind.FragmentDefinition start end children)) _
+      (some-map definition.FragmentDefinition (fragment_of text file (plain_tree kind.FragmentDefinition start end children)) (fragment-found start end children below h a)))
+  chosen kind.DirectiveDefinition e start end children a below h =
+      some-right (executable_definition_of text file (plain_tree kind.DirectiveDefinition start end children)) _
+      (some-left (schema_definition_of text file (plain_tree kind.DirectiveDefinition start end children)) _
+      (some-left (as_directive (plain_tree kind.DirectiveDefinition start end children)) _
+      (some-map definition.DirectiveDefinition (directive_definition_of text file (plain_tree kind.DirectiveDefinition start end children)) (directive-found start end children below h a))))
+  chosen kind.SchemaDefinition e start end children a below h =
+      some-right (executable_definition_of text file (plain_tree kind.SchemaDefinition start end children)) _
+      (some-left (schema_definition_of text file (plain_tree kind.SchemaDefinition start end children)) _
+      (some-right (as_directive (plain_tree kind.SchemaDefinition start end children)) _
+      (some-map definition.SchemaDefinition (schema_of text file (plain_tree kind.SchemaDefinition start end children)) (schema-found start end children below h))))
+  chosen kind.ScalarTypeDefinition e start end children a below h =
+      some-right (executable_definition_of text file (plain_tree kind.ScalarTypeDefinition start end children)) _
+      (some-right (schema_definition_of text file (plain_tree kind.ScalarTypeDefinition start end children)) _
+      (some-left (type_definition_of text file (plain_tree kind.ScalarTypeDefinition start end children)) _
+      (some-left (as_scalar (plain_tree kind.ScalarTypeDefinition start end children)) _
+      (some-map definition.ScalarTypeDefinition (scalar_of text file (plain_tree kind.ScalarTypeDefinition start end children)) (scalar-found start end children below h a)))))
+  chosen kind.ObjectTypeDefinition e start end children a below h =
+      some-right (executable_definition_of text file (plain_tree kind.ObjectTypeDefinition start end children)) _
+      (some-right (schema_definition_of text file (plain_tree kind.ObjectTypeDefinition start end children)) _
+      (some-left (type_definition_of text file (plain_tree kind.ObjectTypeDefinition start end children)) _
+      (some-right (as_scalar (plain_tree kind.ObjectTypeDefinition start end children)) _
+      (some-left (as_object (plain_tree kind.ObjectTypeDefinition start end children)) _
+      (some-map definition.ObjectTypeDefinition (object_of text file (plain_tree kind.ObjectTypeDefinition start end children)) (object-found start end children below h a))))))
+  chosen kind.InterfaceTypeDefinition e start end children a below h =
+      some-right (executable_definition_of text file (plain_tree kind.InterfaceTypeDefinition start end children)) _
+      (some-right (schema_definition_of text file (plain_tree kind.InterfaceTypeDefinition start end children)) _
+      (some-left (type_definition_of text file (plain_tree kind.InterfaceTypeDefinition start end children)) _
+      (some-right (as_scalar (plain_tree kind.InterfaceTypeDefinition start end children)) _
+      (some-right (as_object (plain_tree kind.InterfaceTypeDefinition start end children)) _
+      (some-left (as_interface (plain_tree kind.InterfaceTypeDefinition start end children)) _
+      (some-map definition.InterfaceTypeDefinition (interface_of text file (plain_tree kind.InterfaceTypeDefinition start end children)) (interface-found start end children below h a)))))))
+  chosen kind.UnionTypeDefinition e start end children a below h =
+      some-right (executable_definition_of text file (plain_tree kind.UnionTypeDefinition start end children)) _
+      (some-right (schema_definition_of text file (plain_tree kind.UnionTypeDefinition start end children)) _
+      (some-left (type_definition_of text file (plain_tree kind.UnionTypeDefinition start end children)) _
+      (some-right (as_scalar (plain_tree kind.UnionTypeDefinition start end children)) _
+      (some-right (as_object (plain_tree kind.UnionTypeDefinition start end children)) _
+      (some-right (as_interface (plain_tree kind.UnionTypeDefinition start end children)) _
+      (some-left (as_union (plain_tree kind.UnionTypeDefinition start end children)) _
+      (some-map definition.UnionTypeDefinition (union_of text file (plain_tree kind.UnionTypeDefinition start end children)) (union-found start end children below h a))))))))
+  chosen kind.EnumTypeDefinition e start end children a below h =
+      some-right (executable_definition_of text file (plain_tree kind.EnumTypeDefinition start end children)) _
+      (some-right (schema_definition_of text file (plain_tree kind.EnumTypeDefinition start end children)) _
+      (some-left (type_definition_of text file (plain_tree kind.EnumTypeDefinition start end children)) _
+      (some-right (as_scalar (plain_tree kind.EnumTypeDefinition start end children)) _
+      (some-right (as_object (plain_tree kind.EnumTypeDefinition start end children)) _
+      (some-right (as_interface (plain_tree kind.EnumTypeDefinition start end children)) _
+      (some-right (as_union (plain_tree kind.EnumTypeDefinition start end children)) _
+      (some-left (as_enum (plain_tree kind.EnumTypeDefinition start end children)) _
+      (some-map definition.EnumTypeDefinition (enum_of text file (plain_tree kind.EnumTypeDefinition start end children)) (enum-found start end children below h a)))))))))
+  chosen kind.InputObjectTypeDefinition e start end children a below h =
+      some-right (executable_definition_of text file (plain_tree kind.InputObjectTypeDefinition start end children)) _
+      (some-right (schema_definition_of text file (plain_tree kind.InputObjectTypeDefinition start end children)) _
+      (some-left (type_definition_of text file (plain_tree kind.InputObjectTypeDefinition start end children)) _
+      (some-right (as_scalar (plain_tree kind.InputObjectTypeDefinition start end children)) _
+      (some-right (as_object (plain_tree kind.InputObjectTypeDefinition start end children)) _
+      (some-right (as_interface (plain_tree kind.InputObjectTypeDefinition start end children)) _
+      (some-right (as_union (plain_tree kind.InputObjectTypeDefinition start end children)) _
+      (some-right (as_enum (plain_tree kind.InputObjectTypeDefinition start end children)) _
+      (some-map definition.InputObjectTypeDefinition (input_object_of text file (plain_tree kind.InputObjectTypeDefinition start end children)) (input_object-found start end children below h a)))))))))
+  chosen kind.Extension e start end children a below h =
+      some-right (executable_definition_of text file (plain_tree kind.Extension start end children)) _
+      (some-right (schema_definition_of text file (plain_tree kind.Extension start end children)) _
+      (some-right (type_definition_of text file (plain_tree kind.Extension start end children)) _ (extension-found start end children below h a)))
   chosen _ e start end children a below h = absurd (cc)
 
   -- a definition has one of them
-  definition-found : (start end : ℕ) (children : Forest) → IsAllowed kind.Definition (shown text children) → AllAllowed (shown text children) → AreSpelled text (leaves children)
+  pub definition-found : (start end : ℕ) (children : Forest) → IsAllowed kind.Definition (shown text children) → AllAllowed (shown text children) → AreSpelled text (leaves children)
       → is_some (definition_of text file (plain_tree kind.Definition start end children)) ≡ true
   unfolding definition_of is_kind
   definition-found start end children a below h =

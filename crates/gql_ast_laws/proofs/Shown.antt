@@ -1,7 +1,6 @@
 -- What the row of a sentence tells of the trees of a text.
 use Rattle.std.proofs.Common.{◌≡◌, ℕ, zero, suc, ◌+◌, ◌<◌, ◌≤◌, Bool, true, false, if◌then◌else◌, List, [], ◌∷◌, ◌++◌, length, is_some, option_to_list, Option, Some, None, refl, sym, ap, ◌∙◌, subst, arith}
-use Rattle.std.specs.Prelude.{map, option_and_then, slice_get, slice_range}
-use Rattle.std.specs.Option.{option_map}
+use Rattle.std.specs.Prelude.{map, slice_get, slice_range}
 use Rattle.gql_source.specs.declared.file_id.FileId.{FileId}
 use Rattle.gql_cst_grammar.specs.declared.word.Word.{Word}
 use Rattle.gql_cst_grammar.specs.declared.syntax_kind.SyntaxKind.{SyntaxKind}
@@ -15,11 +14,11 @@ use Rattle.gql_cst.specs.Leaves.{Part, word, ignored, node, part_of, Leaf, own_l
 use Rattle.gql_cst.specs.Sentences.{row_then, shown}
 use Rattle.gql_cst.specs.Words.{word_of}
 use Rattle.gql_ast_base.specs.Kinds.{is_kind}
-use Rattle.gql_ast_base.specs.Parts.{Text, gather, child, children_of, inside, word as name_text, name_of, word_leaf, nth_text, nth_name, nth_word}
+use Rattle.gql_ast_base.specs.Parts.{Text, gather, child, children_of, inside, word as name_text, name_of, nth_name}
 use Rattle.gql_ast_laws.proofs.TokenKinds.{is_word_part, token_kind, word_is_token, same_kind, kind_is}
 use Rattle.gql_ast_laws.proofs.Blind.{tree}
 use Rattle.gql_ast_laws.proofs.Inner.{both_ways, here, later}
-use Rattle.gql_ast_laws.proofs.Named.{no_text, nth_text-is, nth_name-is}
+use Rattle.gql_ast_laws.proofs.Named.{no_text, nth_name-is}
 use Rattle.gql_ast_laws.proofs.Spelled.{word-is}
 use Rattle.gql_ast_laws.proofs.Tops.{tops, HasNode, at, after_leaf, after_node}
 
@@ -126,12 +125,12 @@ module _ (text : Text) where
     pub below : AllAllowed (shown text found.children)
     pub spelled : AreSpelled (leaves found.children)
 
-  node-row : (k kind : SyntaxKind) (part : Part) (w : Word) (inner x : Row) → part ≡ node → k ≡ kind → AllAllowed (row_then part kind w inner x) → IsAllowed k inner × AllAllowed inner
+  pub node-row : (k kind : SyntaxKind) (part : Part) (w : Word) (inner x : Row) → part ≡ node → k ≡ kind → AllAllowed (row_then part kind w inner x) → IsAllowed k inner × AllAllowed inner
   node-row k kind node w inner x p e h = (subst (λ j. IsAllowed j inner) (sym e) h.0, h.1.0)
   node-row k kind word w inner x p e h = absurd (cc)
   node-row k kind ignored w inner x p e h = absurd (cc)
 
-  rest-row : (part : Part) (kind : SyntaxKind) (w : Word) (inner x : Row) → AllAllowed (row_then part kind w inner x) → AllAllowed x
+  pub rest-row : (part : Part) (kind : SyntaxKind) (w : Word) (inner x : Row) → AllAllowed (row_then part kind w inner x) → AllAllowed x
   rest-row word kind w inner x h = h
   rest-row ignored kind w inner x h = h
   rest-row node kind w inner x h = h.1.1
@@ -143,12 +142,12 @@ module _ (text : Text) where
   leaf-later : (k : SyntaxKind) (w : Word) (x : Row) → HasNode k (row.leaf w x) → HasNode k x
   leaf-later k w x (after_leaf h) = h
 
-  has-later : (part : Part) (k kind : SyntaxKind) (w : Word) (inner x : Row) → is_kind kind k ≡ false → HasNode k (row_then part kind w inner x) → HasNode k x
+  pub has-later : (part : Part) (k kind : SyntaxKind) (w : Word) (inner x : Row) → is_kind kind k ≡ false → HasNode k (row_then part kind w inner x) → HasNode k x
   has-later word k kind w inner x e h = leaf-later k w x h
   has-later ignored k kind w inner x e h = h
   has-later node k kind w inner x e h = node-later k kind inner x e h
 
-  none-here : {A : Type 0} (k : SyntaxKind) → HasNode k row.nothing → A
+  pub none-here : {A : Type 0} (k : SyntaxKind) → HasNode k row.nothing → A
   none-here k h = elim h [ ]
 
   pub child-of : (k : SyntaxKind) → part_of k ≡ node → (f : Forest) → AllAllowed (shown text f) → AreSpelled (leaves f) → HasNode k (shown text f) → Child k f

@@ -1,52 +1,107 @@
 -- The tokens of a text that are names.
-use Rattle.std.proofs.Common.{◌≡◌, ◌⊎◌, inl, inr, ℕ, zero, suc, ◌+◌, ◌-◌, ◌<◌, ◌≤◌, Bool, true, false, if◌then◌else◌, nat_eq, nat_lt, List, [], ◌∷◌, ◌++◌, length, take, drop, Option, Some, None, refl, sym, ap, ◌∙◌, subst, arith}
-use Rattle.std.specs.Prelude.{◌&&◌, ◌||◌, cond, nat_le, slice_index, slice_range}
+use Rattle.std.proofs.Common.{◌≡◌, inl, inr, ℕ, zero, suc, ◌+◌, ◌-◌, ◌<◌, ◌≤◌, Bool, true, false, if◌then◌else◌, nat_eq, nat_lt, List, [], ◌∷◌, length, take, drop, Some, None, refl, sym, ap, ◌∙◌, arith}
+use Rattle.std.specs.Prelude.{◌==◌, codes, ◌&&◌, ◌||◌, cond, nat_le, slice_index, slice_range}
 use Rattle.std.specs.List.{list_all, prefix_len}
 use Rattle.std.specs.Str.{IsCharBoundary, bytes_eq}
-use Rattle.gql_cst_lexer.specs.Class.{is_name_start, is_name_continue, is_digit, class_of}
+use Rattle.gql_cst_lexer.specs.Class.{is_name_start, is_name_continue, is_digit}
 use Rattle.gql_cst_lexer.specs.Lexical.{IsToken}
 use Rattle.gql_cst_lexer.specs.declared.token.TokenKind.{TokenKind}
 use Rattle.gql_cst_lexer.specs.declared.token.TokenKind.TheVariants as token
 use Rattle.gql_cst_grammar.specs.declared.word.Word.{Word}
+use Rattle.gql_cst_grammar.specs.declared.word.Word.TheVariants.{Bang, Dollar, Ampersand, ParenOpen, ParenClose, Colon, Equals, At, BracketOpen, BracketClose, BraceOpen, Bar, BraceClose, Spread, IntLiteral, FloatLiteral, StringLiteral, OperationWord, BooleanWord, LocationWord, OtherName, FragmentWord, OnWord, NullWord, SchemaWord, ScalarWord, TypeWord, InterfaceWord, ImplementsWord, UnionWord, EnumWord, InputWord, DirectiveWord, RepeatableWord, ExtendWord}
 use Rattle.gql_cst_grammar.specs.Word.{is_name as names}
-use Rattle.gql_cst_grammar.specs.Spelling.{keyword, word_of_name, word_of_punctuator}
+use Rattle.gql_cst_grammar.specs.Spelling.{is_executable_location, is_type_system_location, keyword, word_of_name, word_of_punctuator}
 use Rattle.gql_cst_grammar.specs.declared.syntax_kind.SyntaxKind.TheVariants.{Token}
-use Rattle.gql_cst.specs.Forest.{Forest, Plain}
-use Rattle.gql_cst.specs.Leaves.{Part, word, ignored, node, part_of_token, Leaf, IsLeaf}
-use Rattle.gql_cst.specs.Words.{number_word, word_of}
+use Rattle.gql_cst.specs.Forest.{Forest}
+use Rattle.gql_cst.specs.Leaves.{word, part_of_token, Leaf, IsLeaf}
+use Rattle.gql_cst.specs.Words.{has_byte, number_word, word_of}
 use Rattle.gql_ast_base.specs.Names.{is_name}
 use Rattle.gql_ast_base.specs.Kinds.{is_kind}
 use Rattle.gql_ast_base.specs.Parts.{Text, is_boundary, piece, token_text, word as name_text}
 
-if-names : (b : Bool) (x y : Word) → names x ≡ true → names y ≡ true → names (if b then x else y) ≡ true
-if-names true x y p q = p
-if-names false x y p q = q
+-- the word is a name, or it is none
+record IsName (w : Word) : Type 0 where
+  is : names w ≡ true
 
-if-others : (b : Bool) (x y : Word) → names x ≡ false → names y ≡ false → names (if b then x else y) ≡ false
-if-others true x y p q = p
-if-others false x y p q = q
+record IsOther (w : Word) : Type 0 where
+  other : names w ≡ false
 
-if-told : (b : Bool) (x y : Word) → names x ≡ true → names y ≡ false → names (if b then x else y) ≡ b
-if-told true x y p q = p
-if-told false x y p q = q
+either : (b : Bool) (x y : Word) → IsName x → IsName y → IsName (if b then x else y)
+either true x y p q = p
+either false x y p q = q
 
-keyword-names : (n : Text) → names (keyword n) ≡ true
-keyword-names n =
-    if-names _ _ _ refl (if-names _ _ _ refl (if-names _ _ _ refl (if-names _ _ _ refl (if-names _ _ _ refl (if-names _ _ _ refl (if-names _ _ _ refl
-    (if-names _ _ _ refl (if-names _ _ _ refl (if-names _ _ _ refl (if-names _ _ _ refl (if-names _ _ _ refl (if-names _ _ _ refl (if-names _ _ _ refl refl)))))))))))))
+neither : (b : Bool) (x y : Word) → IsOther x → IsOther y → IsOther (if b then x else y)
+neither true x y p q = p
+neither false x y p q = q
 
-word_of_name-names : (n : Text) → names (word_of_name n) ≡ true
-word_of_name-names n = if-names _ _ _ refl (if-names _ _ _ refl (if-names _ _ _ refl (keyword-names n)))
+told : (b : Bool) (x y : Word) → IsName x → IsOther y → names (if b then x else y) ≡ b
+told true x y p q = p.is
+told false x y p q = q.other
 
-punctuator-others : (b : ℕ) → names (word_of_punctuator b) ≡ false
-punctuator-others b =
-    if-others _ _ _ refl (if-others _ _ _ refl (if-others _ _ _ refl (if-others _ _ _ refl (if-others _ _ _ refl (if-others _ _ _ refl (if-others _ _ _ refl
-    (if-others _ _ _ refl (if-others _ _ _ refl (if-others _ _ _ refl (if-others _ _ _ refl (if-others _ _ _ refl (if-others _ _ _ refl refl))))))))))))
+a-name : (w : Word) → names w ≡ true → IsName w
+a-name w h = record { is = h }
+
+other : (w : Word) → names w ≡ false → IsOther w
+other w h = record { other = h }
+
+keyword-name : (n : Text) → IsName (keyword n)
+keyword-name n =
+    either (bytes_eq n (codes "fragment")) FragmentWord _ (a-name FragmentWord refl)
+    (either (bytes_eq n (codes "on")) OnWord _ (a-name OnWord refl)
+    (either (bytes_eq n (codes "null")) NullWord _ (a-name NullWord refl)
+    (either (bytes_eq n (codes "schema")) SchemaWord _ (a-name SchemaWord refl)
+    (either (bytes_eq n (codes "scalar")) ScalarWord _ (a-name ScalarWord refl)
+    (either (bytes_eq n (codes "type")) TypeWord _ (a-name TypeWord refl)
+    (either (bytes_eq n (codes "interface")) InterfaceWord _ (a-name InterfaceWord refl)
+    (either (bytes_eq n (codes "implements")) ImplementsWord _ (a-name ImplementsWord refl)
+    (either (bytes_eq n (codes "union")) UnionWord _ (a-name UnionWord refl)
+    (either (bytes_eq n (codes "enum")) EnumWord _ (a-name EnumWord refl)
+    (either (bytes_eq n (codes "input")) InputWord _ (a-name InputWord refl)
+    (either (bytes_eq n (codes "directive")) DirectiveWord _ (a-name DirectiveWord refl)
+    (either (bytes_eq n (codes "repeatable")) RepeatableWord _ (a-name RepeatableWord refl)
+    (either (bytes_eq n (codes "extend")) ExtendWord _ (a-name ExtendWord refl) (a-name OtherName refl))))))))))))))
+
+name-name : (n : Text) → IsName (word_of_name n)
+name-name n =
+    either (is_executable_location n || is_type_system_location n) LocationWord _ (a-name LocationWord refl)
+    (either (bytes_eq n (codes "query") || bytes_eq n (codes "mutation") || bytes_eq n (codes "subscription")) OperationWord _ (a-name OperationWord refl)
+    (either (bytes_eq n (codes "true") || bytes_eq n (codes "false")) BooleanWord _ (a-name BooleanWord refl) (keyword-name n)))
+
+punctuator-other : (b : ℕ) → IsOther (word_of_punctuator b)
+punctuator-other b =
+    neither (b == 33) Bang _ (other Bang refl)
+    (neither (b == 36) Dollar _ (other Dollar refl)
+    (neither (b == 38) Ampersand _ (other Ampersand refl)
+    (neither (b == 40) ParenOpen _ (other ParenOpen refl)
+    (neither (b == 41) ParenClose _ (other ParenClose refl)
+    (neither (b == 58) Colon _ (other Colon refl)
+    (neither (b == 61) Equals _ (other Equals refl)
+    (neither (b == 64) At _ (other At refl)
+    (neither (b == 91) BracketOpen _ (other BracketOpen refl)
+    (neither (b == 93) BracketClose _ (other BracketClose refl)
+    (neither (b == 123) BraceOpen _ (other BraceOpen refl)
+    (neither (b == 124) Bar _ (other Bar refl)
+    (neither (b == 125) BraceClose _ (other BraceClose refl) (other Spread refl)))))))))))))
+
+number-other : (found : Text) → IsOther (number_word found)
+number-other found =
+    neither (has_byte 0x2E found || has_byte 0x65 found || has_byte 0x45 found) FloatLiteral IntLiteral (other FloatLiteral refl) (other IntLiteral refl)
+
+pub word_of_name-names : (n : Text) → names (word_of_name n) ≡ true
+word_of_name-names n = (name-name n).is
 
 -- the word of a token is a name where the token begins as one
-word-names : (found : Text) → names (word_of found) ≡ is_name_start (slice_index found 0)
+pub word-names : (found : Text) → names (word_of found) ≡ is_name_start (slice_index found 0)
 word-names found =
-    if-told _ _ _ (word_of_name-names found) (if-others _ _ _ refl (if-others _ _ _ (if-others _ _ _ refl refl) (punctuator-others (slice_index found 0))))
+    told (is_name_start (slice_index found 0)) (word_of_name found) _ (name-name found)
+    (neither (slice_index found 0 == 0x22) StringLiteral _ (other StringLiteral refl)
+    (neither (is_digit (slice_index found 0) || slice_index found 0 == 0x2D) (number_word found) _ (number-other found) (punctuator-other (slice_index found 0))))
+
+-- and then it is that of a name
+pub name-word : (found : Text) → names (word_of found) ≡ true → word_of found ≡ word_of_name found
+name-word found h =
+    let starts : is_name_start (slice_index found 0) ≡ true = sym (word-names found) ∙ h in
+    rw starts refl
 
 prefix-step : (p : ℕ → Bool) (x : ℕ) (xs : List ℕ) (k : ℕ) (b : Bool) → p x ≡ b → list_all p (take k xs) ≡ true → list_all p (take (cond b (1 + k) 0) (x ∷ xs)) ≡ true
 prefix-step p x xs k true e h = let n : 1 + k ≡ suc k = omega arith in rw n (rw e h)

@@ -1,5 +1,5 @@
 -- The nodes of a document are definitions, each of which stands for one.
-use Rattle.std.proofs.Common.{◌≡◌, ℕ, true, List, [], ◌∷◌, is_some, Some, None, refl, sym, ap, ◌∙◌, subst}
+use Rattle.std.proofs.Common.{◌≡◌, List, [], ◌∷◌, Some, None, refl, sym, ap, ◌∙◌, subst}
 use Rattle.std.specs.Prelude.{IsSome, slice_range}
 use Rattle.gql_source.specs.declared.file_id.FileId.{FileId}
 use Rattle.gql_cst_grammar.specs.declared.word.Word.{Word}
@@ -9,7 +9,7 @@ use Rattle.gql_cst_grammar.specs.declared.rule.Rule.TheVariants as rule
 use Rattle.gql_cst_grammar.specs.declared.syntax_kind.SyntaxKind.{SyntaxKind}
 use Rattle.gql_cst_grammar.specs.declared.syntax_kind.SyntaxKind.TheVariants as kind
 use Rattle.gql_cst_grammar.specs.Rule.{kind_of}
-use Rattle.gql_cst_grammar.specs.Nodes.{IsAllowed, AllAllowed}
+use Rattle.gql_cst_grammar.specs.Nodes.{AllAllowed}
 use Rattle.gql_cst_grammar.specs.Row as row
 use Rattle.gql_cst_grammar.specs.Row.{Row}
 use Rattle.gql_cst_grammar.specs.Sentence.{Fits, done, token, tree, group, skip, take, stop, again, leave, enter, IsOneOf, here, there}

@@ -1,42 +1,40 @@
 -- A tree that refers to a type in a sentence stands for one.
-use Rattle.std.proofs.Common.{◌≡◌, ℕ, ◌+◌, ◌≤◌, Bool, true, false, if◌then◌else◌, List, [], ◌∷◌, ◌++◌, length, is_some, option_to_list, Option, Some, None, refl, sym, ap, ◌∙◌, subst}
+use Rattle.std.proofs.Common.{◌≡◌, ℕ, ◌+◌, Bool, true, false, if◌then◌else◌, List, ◌++◌, is_some, option_to_list, Option, Some, None, refl, sym, ap, ◌∙◌, subst}
 use Rattle.std.specs.Option.{option_map}
 use Rattle.gql_source.specs.declared.file_id.FileId.{FileId}
 use Rattle.gql_cst_grammar.specs.declared.word.Word.{Word}
 use Rattle.gql_cst_grammar.specs.declared.symbol.Symbol.{Symbol}
-use Rattle.gql_cst_grammar.specs.declared.rule.Rule.{Rule}
 use Rattle.gql_cst_grammar.specs.declared.rule.Rule.TheVariants as rule
 use Rattle.gql_cst_grammar.specs.declared.syntax_kind.SyntaxKind.{SyntaxKind}
 use Rattle.gql_cst_grammar.specs.declared.syntax_kind.SyntaxKind.TheVariants as kind
 use Rattle.gql_cst_grammar.specs.Grammar.{declared}
 use Rattle.gql_cst_grammar.specs.Nodes.{IsAllowed, AllAllowed}
 use Rattle.gql_cst_grammar.specs.Row.{Row}
-use Rattle.gql_cst_grammar.specs.Sentence.{Fits, token, tree, group, IsOneOf, here, there}
-use Rattle.gql_cst.specs.Forest.{Forest, Plain, nothing, tree_then}
-use Rattle.gql_cst.specs.Leaves.{Part, node, part_of, leaves}
+use Rattle.gql_cst_grammar.specs.Sentence.{Fits, tree, group, IsOneOf, here, there}
+use Rattle.gql_cst.specs.Forest.{Forest, nothing, tree_then}
+use Rattle.gql_cst.specs.Leaves.{node, part_of, leaves}
 use Rattle.gql_cst.specs.Sentences.{shown}
 use Rattle.gql_cst.specs.Words.{word_of}
 use Rattle.std.specs.Prelude.{slice_range}
 use Rattle.gql_ast_base.specs.Kinds.{is_kind}
-use Rattle.gql_ast_base.specs.Parts.{Text, head, nth_name}
-use Rattle.gql_ast_values.specs.declared.type_ref.TypeRef.{TypeRef}
+use Rattle.gql_ast_base.specs.Parts.{Text, head}
 use Rattle.gql_ast_values.specs.Types.{form_step, type_step, types, forms, type_of}
 use Rattle.gql_ast_laws.proofs.TokenKinds.{kind_is}
 use Rattle.gql_ast_laws.proofs.Blind.{tree as plain_tree}
 use Rattle.gql_ast_laws.proofs.Inner.{both_ways}
 use Rattle.gql_ast_laws.proofs.Shown.{AreSpelled, below-of, rest-of, name-at, node-row, rest-row, has-later, none-here}
-use Rattle.gql_ast_laws.proofs.Tops.{IsIn, first, next, HasNode, at, after_leaf, after_node, has-node}
-use Rattle.gql_ast_laws.proofs.Ways.{Made, made, only-names, only-node}
+use Rattle.gql_ast_laws.proofs.Tops.{first, next, HasNode, has-node}
+use Rattle.gql_ast_laws.proofs.Ways.{made, only-names, only-node}
 
 pub some-map : {A B : Type 0} (f : A → B) (o : Option A) → is_some o ≡ true → is_some (option_map f o) ≡ true
 some-map f None h = h
 some-map f (Some x) h = refl
 
-head-first : {A : Type 0} (o : Option A) (l : List A) → is_some o ≡ true → is_some (head (option_to_list o ++ l)) ≡ true
+pub head-first : {A : Type 0} (o : Option A) (l : List A) → is_some o ≡ true → is_some (head (option_to_list o ++ l)) ≡ true
 head-first None l h = absurd (cc)
 head-first (Some x) l h = refl
 
-head-rest : {A : Type 0} (o : Option A) (l : List A) → is_some (head l) ≡ true → is_some (head (option_to_list o ++ l)) ≡ true
+pub head-rest : {A : Type 0} (o : Option A) (l : List A) → is_some (head l) ≡ true → is_some (head (option_to_list o ++ l)) ≡ true
 head-rest None l h = h
 head-rest (Some x) l h = refl
 
@@ -64,13 +62,13 @@ reference-way _ (there here) f = record { k = kind.ListType; form = refl; has = 
 reference-way _ (there (there here)) f = record { k = kind.NonNullType; form = refl; has = has-node rule.NonNullType kind.NonNullType refl f first }
 reference-way _ (there (there (there x))) f = elim x [ ]
 
-core-way : {ss : List Symbol} {ws vs : List Word} {row : Row} (way : List Symbol) → IsOneOf way (declared rule.TypeCore) → Fits (way ++ ss) ws row vs → HasForm row
-core-way _ here f = record { k = kind.NamedType; form = refl; has = has-node rule.NamedType kind.NamedType refl f first }
-core-way _ (there here) f = record { k = kind.ListType; form = refl; has = has-node rule.ListType kind.ListType refl f first }
-core-way _ (there (there x)) f = elim x [ ]
+core-way : (ss : List Symbol) {ws vs : List Word} {row : Row} (way : List Symbol) → IsOneOf way (declared rule.TypeCore) → Fits (way ++ ss) ws row vs → HasForm row
+core-way ss _ here f = record { k = kind.NamedType; form = refl; has = has-node rule.NamedType kind.NamedType refl f first }
+core-way ss _ (there here) f = record { k = kind.ListType; form = refl; has = has-node rule.ListType kind.ListType refl f first }
+core-way ss _ (there (there x)) f = elim x [ ]
 
 bang-way : {ws vs : List Word} {row : Row} (way : List Symbol) → IsOneOf way (declared rule.NonNullType) → Fits way ws row vs → HasForm row
-bang-way _ here (group {ss = ss} r way m o f) = core-way {ss = ss} way o f
+bang-way _ here (group {ss = ss} r way m o f) = core-way ss way o f
 bang-way _ here (tree r k way m o f g) = absurd (cc)
 bang-way _ (there x) f = elim x [ ]
 

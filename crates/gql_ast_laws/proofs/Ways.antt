@@ -1,5 +1,5 @@
 -- The nodes of a sentence, each by the only rule of its kind.
-use Rattle.std.proofs.Common.{◌≡◌, ◌≤◌, ℕ, Bool, true, false, List, [], ◌∷◌, length, Option, Some, None, refl, sym, ap, ◌∙◌, subst}
+use Rattle.std.proofs.Common.{◌≡◌, ◌≤◌, Bool, true, false, List, [], ◌∷◌, length, Option, Some, None, ap, ◌∙◌, subst}
 use Rattle.gql_cst_grammar.specs.declared.word.Word.{Word}
 use Rattle.gql_cst_grammar.specs.declared.symbol.Symbol.{Symbol}
 use Rattle.gql_cst_grammar.specs.declared.symbol.Symbol.TheVariants.{One}
@@ -101,10 +101,10 @@ made k inner s a =
     subst (λ r. Made r inner) (ruled a.rule k a.of_kind s) (record { way = a.way; words = a.words; behind = a.behind; one = a.one; fits = a.fits })
 
 -- what each row has that the only way to write a rule makes
-only-names : {ws vs : List Word} {inner : Row} (w way : List Symbol) → IsOneOf way (w ∷ []) → Fits way ws inner vs → least w ≤ length (tops inner)
+pub only-names : {ws vs : List Word} {inner : Row} (w way : List Symbol) → IsOneOf way (w ∷ []) → Fits way ws inner vs → least w ≤ length (tops inner)
 only-names w way here f = least-tops f
 only-names w way (there x) f = elim x [ ]
 
-only-node : {ws vs : List Word} {inner : Row} (w way : List Symbol) (r : Rule) (k : SyntaxKind) → kind_of r ≡ Some k → IsIn (One r) w → IsOneOf way (w ∷ []) → Fits way ws inner vs → HasNode k inner
+pub only-node : {ws vs : List Word} {inner : Row} (w way : List Symbol) (r : Rule) (k : SyntaxKind) → kind_of r ≡ Some k → IsIn (One r) w → IsOneOf way (w ∷ []) → Fits way ws inner vs → HasNode k inner
 only-node w way r k e i here f = has-node r k e f i
 only-node w way r k e i (there x) f = elim x [ ]
