@@ -16,10 +16,10 @@ use Rattle.gql_ast_laws.proofs.Gathered.{gather_blind}
 abbrev pub bare_node : Plain → Plain
 bare_node t = record { kind = t.kind; start = 0; end = 0; children = bare t.children }
 
-here : (known kind : SyntaxKind) (start end : ℕ) (children rest : Forest) → is_kind kind known ≡ true → child known (tree_then kind start end children rest) ≡ Some (tree kind start end children)
+pub here : (known kind : SyntaxKind) (start end : ℕ) (children rest : Forest) → is_kind kind known ≡ true → child known (tree_then kind start end children rest) ≡ Some (tree kind start end children)
 here known kind start end children rest h = rw h refl
 
-later : (known kind : SyntaxKind) (start end : ℕ) (children rest : Forest) → is_kind kind known ≡ false → child known (tree_then kind start end children rest) ≡ child known rest
+pub later : (known kind : SyntaxKind) (start end : ℕ) (children rest : Forest) → is_kind kind known ≡ false → child known (tree_then kind start end children rest) ≡ child known rest
 later known kind start end children rest h = rw h refl
 
 later_then : (known : SyntaxKind) (part : Part) (kind : SyntaxKind) (start end : ℕ) (children rest : Forest) → is_kind kind known ≡ false

@@ -15,3 +15,11 @@ pub mod SchemaMeaning
 pub mod ExtensionMeaning
 pub mod DocumentMeaning
 pub mod Whole
+pub mod Tops
+pub mod Ways
+pub mod Spelled
+pub mod Shown
+pub mod TypeFound
+pub mod Extended
+pub mod DefinitionFound
+pub mod Total

@@ -69,6 +69,9 @@ map_same : {T : Type 0} (o : Option T) → o ≡ option_map (λ x. x) o
 map_same None = refl
 map_same (Some x) = refl
 
+pub nth_text-is : (text : Text) (n : ℕ) (row : Forest) → nth_text text n row ≡ slice_get (gather (name_text text) row) n
+nth_text-is text n row = nth_is text (name_text text) (λ t x. x) (λ t. map_same (name_text text t)) row n
+
 pub nth_text-bare : (text : Text) (n : ℕ) (row : Forest) → TokensEnd row → nth_text text n (bare row) ≡ nth_text text n row
 nth_text-bare text n row h =
     nth_is text (name_text text) (λ t x. x) (λ t. map_same (name_text text t)) (bare row) n
@@ -88,3 +91,7 @@ nth_name-bare text file n row h =
     nth_is text (name_of text file) (named file) (name_is text file) (bare row) n
     ∙ ap (λ l. slice_get l n) (gather_blind (name_of-blind text file) row h)
     ∙ sym (nth_is text (name_of text file) (named file) (name_is text file) row n)
+
+pub nth_name-is : (text : Text) (file : FileId) (n : ℕ) (row : Forest) → nth_name text file n row ≡ slice_get (gather (name_of text file) row) n
+unfolding nth_name
+nth_name-is text file n row = nth_is text (name_of text file) (named file) (name_is text file) row n

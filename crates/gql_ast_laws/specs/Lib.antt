@@ -1,2 +1,3 @@
 -- What a text stands for.
 pub mod Meant
+pub mod Complete

@@ -1,6 +1,6 @@
 //! Laws of the definitions alone: what a text stands for is one, whichever tree of it is taken.
 
-ghost use Rattle.std.specs.Prelude.{◌≡◌, ◌++◌, ℕ, List, None, Some};
+ghost use Rattle.std.specs.Prelude.{◌≡◌, ◌++◌, ℕ, List, None, Some, IsSome};
 ghost use Rattle.gql_source.specs.declared.file_id.FileId.{FileId};
 ghost use Rattle.gql_cst_grammar.specs.declared.rule.Rule.TheVariants.{Document, FieldSet, TypeReference};
 ghost use Rattle.gql_cst_grammar.specs.declared.syntax_kind.SyntaxKind.TheVariants as kind;
@@ -12,11 +12,13 @@ ghost use Rattle.gql_cst_laws.specs.TreeOf.{IsTreeOf};
 ghost use Rattle.gql_ast.specs.declared.definition.Definition.{Definition};
 ghost use Rattle.gql_ast_operations.specs.declared.selection.Selection.{Selection};
 ghost use Rattle.gql_ast_values.specs.declared.type_ref.TypeRef.{TypeRef};
-ghost use Rattle.gql_ast.specs.Documents.{definitions};
+ghost use Rattle.gql_ast.specs.Documents.{definitions, definition_of};
 ghost use Rattle.gql_ast_operations.specs.Selections.{selections, selected};
 ghost use Rattle.gql_ast_values.specs.Types.{type_of};
+ghost use Rattle.gql_ast_laws.specs.Complete.{EachNode};
 ghost use Rattle.gql_ast_laws.specs.Meant.{IsDocumentOf, AreSelectionsOf, IsTypeOf};
 
+use gql_cst_grammar::laws as grammar_laws;
 use gql_cst_laws::laws as tree_laws;
 
 /// A text is one document at most: all its trees have the same definitions, locations included (section 2.2 of GraphQL
@@ -69,4 +71,15 @@ pub fn parses_mean_their_text()
         → type_of text file (plain parsed.tree) ≡ Some ty → IsTypeOf text file ty }
 {
     tree_laws::parses_are_trees();
+}
+
+/// In a sentence no definition is left out: each node of a document stands for one (section 2.2 of GraphQL October 2021).
+/// And a tree that refers to a type stands for one (section 2.11).
+pub fn sentences_are_complete()
+    ensures definitions { (text : List ℕ) (file : FileId) (children : Forest)
+        → IsTreeOf Document text children → EachNode (λ tree. IsSome (definition_of text file tree)) children }
+    ensures ty { (text : List ℕ) (file : FileId) (tree : Plain) → tree.kind ≡ kind.TypeReference
+        → IsTreeOf TypeReference text tree.children → IsSome (type_of text file tree) }
+{
+    grammar_laws::sentences_have_one_tree();
 }

@@ -1,0 +1,479 @@
+-- A definition of a sentence stands for one.
+use Rattle.std.proofs.Common.{◌≡◌, ℕ, ◌+◌, ◌≤◌, arith, Bool, true, false, if◌then◌else◌, List, [], ◌∷◌, ◌++◌, length, is_some, Option, Some, None, refl, sym, ap, ◌∙◌, subst}
+use Rattle.std.specs.Prelude.{map, slice_get, codes, option_and_then}
+use Rattle.std.specs.Str.{bytes_eq}
+use Rattle.gql_source.specs.declared.file_id.FileId.{FileId}
+use Rattle.gql_cst_grammar.specs.declared.word.Word.{Word}
+use Rattle.gql_cst_grammar.specs.declared.word.Word.TheVariants.{SchemaWord, ScalarWord, TypeWord, InterfaceWord, UnionWord, EnumWord, InputWord}
+use Rattle.gql_cst_grammar.specs.declared.symbol.Symbol.{Symbol}
+use Rattle.gql_cst_grammar.specs.declared.rule.Rule.TheVariants as rule
+use Rattle.gql_cst_grammar.specs.declared.syntax_kind.SyntaxKind.{SyntaxKind}
+use Rattle.gql_cst_grammar.specs.declared.syntax_kind.SyntaxKind.TheVariants as kind
+use Rattle.gql_cst_grammar.specs.Grammar.{declared}
+use Rattle.gql_cst_grammar.specs.Word.{is_same, is_name as names}
+use Rattle.gql_cst_grammar.specs.Nodes.{IsAllowed, AllAllowed}
+use Rattle.gql_cst_grammar.specs.Row.{Row, leaf}
+use Rattle.gql_cst_grammar.specs.Sentence.{Fits, token, tree, group, IsOneOf, here, there}
+use Rattle.gql_cst.specs.Forest.{Forest, Plain, nothing, tree_then}
+use Rattle.gql_cst.specs.Leaves.{node, part_of, leaves}
+use Rattle.gql_cst.specs.Sentences.{shown}
+use Rattle.gql_cst.specs.Words.{word_of}
+use Rattle.gql_ast_base.specs.Kinds.{is_kind}
+use Rattle.gql_ast_base.specs.Parts.{Text, or_else, gather, first as first_of, child, inside, is_word, nth_text, nth_name}
+use Rattle.gql_ast_base.specs.NamedTypes.{named_type_in}
+use Rattle.gql_ast_operations.specs.Operations.{operation_of, fragment_of}
+use Rattle.gql_ast_operations.specs.Selections.{type_condition}
+use Rattle.gql_ast_definitions.specs.Definitions.{scalar_of, object_of, interface_of, union_of, enum_of, input_object_of}
+use Rattle.gql_ast_definitions.specs.Extensions.{extends, schema_extension_of, scalar_extension_of, object_extension_of, interface_extension_of, union_extension_of, enum_extension_of, input_object_extension_of}
+use Rattle.gql_ast_definitions.specs.Schemas.{directive_definition_of, schema_of}
+use Rattle.std.specs.Option.{option_map}
+use Rattle.gql_ast.specs.declared.definition.Definition.{Definition}
+use Rattle.gql_ast.specs.declared.definition.Definition.TheVariants as definition
+use Rattle.gql_ast.specs.Documents.{executable_definition_of, schema_definition_of, type_definition_of, extension_of, choice_of, definition_of}
+use Rattle.gql_ast_laws.proofs.Blind.{tree as plain_tree}
+use Rattle.gql_ast_laws.proofs.Inner.{both_ways, here as child_here, later as child_later}
+use Rattle.gql_ast_laws.proofs.Named.{nth_text-is}
+use Rattle.gql_ast_laws.proofs.Shown.{AreSpelled, child-of, inside-is, name-at, texts, tops-shown}
+use Rattle.gql_ast_laws.proofs.Tops.{first, next, HasNode, tops, name-taken, has-node}
+use Rattle.gql_ast_laws.proofs.TypeFound.{some-map, head-first, head-rest}
+use Rattle.gql_ast_laws.proofs.Ways.{made, only-names, only-node}
+use Rattle.gql_ast_laws.proofs.Extended.{word-schema, word-scalar, word-type, word-interface, word-union, word-enum, word-input}
+
+some-same : {A : Type 0} (x y : A) → Some x ≡ Some y → x ≡ y
+some-same x y h = cc
+
+some-then : {A B : Type 0} (f : A → Option B) (o : Option A) → is_some o ≡ true → ((x : A) → is_some (f x) ≡ true) → is_some (option_and_then f o) ≡ true
+some-then f None h g = h
+some-then f (Some x) h g = g x
+
+some-left : {A : Type 0} (a b : Option A) → is_some a ≡ true → is_some (or_else a b) ≡ true
+some-left None b h = absurd (cc)
+some-left (Some x) b h = refl
+
+some-right : {A : Type 0} (a b : Option A) → is_some b ≡ true → is_some (or_else a b) ≡ true
+some-right None b h = h
+some-right (Some x) b h = refl
+
+-- what is made of the first tree of a kind
+first-some : {T : Type 0} (f : Plain → Option T) (k : SyntaxKind) (row : Forest) (t : Plain) → child k row ≡ Some t → is_some (f t) ≡ true → is_some (first_of f row) ≡ true
+first-some f k nothing t e h = absurd (cc)
+first-some f k (tree_then kind start end children rest) t e h =
+    let one = plain_tree kind start end children in
+    both_ways (is_kind kind k)
+    (λ q.
+    let same : one ≡ t = some-same one t (sym (child_here k kind start end children rest q) ∙ e) in
+    head-first (f one) (gather f rest) (ap (λ x. is_some (f x)) same ∙ h))
+    (λ q. head-rest (f one) (gather f rest) (first-some f k rest t (sym (child_later k kind start end children rest q) ∙ e) h))
+
+-- ---- extensions
+
+-- what the second word of an extension is, with the names behind it
+data Which (second : Word) (later : List Word) : Type 0 where
+  of_schema : is_same SchemaWord second ≡ true → Which second later
+  of_scalar : is_same ScalarWord second ≡ true → 1 ≤ length later → Which second later
+  of_type : is_same TypeWord second ≡ true → 1 ≤ length later → Which second later
+  of_interface : is_same InterfaceWord second ≡ true → 1 ≤ length later → Which second later
+  of_union : is_same UnionWord second ≡ true → 1 ≤ length later → Which second later
+  of_enum : is_same EnumWord second ≡ true → 1 ≤ length later → Which second later
+  of_input : is_same InputWord second ≡ true → 1 ≤ length later → Which second later
+
+record Extends (row : Row) : Type 0 where
+  front : Word
+  second : Word
+  later : List Word
+  are : tops row ≡ front ∷ second ∷ later
+  which : Which second later
+
+-- two names in front
+two : (w u : Word) (x : Row) → names w ≡ true → names u ≡ true → tops (leaf w (leaf u x)) ≡ w ∷ u ∷ tops x
+two w u x p q = rw (p, q) refl
+
+one-later : (z : Word) (x : Row) → names z ≡ true → 1 ≤ length (tops (leaf z x))
+one-later z x p = rw p (omega arith)
+
+extended : (ss : List Symbol) {ws vs : List Word} {row : Row} (w : Word) → names w ≡ true → (way : List Symbol) → IsOneOf way (declared rule.ExtendedDefinition) → Fits (way ++ ss) ws row vs → Extends (leaf w row)
+extended ss w p _ here (token {row = x} t u e g) = record { front = w; second = u; later = tops x; are = two w u x p (name-taken t u e refl); which = of_schema e }
+extended ss w p _ (there here) (token t u e (token {row = x} s z q g)) =
+    record { front = w; second = u; later = tops (leaf z x); are = two w u (leaf z x) p (name-taken t u e refl); which = of_scalar e (one-later z x (name-taken s z q refl)) }
+extended ss w p _ (there (there here)) (token t u e (token {row = x} s z q g)) =
+    record { front = w; second = u; later = tops (leaf z x); are = two w u (leaf z x) p (name-taken t u e refl); which = of_type e (one-later z x (name-taken s z q refl)) }
+extended ss w p _ (there (there (there here))) (token t u e (token {row = x} s z q g)) =
+    record { front = w; second = u; later = tops (leaf z x); are = two w u (leaf z x) p (name-taken t u e refl); which = of_interface e (one-later z x (name-taken s z q refl)) }
+extended ss w p _ (there (there (there (there here)))) (token t u e (token {row = x} s z q g)) =
+    record { front = w; second = u; later = tops (leaf z x); are = two w u (leaf z x) p (name-taken t u e refl); which = of_union e (one-later z x (name-taken s z q refl)) }
+extended ss w p _ (there (there (there (there (there here))))) (token t u e (token {row = x} s z q g)) =
+    record { front = w; second = u; later = tops (leaf z x); are = two w u (leaf z x) p (name-taken t u e refl); which = of_enum e (one-later z x (name-taken s z q refl)) }
+extended ss w p _ (there (there (there (there (there (there here)))))) (token t u e (token {row = x} s z q g)) =
+    record { front = w; second = u; later = tops (leaf z x); are = two w u (leaf z x) p (name-taken t u e refl); which = of_input e (one-later z x (name-taken s z q refl)) }
+extended ss w p _ (there (there (there (there (there (there (there x))))))) f = elim x [ ]
+
+extends-way : {ws vs : List Word} {row : Row} (way : List Symbol) → IsOneOf way (declared rule.Extension) → Fits way ws row vs → Extends row
+extends-way _ here (token t w e (group {ss = ss} r way m o f)) = extended ss w (name-taken t w e refl) way o f
+extends-way _ here (token t w e (tree r k way m o f g)) = absurd (cc)
+extends-way _ (there x) f = elim x [ ]
+
+second-text : (xs : List Text) (a b : Word) (l : List Word) → map word_of xs ≡ a ∷ b ∷ l → (x : Text) × (slice_get xs 1 ≡ Some x) × (word_of x ≡ b)
+second-text [] a b l e = absurd (cc)
+second-text (x ∷ []) a b l e = absurd (cc)
+second-text (x ∷ y ∷ ys) a b l e = (y, refl, let q : word_of y ≡ b = cc in q)
+
+-- the kinds of nodes that define something
+abbrev pub is_defining : SyntaxKind → Bool
+is_defining kind.OperationDefinition = true
+is_defining kind.FragmentDefinition = true
+is_defining kind.SchemaDefinition = true
+is_defining kind.DirectiveDefinition = true
+is_defining kind.ScalarTypeDefinition = true
+is_defining kind.ObjectTypeDefinition = true
+is_defining kind.InterfaceTypeDefinition = true
+is_defining kind.UnionTypeDefinition = true
+is_defining kind.EnumTypeDefinition = true
+is_defining kind.InputObjectTypeDefinition = true
+is_defining kind.Extension = true
+is_defining _ = false
+
+defining-node : (k : SyntaxKind) → is_defining k ≡ true → part_of k ≡ node
+defining-node kind.OperationDefinition h = refl
+defining-node kind.FragmentDefinition h = refl
+defining-node kind.SchemaDefinition h = refl
+defining-node kind.DirectiveDefinition h = refl
+defining-node kind.ScalarTypeDefinition h = refl
+defining-node kind.ObjectTypeDefinition h = refl
+defining-node kind.InterfaceTypeDefinition h = refl
+defining-node kind.UnionTypeDefinition h = refl
+defining-node kind.EnumTypeDefinition h = refl
+defining-node kind.InputObjectTypeDefinition h = refl
+defining-node kind.Extension h = refl
+defining-node _ h = absurd (cc)
+
+record HasDefinition (row : Row) : Type 0 where
+  k : SyntaxKind
+  defining : is_defining k ≡ true
+  has : HasNode k row
+
+definition-way : {ws vs : List Word} {row : Row} (way : List Symbol) → IsOneOf way (declared rule.Definition) → Fits way ws row vs → HasDefinition row
+definition-way _ here f = record { k = kind.OperationDefinition; defining = refl; has = has-node rule.OperationDefinition kind.OperationDefinition refl f first }
+definition-way _ (there here) f = record { k = kind.FragmentDefinition; defining = refl; has = has-node rule.FragmentDefinition kind.FragmentDefinition refl f first }
+definition-way _ (there (there here)) f = record { k = kind.SchemaDefinition; defining = refl; has = has-node rule.SchemaDefinition kind.SchemaDefinition refl f first }
+definition-way _ (there (there (there here))) f = record { k = kind.DirectiveDefinition; defining = refl; has = has-node rule.DirectiveDefinition kind.DirectiveDefinition refl f first }
+definition-way _ (there (there (there (there here)))) f = record { k = kind.ScalarTypeDefinition; defining = refl; has = has-node rule.ScalarTypeDefinition kind.ScalarTypeDefinition refl f first }
+definition-way _ (there (there (there (there (there here))))) f = record { k = kind.ObjectTypeDefinition; defining = refl; has = has-node rule.ObjectTypeDefinition kind.ObjectTypeDefinition refl f first }
+definition-way _ (there (there (there (there (there (there here)))))) f = record { k = kind.InterfaceTypeDefinition; defining = refl; has = has-node rule.InterfaceTypeDefinition kind.InterfaceTypeDefinition refl f first }
+definition-way _ (there (there (there (there (there (there (there here))))))) f = record { k = kind.UnionTypeDefinition; defining = refl; has = has-node rule.UnionTypeDefinition kind.UnionTypeDefinition refl f first }
+definition-way _ (there (there (there (there (there (there (there (there here)))))))) f = record { k = kind.EnumTypeDefinition; defining = refl; has = has-node rule.EnumTypeDefinition kind.EnumTypeDefinition refl f first }
+definition-way _ (there (there (there (there (there (there (there (there (there here))))))))) f = record { k = kind.InputObjectTypeDefinition; defining = refl; has = has-node rule.InputObjectTypeDefinition kind.InputObjectTypeDefinition refl f first }
+definition-way _ (there (there (there (there (there (there (there (there (there (there here)))))))))) f = record { k = kind.Extension; defining = refl; has = has-node rule.Extension kind.Extension refl f first }
+definition-way _ (there (there (there (there (there (there (there (there (there (there (there x))))))))))) f = elim x [ ]
+
+module _ (text : Text) (file : FileId) where
+  -- each way to define something
+  abbrev as_operation : Plain → Option Definition
+  as_operation t = option_map definition.OperationDefinition (operation_of text file t)
+
+  abbrev as_fragment : Plain → Option Definition
+  as_fragment t = option_map definition.FragmentDefinition (fragment_of text file t)
+
+  abbrev as_directive : Plain → Option Definition
+  as_directive t = option_map definition.DirectiveDefinition (directive_definition_of text file t)
+
+  abbrev as_schema : Plain → Option Definition
+  as_schema t = option_map definition.SchemaDefinition (schema_of text file t)
+
+  abbrev as_scalar : Plain → Option Definition
+  as_scalar t = option_map definition.ScalarTypeDefinition (scalar_of text file t)
+
+  abbrev as_object : Plain → Option Definition
+  as_object t = option_map definition.ObjectTypeDefinition (object_of text file t)
+
+  abbrev as_interface : Plain → Option Definition
+  as_interface t = option_map definition.InterfaceTypeDefinition (interface_of text file t)
+
+  abbrev as_union : Plain → Option Definition
+  as_union t = option_map definition.UnionTypeDefinition (union_of text file t)
+
+  abbrev as_enum : Plain → Option Definition
+  as_enum t = option_map definition.EnumTypeDefinition (enum_of text file t)
+
+  abbrev as_input_object : Plain → Option Definition
+  as_input_object t = option_map definition.InputObjectTypeDefinition (input_object_of text file t)
+
+  abbrev as_schema_extension : Plain → Option Definition
+  as_schema_extension t = option_map definition.SchemaExtension (schema_extension_of text file t)
+
+  abbrev as_scalar_extension : Plain → Option Definition
+  as_scalar_extension t = option_map definition.ScalarTypeExtension (scalar_extension_of text file t)
+
+  abbrev as_object_extension : Plain → Option Definition
+  as_object_extension t = option_map definition.ObjectTypeExtension (object_extension_of text file t)
+
+  abbrev as_interface_extension : Plain → Option Definition
+  as_interface_extension t = option_map definition.InterfaceTypeExtension (interface_extension_of text file t)
+
+  abbrev as_union_extension : Plain → Option Definition
+  as_union_extension t = option_map definition.UnionTypeExtension (union_extension_of text file t)
+
+  abbrev as_enum_extension : Plain → Option Definition
+  as_enum_extension t = option_map definition.EnumTypeExtension (enum_extension_of text file t)
+
+  abbrev as_input_object_extension : Plain → Option Definition
+  as_input_object_extension t = option_map definition.InputObjectTypeExtension (input_object_extension_of text file t)
+
+  -- the name of the first named type in a row that has one
+  type-named : (f : Forest) → AllAllowed (shown text f) → AreSpelled text (leaves f) → HasNode kind.NamedType (shown text f) → is_some (named_type_in text file f) ≡ true
+  unfolding named_type_in
+  type-named f a h has =
+      let c = child-of text kind.NamedType refl f a h has in
+      let m = made kind.NamedType (shown text c.found.children) refl c.allowed in
+      rw (inside-is text kind.NamedType f c) (name-at text file 0 c.found.children c.spelled (only-names _ m.way m.one m.fits))
+
+  condition-named : (f : Forest) → AllAllowed (shown text f) → AreSpelled text (leaves f) → HasNode kind.TypeCondition (shown text f) → is_some (type_condition text file f) ≡ true
+  unfolding type_condition
+  condition-named f a h has =
+      let c = child-of text kind.TypeCondition refl f a h has in
+      let m = made kind.TypeCondition (shown text c.found.children) refl c.allowed in
+      rw (inside-is text kind.TypeCondition f c)
+      (type-named c.found.children c.below c.spelled (only-node _ m.way rule.NamedType kind.NamedType refl (next first) m.one m.fits))
+
+  fragment-named : (f : Forest) → AllAllowed (shown text f) → AreSpelled text (leaves f) → HasNode kind.FragmentName (shown text f) → is_some (nth_name text file 0 (inside kind.FragmentName f)) ≡ true
+  fragment-named f a h has =
+      let c = child-of text kind.FragmentName refl f a h has in
+      let m = made kind.FragmentName (shown text c.found.children) refl c.allowed in
+      rw (inside-is text kind.FragmentName f c) (name-at text file 0 c.found.children c.spelled (only-names _ m.way m.one m.fits))
+
+  -- an operation has a selection set, whichever way it is written
+  operation-set : {ws vs : List Word} {row : Row} (way : List Symbol) → IsOneOf way (declared rule.OperationDefinition) → Fits way ws row vs → HasNode kind.SelectionSet row
+  operation-set _ here f = has-node rule.SelectionSet kind.SelectionSet refl f first
+  operation-set _ (there here) f = has-node rule.SelectionSet kind.SelectionSet refl f (next (next (next (next first))))
+  operation-set _ (there (there x)) f = elim x [ ]
+
+  module _ (start end : ℕ) (children : Forest) (below : AllAllowed (shown text children)) (h : AreSpelled text (leaves children)) where
+    operation-found : IsAllowed kind.OperationDefinition (shown text children) → is_some (operation_of text file (plain_tree kind.OperationDefinition start end children)) ≡ true
+    unfolding operation_of is_kind
+    operation-found a =
+        let m = made kind.OperationDefinition (shown text children) refl a in
+        let c = child-of text kind.SelectionSet refl children below h (operation-set m.way m.one m.fits) in
+        some-map _ _ (ap is_some c.is)
+
+    fragment-found : IsAllowed kind.FragmentDefinition (shown text children) → is_some (fragment_of text file (plain_tree kind.FragmentDefinition start end children)) ≡ true
+    unfolding fragment_of is_kind
+    fragment-found a =
+        let m = made kind.FragmentDefinition (shown text children) refl a in
+        let c = child-of text kind.SelectionSet refl children below h (only-node _ m.way rule.SelectionSet kind.SelectionSet refl (next (next (next (next first)))) m.one m.fits) in
+        let name = fragment-named children below h (only-node _ m.way rule.FragmentName kind.FragmentName refl (next first) m.one m.fits) in
+        let condition = condition-named children below h (only-node _ m.way rule.TypeCondition kind.TypeCondition refl (next (next first)) m.one m.fits) in
+        some-then _ _ (ap is_some c.is) (λ set. some-then _ _ name (λ n. some-map _ _ condition))
+
+    schema-found : is_some (schema_of text file (plain_tree kind.SchemaDefinition start end children)) ≡ true
+    unfolding schema_of is_kind
+    schema-found = refl
+
+    directive-found : IsAllowed kind.DirectiveDefinition (shown text children) → is_some (directive_definition_of text file (plain_tree kind.DirectiveDefinition start end children)) ≡ true
+    unfolding directive_definition_of is_kind
+    directive-found a =
+        let m = made kind.DirectiveDefinition (shown text children) refl a in
+        some-map _ _ (name-at text file 1 children h (let n : 4 ≤ length (tops (shown text children)) = only-names _ m.way m.one m.fits in omega arith))
+
+    scalar-found : IsAllowed kind.ScalarTypeDefinition (shown text children) → is_some (scalar_of text file (plain_tree kind.ScalarTypeDefinition start end children)) ≡ true
+    unfolding scalar_of is_kind
+    scalar-found a =
+        let m = made kind.ScalarTypeDefinition (shown text children) refl a in
+        some-map _ _ (name-at text file 1 children h (only-names _ m.way m.one m.fits))
+
+    object-found : IsAllowed kind.ObjectTypeDefinition (shown text children) → is_some (object_of text file (plain_tree kind.ObjectTypeDefinition start end children)) ≡ true
+    unfolding object_of is_kind
+    object-found a =
+        let m = made kind.ObjectTypeDefinition (shown text children) refl a in
+        some-map _ _ (name-at text file 1 children h (only-names _ m.way m.one m.fits))
+
+    interface-found : IsAllowed kind.InterfaceTypeDefinition (shown text children) → is_some (interface_of text file (plain_tree kind.InterfaceTypeDefinition start end children)) ≡ true
+    unfolding interface_of is_kind
+    interface-found a =
+        let m = made kind.InterfaceTypeDefinition (shown text children) refl a in
+        some-map _ _ (name-at text file 1 children h (only-names _ m.way m.one m.fits))
+
+    union-found : IsAllowed kind.UnionTypeDefinition (shown text children) → is_some (union_of text file (plain_tree kind.UnionTypeDefinition start end children)) ≡ true
+    unfolding union_of is_kind
+    union-found a =
+        let m = made kind.UnionTypeDefinition (shown text children) refl a in
+        some-map _ _ (name-at text file 1 children h (only-names _ m.way m.one m.fits))
+
+    enum-found : IsAllowed kind.EnumTypeDefinition (shown text children) → is_some (enum_of text file (plain_tree kind.EnumTypeDefinition start end children)) ≡ true
+    unfolding enum_of is_kind
+    enum-found a =
+        let m = made kind.EnumTypeDefinition (shown text children) refl a in
+        some-map _ _ (name-at text file 1 children h (only-names _ m.way m.one m.fits))
+
+    input_object-found : IsAllowed kind.InputObjectTypeDefinition (shown text children) → is_some (input_object_of text file (plain_tree kind.InputObjectTypeDefinition start end children)) ≡ true
+    unfolding input_object_of is_kind
+    input_object-found a =
+        let m = made kind.InputObjectTypeDefinition (shown text children) refl a in
+        some-map _ _ (name-at text file 1 children h (only-names _ m.way m.one m.fits))
+
+    extends-word : (x word : Text) → nth_text text 1 children ≡ Some x → bytes_eq x word ≡ true → extends text word (plain_tree kind.Extension start end children) ≡ true
+    unfolding extends is_kind
+    extends-word x word e q = ap (λ o. is_word o word) e ∙ q
+
+    schema_extension-found : (x : Text) → nth_text text 1 children ≡ Some x → is_same SchemaWord (word_of x) ≡ true → is_some (schema_extension_of text file (plain_tree kind.Extension start end children)) ≡ true
+    unfolding schema_extension_of
+    schema_extension-found x e q = rw (extends-word x (codes "schema") e (word-schema x q)) refl
+
+    scalar_extension-found : (x : Text) → nth_text text 1 children ≡ Some x → is_same ScalarWord (word_of x) ≡ true → 3 ≤ length (tops (shown text children)) → is_some (scalar_extension_of text file (plain_tree kind.Extension start end children)) ≡ true
+    unfolding scalar_extension_of
+    scalar_extension-found x e q le = rw (extends-word x (codes "scalar") e (word-scalar x q)) (some-map _ _ (name-at text file 2 children h le))
+
+    object_extension-found : (x : Text) → nth_text text 1 children ≡ Some x → is_same TypeWord (word_of x) ≡ true → 3 ≤ length (tops (shown text children)) → is_some (object_extension_of text file (plain_tree kind.Extension start end children)) ≡ true
+    unfolding object_extension_of
+    object_extension-found x e q le = rw (extends-word x (codes "type") e (word-type x q)) (some-map _ _ (name-at text file 2 children h le))
+
+    interface_extension-found : (x : Text) → nth_text text 1 children ≡ Some x → is_same InterfaceWord (word_of x) ≡ true → 3 ≤ length (tops (shown text children)) → is_some (interface_extension_of text file (plain_tree kind.Extension start end children)) ≡ true
+    unfolding interface_extension_of
+    interface_extension-found x e q le = rw (extends-word x (codes "interface") e (word-interface x q)) (some-map _ _ (name-at text file 2 children h le))
+
+    union_extension-found : (x : Text) → nth_text text 1 children ≡ Some x → is_same UnionWord (word_of x) ≡ true → 3 ≤ length (tops (shown text children)) → is_some (union_extension_of text file (plain_tree kind.Extension start end children)) ≡ true
+    unfolding union_extension_of
+    union_extension-found x e q le = rw (extends-word x (codes "union") e (word-union x q)) (some-map _ _ (name-at text file 2 children h le))
+
+    enum_extension-found : (x : Text) → nth_text text 1 children ≡ Some x → is_same EnumWord (word_of x) ≡ true → 3 ≤ length (tops (shown text children)) → is_some (enum_extension_of text file (plain_tree kind.Extension start end children)) ≡ true
+    unfolding enum_extension_of
+    enum_extension-found x e q le = rw (extends-word x (codes "enum") e (word-enum x q)) (some-map _ _ (name-at text file 2 children h le))
+
+    input_object_extension-found : (x : Text) → nth_text text 1 children ≡ Some x → is_same InputWord (word_of x) ≡ true → 3 ≤ length (tops (shown text children)) → is_some (input_object_extension_of text file (plain_tree kind.Extension start end children)) ≡ true
+    unfolding input_object_extension_of
+    input_object_extension-found x e q le = rw (extends-word x (codes "input") e (word-input x q)) (some-map _ _ (name-at text file 2 children h le))
+
+    extension-which : (x : Text) (second : Word) (later : List Word) → nth_text text 1 children ≡ Some x → word_of x ≡ second → 2 + length later ≤ length (tops (shown text children)) → Which second later
+        → is_some (extension_of text file (plain_tree kind.Extension start end children)) ≡ true
+    unfolding extension_of
+    extension-which x second later e s le (of_schema q) =
+        some-left (as_schema_extension (plain_tree kind.Extension start end children)) _ (some-map definition.SchemaExtension (schema_extension_of text file (plain_tree kind.Extension start end children)) (schema_extension-found x e (ap (λ v. is_same SchemaWord v) s ∙ q)))
+    extension-which x second later e s le (of_scalar q n) =
+        some-right (as_schema_extension (plain_tree kind.Extension start end children)) _
+        (some-left (as_scalar_extension (plain_tree kind.Extension start end children)) _ (some-map definition.ScalarTypeExtension (scalar_extension_of text file (plain_tree kind.Extension start end children)) (scalar_extension-found x e (ap (λ v. is_same ScalarWord v) s ∙ q) (omega arith))))
+    extension-which x second later e s le (of_type q n) =
+        some-right (as_schema_extension (plain_tree kind.Extension start end children)) _
+        (some-right (as_scalar_extension (plain_tree kind.Extension start end children)) _
+        (some-left (as_object_extension (plain_tree kind.Extension start end children)) _ (some-map definition.ObjectTypeExtension (object_extension_of text file (plain_tree kind.Extension start end children)) (object_extension-found x e (ap (λ v. is_same TypeWord v) s ∙ q) (omega arith)))))
+    extension-which x second later e s le (of_interface q n) =
+        some-right (as_schema_extension (plain_tree kind.Extension start end children)) _
+        (some-right (as_scalar_extension (plain_tree kind.Extension start end children)) _
+        (some-right (as_object_extension (plain_tree kind.Extension start end children)) _
+        (some-left (as_interface_extension (plain_tree kind.Extension start end children)) _ (some-map definition.InterfaceTypeExtension (interface_extension_of text file (plain_tree kind.Extension start end children)) (interface_extension-found x e (ap (λ v. is_same InterfaceWord v) s ∙ q) (omega arith))))))
+    extension-which x second later e s le (of_union q n) =
+        some-right (as_schema_extension (plain_tree kind.Extension start end children)) _
+        (some-right (as_scalar_extension (plain_tree kind.Extension start end children)) _
+        (some-right (as_object_extension (plain_tree kind.Extension start end children)) _
+        (some-right (as_interface_extension (plain_tree kind.Extension start end children)) _
+        (some-left (as_union_extension (plain_tree kind.Extension start end children)) _ (some-map definition.UnionTypeExtension (union_extension_of text file (plain_tree kind.Extension start end children)) (union_extension-found x e (ap (λ v. is_same UnionWord v) s ∙ q) (omega arith)))))))
+    extension-which x second later e s le (of_enum q n) =
+        some-right (as_schema_extension (plain_tree kind.Extension start end children)) _
+        (some-right (as_scalar_extension (plain_tree kind.Extension start end children)) _
+        (some-right (as_object_extension (plain_tree kind.Extension start end children)) _
+        (some-right (as_interface_extension (plain_tree kind.Extension start end children)) _
+        (some-right (as_union_extension (plain_tree kind.Extension start end children)) _
+        (some-left (as_enum_extension (plain_tree kind.Extension start end children)) _ (some-map definition.EnumTypeExtension (enum_extension_of text file (plain_tree kind.Extension start end children)) (enum_extension-found x e (ap (λ v. is_same EnumWord v) s ∙ q) (omega arith))))))))
+    extension-which x second later e s le (of_input q n) =
+        some-right (as_schema_extension (plain_tree kind.Extension start end children)) _
+        (some-right (as_scalar_extension (plain_tree kind.Extension start end children)) _
+        (some-right (as_object_extension (plain_tree kind.Extension start end children)) _
+        (some-right (as_interface_extension (plain_tree kind.Extension start end children)) _
+        (some-right (as_union_extension (plain_tree kind.Extension start end children)) _
+        (some-right (as_enum_extension (plain_tree kind.Extension start end children)) _
+        (some-map definition.InputObjectTypeExtension (input_object_extension_of text file (plain_tree kind.Extension start end children)) (input_object_extension-found x e (ap (λ v. is_same InputWord v) s ∙ q) (omega arith))))))))
+
+    extension-found : IsAllowed kind.Extension (shown text children) → is_some (extension_of text file (plain_tree kind.Extension start end children)) ≡ true
+    extension-found a =
+        let m = made kind.Extension (shown text children) refl a in
+        let x = extends-way m.way m.one m.fits in
+        let second = second-text (texts text children) x.front x.second x.later (tops-shown text children h ∙ x.are) in
+        let le : 2 + length x.later ≤ length (tops (shown text children)) = subst (λ l. 2 + length x.later ≤ length l) (sym x.are) (omega arith) in
+        extension-which second.0 x.second x.later (nth_text-is text 1 children ∙ second.1) second.2 le x.which
+
+  -- each of these kinds defines something
+  chosen : (k : SyntaxKind) → is_defining k ≡ true → (start end : ℕ) (children : Forest) → IsAllowed k (shown text children) → AllAllowed (shown text children) → AreSpelled text (leaves children)
+      → is_some (choice_of text file (plain_tree k start end children)) ≡ true
+  unfolding choice_of executable_definition_of schema_definition_of type_definition_of
+  chosen kind.OperationDefinition e start end children a below h =
+      some-left (executable_definition_of text file (plain_tree kind.OperationDefinition start end children)) _
+      (some-left (as_operation (plain_tree kind.OperationDefinition start end children)) _
+      (some-map definition.OperationDefinition (operation_of text file (plain_tree kind.OperationDefinition start end children)) (operation-found start end children below h a)))
+  chosen kind.FragmentDefinition e start end children a below h =
+      some-left (executable_definition_of text file (plain_tree kind.FragmentDefinition start end children)) _
+      (some-right (as_operation (plain_tree kind.FragmentDefinition start end children)) _
+      (some-map definition.FragmentDefinition (fragment_of text file (plain_tree kind.FragmentDefinition start end children)) (fragment-found start end children below h a)))
+  chosen kind.DirectiveDefinition e start end children a below h =
+      some-right (executable_definition_of text file (plain_tree kind.DirectiveDefinition start end children)) _
+      (some-left (schema_definition_of text file (plain_tree kind.DirectiveDefinition start end children)) _
+      (some-left (as_directive (plain_tree kind.DirectiveDefinition start end children)) _
+      (some-map definition.DirectiveDefinition (directive_definition_of text file (plain_tree kind.DirectiveDefinition start end children)) (directive-found start end children below h a))))
+  chosen kind.SchemaDefinition e start end children a below h =
+      some-right (executable_definition_of text file (plain_tree kind.SchemaDefinition start end children)) _
+      (some-left (schema_definition_of text file (plain_tree kind.SchemaDefinition start end children)) _
+      (some-right (as_directive (plain_tree kind.SchemaDefinition start end children)) _
+      (some-map definition.SchemaDefinition (schema_of text file (plain_tree kind.SchemaDefinition start end children)) (schema-found start end children below h))))
+  chosen kind.ScalarTypeDefinition e start end children a below h =
+      some-right (executable_definition_of text file (plain_tree kind.ScalarTypeDefinition start end children)) _
+      (some-right (schema_definition_of text file (plain_tree kind.ScalarTypeDefinition start end children)) _
+      (some-left (type_definition_of text file (plain_tree kind.ScalarTypeDefinition start end children)) _
+      (some-left (as_scalar (plain_tree kind.ScalarTypeDefinition start end children)) _
+      (some-map definition.ScalarTypeDefinition (scalar_of text file (plain_tree kind.ScalarTypeDefinition start end children)) (scalar-found start end children below h a)))))
+  chosen kind.ObjectTypeDefinition e start end children a below h =
+      some-right (executable_definition_of text file (plain_tree kind.ObjectTypeDefinition start end children)) _
+      (some-right (schema_definition_of text file (plain_tree kind.ObjectTypeDefinition start end children)) _
+      (some-left (type_definition_of text file (plain_tree kind.ObjectTypeDefinition start end children)) _
+      (some-right (as_scalar (plain_tree kind.ObjectTypeDefinition start end children)) _
+      (some-left (as_object (plain_tree kind.ObjectTypeDefinition start end children)) _
+      (some-map definition.ObjectTypeDefinition (object_of text file (plain_tree kind.ObjectTypeDefinition start end children)) (object-found start end children below h a))))))
+  chosen kind.InterfaceTypeDefinition e start end children a below h =
+      some-right (executable_definition_of text file (plain_tree kind.InterfaceTypeDefinition start end children)) _
+      (some-right (schema_definition_of text file (plain_tree kind.InterfaceTypeDefinition start end children)) _
+      (some-left (type_definition_of text file (plain_tree kind.InterfaceTypeDefinition start end children)) _
+      (some-right (as_scalar (plain_tree kind.InterfaceTypeDefinition start end children)) _
+      (some-right (as_object (plain_tree kind.InterfaceTypeDefinition start end children)) _
+      (some-left (as_interface (plain_tree kind.InterfaceTypeDefinition start end children)) _
+      (some-map definition.InterfaceTypeDefinition (interface_of text file (plain_tree kind.InterfaceTypeDefinition start end children)) (interface-found start end children below h a)))))))
+  chosen kind.UnionTypeDefinition e start end children a below h =
+      some-right (executable_definition_of text file (plain_tree kind.UnionTypeDefinition start end children)) _
+      (some-right (schema_definition_of text file (plain_tree kind.UnionTypeDefinition start end children)) _
+      (some-left (type_definition_of text file (plain_tree kind.UnionTypeDefinition start end children)) _
+      (some-right (as_scalar (plain_tree kind.UnionTypeDefinition start end children)) _
+      (some-right (as_object (plain_tree kind.UnionTypeDefinition start end children)) _
+      (some-right (as_interface (plain_tree kind.UnionTypeDefinition start end children)) _
+      (some-left (as_union (plain_tree kind.UnionTypeDefinition start end children)) _
+      (some-map definition.UnionTypeDefinition (union_of text file (plain_tree kind.UnionTypeDefinition start end children)) (union-found start end children below h a))))))))
+  chosen kind.EnumTypeDefinition e start end children a below h =
+      some-right (executable_definition_of text file (plain_tree kind.EnumTypeDefinition start end children)) _
+      (some-right (schema_definition_of text file (plain_tree kind.EnumTypeDefinition start end children)) _
+      (some-left (type_definition_of text file (plain_tree kind.EnumTypeDefinition start end children)) _
+      (some-right (as_scalar (plain_tree kind.EnumTypeDefinition start end children)) _
+      (some-right (as_object (plain_tree kind.EnumTypeDefinition start end children)) _
+      (some-right (as_interface (plain_tree kind.EnumTypeDefinition start end children)) _
+      (some-right (as_union (plain_tree kind.EnumTypeDefinition start end children)) _
+      (some-left (as_enum (plain_tree kind.EnumTypeDefinition start end children)) _
+      (some-map definition.EnumTypeDefinition (enum_of text file (plain_tree kind.EnumTypeDefinition start end children)) (enum-found start end children below h a)))))))))
+  chosen kind.InputObjectTypeDefinition e start end children a below h =
+      some-right (executable_definition_of text file (plain_tree kind.InputObjectTypeDefinition start end children)) _
+      (some-right (schema_definition_of text file (plain_tree kind.InputObjectTypeDefinition start end children)) _
+      (some-left (type_definition_of text file (plain_tree kind.InputObjectTypeDefinition start end children)) _
+      (some-right (as_scalar (plain_tree kind.InputObjectTypeDefinition start end children)) _
+      (some-right (as_object (plain_tree kind.InputObjectTypeDefinition start end children)) _
+      (some-right (as_interface (plain_tree kind.InputObjectTypeDefinition start end children)) _
+      (some-right (as_union (plain_tree kind.InputObjectTypeDefinition start end children)) _
+      (some-right (as_enum (plain_tree kind.InputObjectTypeDefinition start end children)) _
+      (some-map definition.InputObjectTypeDefinition (input_object_of text file (plain_tree kind.InputObjectTypeDefinition start end children)) (input_object-found start end children below h a)))))))))
+  chosen kind.Extension e start end children a below h =
+      some-right (executable_definition_of text file (plain_tree kind.Extension start end children)) _
+      (some-right (schema_definition_of text file (plain_tree kind.Extension start end children)) _
+      (some-right (type_definition_of text file (plain_tree kind.Extension start end children)) _ (extension-found start end children below h a)))
+  chosen _ e start end children a below h = absurd (cc)
+
+  -- a definition has one of them
+  pub definition-found : (start end : ℕ) (children : Forest) → IsAllowed kind.Definition (shown text children) → AllAllowed (shown text children) → AreSpelled text (leaves children)
+      → is_some (definition_of text file (plain_tree kind.Definition start end children)) ≡ true
+  unfolding definition_of is_kind
+  definition-found start end children a below h =
+      let m = made kind.Definition (shown text children) refl a in
+      let d = definition-way m.way m.one m.fits in
+      let c = child-of text d.k (defining-node d.k d.defining) children below h d.has in
+      first-some (choice_of text file) d.k children c.found c.is
+      (subst (λ k. is_some (choice_of text file (plain_tree k c.found.start c.found.end c.found.children)) ≡ true) (sym c.kind)
+      (chosen d.k d.defining c.found.start c.found.end c.found.children c.allowed c.below c.spelled))
