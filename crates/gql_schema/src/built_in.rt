@@ -6,7 +6,7 @@ ghost use Rattle.gql_schema.specs.BuiltInSchema as spec;
 
 use crate::built_in_text::{BUILT_IN_PATH, BUILT_IN_TEXT};
 use gql_ast::Document;
-use gql_ast_laws::laws::parses_mean_their_text;
+use gql_ast_laws::laws;
 use gql_cst::{Limits, parse_document};
 use gql_schema_build::{BuiltIn, TypeSystem};
 use gql_source::{FileId, SourceFile, SourceMap};
@@ -44,7 +44,7 @@ fn document(alloc: Global, file_id: FileId, path: &str, text: &str) -> Result<Do
     ensures definitions { IfOk result (λ document. IsDocumentOf text.now file_id document.definitions) }
     ensures sources { IfOk result (λ document. document.sources ≡ (file_id, record { path = path.now; source_text = text.now }) ∷ []) }
 {
-    parses_mean_their_text();
+    laws::parses_mean_their_text();
     let limits = Limits {
         recursion: MOST_LEVELS,
         tokens: None,

@@ -14,7 +14,8 @@ abbrev pub first_schema : List SchemaDefinition → Option SchemaDefinition
 first_schema schemas = fold with_schema None schemas
 
 abbrev pub schema_definition_collision : Option SchemaDefinition → SchemaDefinition → List DiagnosticData
-schema_definition_collision first schema = option_map_or (λ (d : SchemaDefinition). fault SchemaDefinitionCollision [] schema.location d.location ∷ []) first []
+schema_definition_collision first schema = option_map_or (λ (d : SchemaDefinition). fault SchemaDefinitionCollision [] schema.location d.location ∷
+    []) first []
 
 -- one for each `schema` that comes after the first
 abbrev pub collisions_after : Option SchemaDefinition → List SchemaDefinition → List DiagnosticData

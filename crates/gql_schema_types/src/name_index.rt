@@ -4,7 +4,8 @@ ghost use Rattle.std.specs.Prelude.{◌≡◌, ◌<◌, ℕ, List, None, [], ◌
 ghost use Rattle.std.specs.Str.{bytes_eq};
 
 use indexmap::IndexSet;
-use std::alloc::{AllocError, Global};
+use jb_text::Memory;
+use std::alloc::Global;
 use std::marker::Model;
 
 /// The texts of names in order, found by hash. Contracts see the list of them.
@@ -39,7 +40,7 @@ impl NameIndex {
     }
 
     /// Adds a name that is not there, last. `Err` only for want of memory, with nothing changed.
-    pub fn push(&mut self, alloc: Global, name: &str) -> Result<(), AllocError>
+    pub fn push(&mut self, alloc: Global, name: &str) -> Result<(), Memory>
         requires { position (bytes_eq name.now) self.old ≡ None }
         ensures pushed { OnOk result (self.new ≡ self.old ++ name.now ∷ []) }
         ensures refused { OnErr result (self.new ≡ self.old) }

@@ -8,7 +8,8 @@ ghost use Rattle.gql_schema_types.specs.Entries.{texts, is_called, entry, put, w
 
 use crate::name_index::NameIndex;
 use crate::named::Named;
-use std::alloc::{AllocError, Global};
+use jb_text::Memory;
+use std::alloc::Global;
 use std::marker::Model;
 use std::mem;
 
@@ -211,7 +212,7 @@ fn note_name<T: Named>(
     index: &mut Option<Box<NameIndex>>,
     entries: &[T],
     name: &str,
-) -> Result<(), AllocError>
+) -> Result<(), Memory>
     requires distinct { IsDistinct bytes_eq (texts T.own entries.now) }
     requires fits { IfSome index.old (λ i. i.value ≡ texts T.own entries.now) }
     requires absent { position (bytes_eq name.now) (texts T.own entries.now) ≡ None }
@@ -231,7 +232,7 @@ fn note_name<T: Named>(
 }
 
 /// The index of these entries.
-fn index_of<T: Named>(alloc: Global, entries: &[T]) -> Result<NameIndex, AllocError>
+fn index_of<T: Named>(alloc: Global, entries: &[T]) -> Result<NameIndex, Memory>
     requires { IsDistinct bytes_eq (texts T.own entries.now) }
     ensures { IfOk result (λ names. names ≡ texts T.own entries.now) }
 {
