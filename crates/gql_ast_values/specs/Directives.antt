@@ -16,7 +16,7 @@ module _ (text : Text) (file : FileId) where
   argument_of tree =
       if is_kind tree.kind kind.Argument then
       option_and_then (λ name. option_map (λ value. record { name = name; value = value; location = location file tree })
-          (first (value_of text file) tree.children))
+      (first (value_of text file) tree.children))
       (nth_name text file 0 tree.children)
       else None
 
