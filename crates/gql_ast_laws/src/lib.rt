@@ -1,8 +1,9 @@
-//! A text has one meaning.
+//! A text has one meaning, and nothing of a sentence is left out of it.
 //!
 //! The grammar leaves open in which node of a concrete tree an ignored token stands, and what a node's own place is. The
 //! functions of [`laws`] do nothing: their contracts are the laws that what a text stands for does not depend on that. So
-//! a text is one document, one list of selections or one reference to a type, whichever of its trees is read.
+//! a text is one document, one list of selections or one reference to a type, whichever of its trees is read. And each
+//! node of a document stands for a definition, so that the list of a document's definitions has them all.
 #![tactic(auto)]
 
 pub mod laws;
