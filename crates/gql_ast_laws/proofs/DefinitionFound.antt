@@ -1,43 +1,37 @@
 -- A definition of a sentence stands for one.
-use Rattle.std.proofs.Common.{◌≡◌, ℕ, ◌+◌, ◌≤◌, arith, Bool, true, false, if◌then◌else◌, List, [], ◌∷◌, ◌++◌, length, is_some, Option, Some, None, refl, sym, ap, ◌∙◌, subst}
-use Rattle.std.specs.Prelude.{map, slice_get, codes, option_and_then}
-use Rattle.std.specs.Str.{bytes_eq}
+use Rattle.std.proofs.Common.{◌≡◌, ℕ, ◌≤◌, arith, Bool, true, false, List, length, is_some, Option, Some, None, refl, sym, ap, ◌∙◌, subst}
+use Rattle.std.specs.Prelude.{option_and_then}
 use Rattle.gql_source.specs.declared.file_id.FileId.{FileId}
 use Rattle.gql_cst_grammar.specs.declared.word.Word.{Word}
-use Rattle.gql_cst_grammar.specs.declared.word.Word.TheVariants.{SchemaWord, ScalarWord, TypeWord, InterfaceWord, UnionWord, EnumWord, InputWord}
 use Rattle.gql_cst_grammar.specs.declared.symbol.Symbol.{Symbol}
 use Rattle.gql_cst_grammar.specs.declared.rule.Rule.TheVariants as rule
 use Rattle.gql_cst_grammar.specs.declared.syntax_kind.SyntaxKind.{SyntaxKind}
 use Rattle.gql_cst_grammar.specs.declared.syntax_kind.SyntaxKind.TheVariants as kind
 use Rattle.gql_cst_grammar.specs.Grammar.{declared}
-use Rattle.gql_cst_grammar.specs.Word.{is_same, is_name as names}
 use Rattle.gql_cst_grammar.specs.Nodes.{IsAllowed, AllAllowed}
-use Rattle.gql_cst_grammar.specs.Row.{Row, leaf}
-use Rattle.gql_cst_grammar.specs.Sentence.{Fits, token, tree, group, IsOneOf, here, there}
+use Rattle.gql_cst_grammar.specs.Row.{Row}
+use Rattle.gql_cst_grammar.specs.Sentence.{Fits, IsOneOf, here, there}
 use Rattle.gql_cst.specs.Forest.{Forest, Plain, nothing, tree_then}
 use Rattle.gql_cst.specs.Leaves.{node, part_of, leaves}
 use Rattle.gql_cst.specs.Sentences.{shown}
-use Rattle.gql_cst.specs.Words.{word_of}
 use Rattle.gql_ast_base.specs.Kinds.{is_kind}
-use Rattle.gql_ast_base.specs.Parts.{Text, or_else, gather, first as first_of, child, inside, is_word, nth_text, nth_name}
+use Rattle.gql_ast_base.specs.Parts.{Text, gather, first as first_of, child, inside, nth_name}
 use Rattle.gql_ast_base.specs.NamedTypes.{named_type_in}
 use Rattle.gql_ast_operations.specs.Operations.{operation_of, fragment_of}
 use Rattle.gql_ast_operations.specs.Selections.{type_condition}
 use Rattle.gql_ast_definitions.specs.Definitions.{scalar_of, object_of, interface_of, union_of, enum_of, input_object_of}
-use Rattle.gql_ast_definitions.specs.Extensions.{extends, schema_extension_of, scalar_extension_of, object_extension_of, interface_extension_of, union_extension_of, enum_extension_of, input_object_extension_of}
 use Rattle.gql_ast_definitions.specs.Schemas.{directive_definition_of, schema_of}
 use Rattle.std.specs.Option.{option_map}
 use Rattle.gql_ast.specs.declared.definition.Definition.{Definition}
 use Rattle.gql_ast.specs.declared.definition.Definition.TheVariants as definition
-use Rattle.gql_ast.specs.Documents.{executable_definition_of, schema_definition_of, type_definition_of, extension_of, choice_of, definition_of}
+use Rattle.gql_ast.specs.Documents.{executable_definition_of, schema_definition_of, type_definition_of, choice_of, definition_of}
 use Rattle.gql_ast_laws.proofs.Blind.{tree as plain_tree}
 use Rattle.gql_ast_laws.proofs.Inner.{both_ways, here as child_here, later as child_later}
-use Rattle.gql_ast_laws.proofs.Named.{nth_text-is}
-use Rattle.gql_ast_laws.proofs.Shown.{AreSpelled, child-of, inside-is, name-at, texts, tops-shown}
-use Rattle.gql_ast_laws.proofs.Tops.{first, next, HasNode, tops, name-taken, has-node}
+use Rattle.gql_ast_laws.proofs.Shown.{AreSpelled, child-of, inside-is, name-at}
+use Rattle.gql_ast_laws.proofs.Tops.{first, next, HasNode, tops, has-node}
 use Rattle.gql_ast_laws.proofs.TypeFound.{some-map, head-first, head-rest}
 use Rattle.gql_ast_laws.proofs.Ways.{made, only-names, only-node}
-use Rattle.gql_ast_laws.proofs.Extended.{word-schema, word-scalar, word-type, word-interface, word-union, word-enum, word-input}
+use Rattle.gql_ast_laws.proofs.ExtensionFound.{some-left, some-right, extension-found}
 
 some-same : {A : Type 0} (x y : A) → Some x ≡ Some y → x ≡ y
 some-same x y h = cc
@@ -45,14 +39,6 @@ some-same x y h = cc
 some-then : {A B : Type 0} (f : A → Option B) (o : Option A) → is_some o ≡ true → ((x : A) → is_some (f x) ≡ true) → is_some (option_and_then f o) ≡ true
 some-then f None h g = h
 some-then f (Some x) h g = g x
-
-some-left : {A : Type 0} (a b : Option A) → is_some a ≡ true → is_some (or_else a b) ≡ true
-some-left None b h = absurd (cc)
-some-left (Some x) b h = refl
-
-some-right : {A : Type 0} (a b : Option A) → is_some b ≡ true → is_some (or_else a b) ≡ true
-some-right None b h = h
-some-right (Some x) b h = refl
 
 -- what is made of the first tree of a kind
 first-some : {T : Type 0} (f : Plain → Option T) (k : SyntaxKind) (row : Forest) (t : Plain) → child k row ≡ Some t → is_some (f t) ≡ true → is_some (first_of f row) ≡ true
@@ -64,58 +50,6 @@ first-some f k (tree_then kind start end children rest) t e h =
     let same : one ≡ t = some-same one t (sym (child_here k kind start end children rest q) ∙ e) in
     head-first (f one) (gather f rest) (ap (λ x. is_some (f x)) same ∙ h))
     (λ q. head-rest (f one) (gather f rest) (first-some f k rest t (sym (child_later k kind start end children rest q) ∙ e) h))
-
--- ---- extensions
-
--- what the second word of an extension is, with the names behind it
-data Which (second : Word) (later : List Word) : Type 0 where
-  of_schema : is_same SchemaWord second ≡ true → Which second later
-  of_scalar : is_same ScalarWord second ≡ true → 1 ≤ length later → Which second later
-  of_type : is_same TypeWord second ≡ true → 1 ≤ length later → Which second later
-  of_interface : is_same InterfaceWord second ≡ true → 1 ≤ length later → Which second later
-  of_union : is_same UnionWord second ≡ true → 1 ≤ length later → Which second later
-  of_enum : is_same EnumWord second ≡ true → 1 ≤ length later → Which second later
-  of_input : is_same InputWord second ≡ true → 1 ≤ length later → Which second later
-
-record Extends (row : Row) : Type 0 where
-  front : Word
-  second : Word
-  later : List Word
-  are : tops row ≡ front ∷ second ∷ later
-  which : Which second later
-
--- two names in front
-two : (w u : Word) (x : Row) → names w ≡ true → names u ≡ true → tops (leaf w (leaf u x)) ≡ w ∷ u ∷ tops x
-two w u x p q = rw (p, q) refl
-
-one-later : (z : Word) (x : Row) → names z ≡ true → 1 ≤ length (tops (leaf z x))
-one-later z x p = rw p (omega arith)
-
-extended : (ss : List Symbol) {ws vs : List Word} {row : Row} (w : Word) → names w ≡ true → (way : List Symbol) → IsOneOf way (declared rule.ExtendedDefinition) → Fits (way ++ ss) ws row vs → Extends (leaf w row)
-extended ss w p _ here (token {row = x} t u e g) = record { front = w; second = u; later = tops x; are = two w u x p (name-taken t u e refl); which = of_schema e }
-extended ss w p _ (there here) (token t u e (token {row = x} s z q g)) =
-    record { front = w; second = u; later = tops (leaf z x); are = two w u (leaf z x) p (name-taken t u e refl); which = of_scalar e (one-later z x (name-taken s z q refl)) }
-extended ss w p _ (there (there here)) (token t u e (token {row = x} s z q g)) =
-    record { front = w; second = u; later = tops (leaf z x); are = two w u (leaf z x) p (name-taken t u e refl); which = of_type e (one-later z x (name-taken s z q refl)) }
-extended ss w p _ (there (there (there here))) (token t u e (token {row = x} s z q g)) =
-    record { front = w; second = u; later = tops (leaf z x); are = two w u (leaf z x) p (name-taken t u e refl); which = of_interface e (one-later z x (name-taken s z q refl)) }
-extended ss w p _ (there (there (there (there here)))) (token t u e (token {row = x} s z q g)) =
-    record { front = w; second = u; later = tops (leaf z x); are = two w u (leaf z x) p (name-taken t u e refl); which = of_union e (one-later z x (name-taken s z q refl)) }
-extended ss w p _ (there (there (there (there (there here))))) (token t u e (token {row = x} s z q g)) =
-    record { front = w; second = u; later = tops (leaf z x); are = two w u (leaf z x) p (name-taken t u e refl); which = of_enum e (one-later z x (name-taken s z q refl)) }
-extended ss w p _ (there (there (there (there (there (there here)))))) (token t u e (token {row = x} s z q g)) =
-    record { front = w; second = u; later = tops (leaf z x); are = two w u (leaf z x) p (name-taken t u e refl); which = of_input e (one-later z x (name-taken s z q refl)) }
-extended ss w p _ (there (there (there (there (there (there (there x))))))) f = elim x [ ]
-
-extends-way : {ws vs : List Word} {row : Row} (way : List Symbol) → IsOneOf way (declared rule.Extension) → Fits way ws row vs → Extends row
-extends-way _ here (token t w e (group {ss = ss} r way m o f)) = extended ss w (name-taken t w e refl) way o f
-extends-way _ here (token t w e (tree r k way m o f g)) = absurd (cc)
-extends-way _ (there x) f = elim x [ ]
-
-second-text : (xs : List Text) (a b : Word) (l : List Word) → map word_of xs ≡ a ∷ b ∷ l → (x : Text) × (slice_get xs 1 ≡ Some x) × (word_of x ≡ b)
-second-text [] a b l e = absurd (cc)
-second-text (x ∷ []) a b l e = absurd (cc)
-second-text (x ∷ y ∷ ys) a b l e = (y, refl, let q : word_of y ≡ b = cc in q)
 
 -- the kinds of nodes that define something
 abbrev pub is_defining : SyntaxKind → Bool
@@ -196,27 +130,6 @@ module _ (text : Text) (file : FileId) where
 
   abbrev as_input_object : Plain → Option Definition
   as_input_object t = option_map definition.InputObjectTypeDefinition (input_object_of text file t)
-
-  abbrev as_schema_extension : Plain → Option Definition
-  as_schema_extension t = option_map definition.SchemaExtension (schema_extension_of text file t)
-
-  abbrev as_scalar_extension : Plain → Option Definition
-  as_scalar_extension t = option_map definition.ScalarTypeExtension (scalar_extension_of text file t)
-
-  abbrev as_object_extension : Plain → Option Definition
-  as_object_extension t = option_map definition.ObjectTypeExtension (object_extension_of text file t)
-
-  abbrev as_interface_extension : Plain → Option Definition
-  as_interface_extension t = option_map definition.InterfaceTypeExtension (interface_extension_of text file t)
-
-  abbrev as_union_extension : Plain → Option Definition
-  as_union_extension t = option_map definition.UnionTypeExtension (union_extension_of text file t)
-
-  abbrev as_enum_extension : Plain → Option Definition
-  as_enum_extension t = option_map definition.EnumTypeExtension (enum_extension_of text file t)
-
-  abbrev as_input_object_extension : Plain → Option Definition
-  as_input_object_extension t = option_map definition.InputObjectTypeExtension (input_object_extension_of text file t)
 
   -- the name of the first named type in a row that has one
   type-named : (f : Forest) → AllAllowed (shown text f) → AreSpelled text (leaves f) → HasNode kind.NamedType (shown text f) → is_some (named_type_in text file f) ≡ true
@@ -309,86 +222,6 @@ module _ (text : Text) (file : FileId) where
         let m = made kind.InputObjectTypeDefinition (shown text children) refl a in
         some-map _ _ (name-at text file 1 children h (only-names _ m.way m.one m.fits))
 
-    extends-word : (x word : Text) → nth_text text 1 children ≡ Some x → bytes_eq x word ≡ true → extends text word (plain_tree kind.Extension start end children) ≡ true
-    unfolding extends is_kind
-    extends-word x word e q = ap (λ o. is_word o word) e ∙ q
-
-    schema_extension-found : (x : Text) → nth_text text 1 children ≡ Some x → is_same SchemaWord (word_of x) ≡ true → is_some (schema_extension_of text file (plain_tree kind.Extension start end children)) ≡ true
-    unfolding schema_extension_of
-    schema_extension-found x e q = rw (extends-word x (codes "schema") e (word-schema x q)) refl
-
-    scalar_extension-found : (x : Text) → nth_text text 1 children ≡ Some x → is_same ScalarWord (word_of x) ≡ true → 3 ≤ length (tops (shown text children)) → is_some (scalar_extension_of text file (plain_tree kind.Extension start end children)) ≡ true
-    unfolding scalar_extension_of
-    scalar_extension-found x e q le = rw (extends-word x (codes "scalar") e (word-scalar x q)) (some-map _ _ (name-at text file 2 children h le))
-
-    object_extension-found : (x : Text) → nth_text text 1 children ≡ Some x → is_same TypeWord (word_of x) ≡ true → 3 ≤ length (tops (shown text children)) → is_some (object_extension_of text file (plain_tree kind.Extension start end children)) ≡ true
-    unfolding object_extension_of
-    object_extension-found x e q le = rw (extends-word x (codes "type") e (word-type x q)) (some-map _ _ (name-at text file 2 children h le))
-
-    interface_extension-found : (x : Text) → nth_text text 1 children ≡ Some x → is_same InterfaceWord (word_of x) ≡ true → 3 ≤ length (tops (shown text children)) → is_some (interface_extension_of text file (plain_tree kind.Extension start end children)) ≡ true
-    unfolding interface_extension_of
-    interface_extension-found x e q le = rw (extends-word x (codes "interface") e (word-interface x q)) (some-map _ _ (name-at text file 2 children h le))
-
-    union_extension-found : (x : Text) → nth_text text 1 children ≡ Some x → is_same UnionWord (word_of x) ≡ true → 3 ≤ length (tops (shown text children)) → is_some (union_extension_of text file (plain_tree kind.Extension start end children)) ≡ true
-    unfolding union_extension_of
-    union_extension-found x e q le = rw (extends-word x (codes "union") e (word-union x q)) (some-map _ _ (name-at text file 2 children h le))
-
-    enum_extension-found : (x : Text) → nth_text text 1 children ≡ Some x → is_same EnumWord (word_of x) ≡ true → 3 ≤ length (tops (shown text children)) → is_some (enum_extension_of text file (plain_tree kind.Extension start end children)) ≡ true
-    unfolding enum_extension_of
-    enum_extension-found x e q le = rw (extends-word x (codes "enum") e (word-enum x q)) (some-map _ _ (name-at text file 2 children h le))
-
-    input_object_extension-found : (x : Text) → nth_text text 1 children ≡ Some x → is_same InputWord (word_of x) ≡ true → 3 ≤ length (tops (shown text children)) → is_some (input_object_extension_of text file (plain_tree kind.Extension start end children)) ≡ true
-    unfolding input_object_extension_of
-    input_object_extension-found x e q le = rw (extends-word x (codes "input") e (word-input x q)) (some-map _ _ (name-at text file 2 children h le))
-
-    extension-which : (x : Text) (second : Word) (later : List Word) → nth_text text 1 children ≡ Some x → word_of x ≡ second → 2 + length later ≤ length (tops (shown text children)) → Which second later
-        → is_some (extension_of text file (plain_tree kind.Extension start end children)) ≡ true
-    unfolding extension_of
-    extension-which x second later e s le (of_schema q) =
-        some-left (as_schema_extension (plain_tree kind.Extension start end children)) _ (some-map definition.SchemaExtension (schema_extension_of text file (plain_tree kind.Extension start end children)) (schema_extension-found x e (ap (λ v. is_same SchemaWord v) s ∙ q)))
-    extension-which x second later e s le (of_scalar q n) =
-        some-right (as_schema_extension (plain_tree kind.Extension start end children)) _
-        (some-left (as_scalar_extension (plain_tree kind.Extension start end children)) _ (some-map definition.ScalarTypeExtension (scalar_extension_of text file (plain_tree kind.Extension start end children)) (scalar_extension-found x e (ap (λ v. is_same ScalarWord v) s ∙ q) (omega arith))))
-    extension-which x second later e s le (of_type q n) =
-        some-right (as_schema_extension (plain_tree kind.Extension start end children)) _
-        (some-right (as_scalar_extension (plain_tree kind.Extension start end children)) _
-        (some-left (as_object_extension (plain_tree kind.Extension start end children)) _ (some-map definition.ObjectTypeExtension (object_extension_of text file (plain_tree kind.Extension start end children)) (object_extension-found x e (ap (λ v. is_same TypeWord v) s ∙ q) (omega arith)))))
-    extension-which x second later e s le (of_interface q n) =
-        some-right (as_schema_extension (plain_tree kind.Extension start end children)) _
-        (some-right (as_scalar_extension (plain_tree kind.Extension start end children)) _
-        (some-right (as_object_extension (plain_tree kind.Extension start end children)) _
-        (some-left (as_interface_extension (plain_tree kind.Extension start end children)) _ (some-map definition.InterfaceTypeExtension (interface_extension_of text file (plain_tree kind.Extension start end children)) (interface_extension-found x e (ap (λ v. is_same InterfaceWord v) s ∙ q) (omega arith))))))
-    extension-which x second later e s le (of_union q n) =
-        some-right (as_schema_extension (plain_tree kind.Extension start end children)) _
-        (some-right (as_scalar_extension (plain_tree kind.Extension start end children)) _
-        (some-right (as_object_extension (plain_tree kind.Extension start end children)) _
-        (some-right (as_interface_extension (plain_tree kind.Extension start end children)) _
-        (some-left (as_union_extension (plain_tree kind.Extension start end children)) _ (some-map definition.UnionTypeExtension (union_extension_of text file (plain_tree kind.Extension start end children)) (union_extension-found x e (ap (λ v. is_same UnionWord v) s ∙ q) (omega arith)))))))
-    extension-which x second later e s le (of_enum q n) =
-        some-right (as_schema_extension (plain_tree kind.Extension start end children)) _
-        (some-right (as_scalar_extension (plain_tree kind.Extension start end children)) _
-        (some-right (as_object_extension (plain_tree kind.Extension start end children)) _
-        (some-right (as_interface_extension (plain_tree kind.Extension start end children)) _
-        (some-right (as_union_extension (plain_tree kind.Extension start end children)) _
-        (some-left (as_enum_extension (plain_tree kind.Extension start end children)) _ (some-map definition.EnumTypeExtension (enum_extension_of text file (plain_tree kind.Extension start end children)) (enum_extension-found x e (ap (λ v. is_same EnumWord v) s ∙ q) (omega arith))))))))
-    extension-which x second later e s le (of_input q n) =
-        some-right (as_schema_extension (plain_tree kind.Extension start end children)) _
-        (some-right (as_scalar_extension (plain_tree kind.Extension start end children)) _
-        (some-right (as_object_extension (plain_tree kind.Extension start end children)) _
-        (some-right (as_interface_extension (plain_tree kind.Extension start end children)) _
-        (some-right (as_union_extension (plain_tree kind.Extension start end children)) _
-        (some-right (as_enum_extension (plain_tree kind.Extension start end children)) _
-        (some-map definition.InputObjectTypeExtension (input_object_extension_of text file (plain_tree kind.Extension start end children)) (input_object_extension-found x e (ap (λ v. is_same InputWord v) s ∙ q) (omega arith))))))))
-
-    extension-found : IsAllowed kind.Extension (shown text children) → is_some (extension_of text file (plain_tree kind.Extension start end children)) ≡ true
-    extension-found a =
-        let m = made kind.Extension (shown text children) refl a in
-        let x = extends-way m.way m.one m.fits in
-        let second = second-text (texts text children) x.front x.second x.later (tops-shown text children h ∙ x.are) in
-        let le : 2 + length x.later ≤ length (tops (shown text children)) = subst (λ l. 2 + length x.later ≤ length l) (sym x.are) (omega arith) in
-        extension-which second.0 x.second x.later (nth_text-is text 1 children ∙ second.1) second.2 le x.which
-
-  -- each of these kinds defines something
   chosen : (k : SyntaxKind) → is_defining k ≡ true → (start end : ℕ) (children : Forest) → IsAllowed k (shown text children) → AllAllowed (shown text children) → AreSpelled text (leaves children)
       → is_some (choice_of text file (plain_tree k start end children)) ≡ true
   unfolding choice_of executable_definition_of schema_definition_of type_definition_of
@@ -463,7 +296,7 @@ module _ (text : Text) (file : FileId) where
   chosen kind.Extension e start end children a below h =
       some-right (executable_definition_of text file (plain_tree kind.Extension start end children)) _
       (some-right (schema_definition_of text file (plain_tree kind.Extension start end children)) _
-      (some-right (type_definition_of text file (plain_tree kind.Extension start end children)) _ (extension-found start end children below h a)))
+      (some-right (type_definition_of text file (plain_tree kind.Extension start end children)) _ (extension-found text file start end children below h a)))
   chosen _ e start end children a below h = absurd (cc)
 
   -- a definition has one of them

@@ -21,5 +21,6 @@ pub mod Spelled
 pub mod Shown
 pub mod TypeFound
 pub mod Extended
+pub mod ExtensionFound
 pub mod DefinitionFound
 pub mod Total

@@ -1,5 +1,5 @@
 -- A tree that refers to a type in a sentence stands for one.
-use Rattle.std.proofs.Common.{◌≡◌, ℕ, ◌+◌, Bool, true, false, if◌then◌else◌, List, ◌++◌, is_some, option_to_list, Option, Some, None, refl, sym, ap, ◌∙◌, subst}
+use Rattle.std.proofs.Common.{◌≡◌, ℕ, Bool, true, false, List, ◌++◌, is_some, option_to_list, Option, Some, None, refl, sym, ap, ◌∙◌, subst}
 use Rattle.std.specs.Option.{option_map}
 use Rattle.gql_source.specs.declared.file_id.FileId.{FileId}
 use Rattle.gql_cst_grammar.specs.declared.word.Word.{Word}
