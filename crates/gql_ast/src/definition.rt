@@ -5,7 +5,7 @@ ghost use Rattle.gql_cst.specs.Forest.{plain, forest};
 ghost use Rattle.gql_ast_base.specs.Parts as parts;
 ghost use Rattle.gql_ast.specs.Documents as spec;
 
-use gql_ast_base::{Convert, Copying, Source, is_of};
+use gql_ast_base::{Convert, Copying, Source, is_of, nth_text};
 use gql_ast_definitions::{
     DirectiveDefinition, EnumTypeDefinition, EnumTypeExtension, InputObjectTypeDefinition,
     InputObjectTypeExtension, InterfaceTypeDefinition, InterfaceTypeExtension,
@@ -91,97 +91,92 @@ impl Copying for Definition {
     }
 }
 
-/// The definition of an operation or a fragment.
-#[tactic(auto, unfolding(crate::specs::Documents::executable_definition_of))]
-fn executable_definition(source: &Source<'_>, tree: &Tree) -> Result<Option<Definition>, Memory>
-    ensures { IfOk result (λ made. made ≡ spec.executable_definition_of source.now.text.now source.now.file_id (plain tree.now)) }
-{
-    if let Some(found) = OperationDefinition::read(source, tree)? {
-        return Ok(Some(Definition::OperationDefinition(found)));
-    }
-    let found = FragmentDefinition::read(source, tree)?;
-    Ok(found.map(Definition::FragmentDefinition))
-}
-
-/// The definition of a schema or a directive.
-#[tactic(auto, unfolding(crate::specs::Documents::schema_definition_of))]
-fn schema_definition(source: &Source<'_>, tree: &Tree) -> Result<Option<Definition>, Memory>
-    ensures { IfOk result (λ made. made ≡ spec.schema_definition_of source.now.text.now source.now.file_id (plain tree.now)) }
-{
-    if let Some(found) = DirectiveDefinition::read(source, tree)? {
-        return Ok(Some(Definition::DirectiveDefinition(found)));
-    }
-    let found = SchemaDefinition::read(source, tree)?;
-    Ok(found.map(Definition::SchemaDefinition))
-}
-
-/// The definition of a type.
-#[tactic(auto, unfolding(crate::specs::Documents::type_definition_of))]
-fn type_definition(source: &Source<'_>, tree: &Tree) -> Result<Option<Definition>, Memory>
-    ensures { IfOk result (λ made. made ≡ spec.type_definition_of source.now.text.now source.now.file_id (plain tree.now)) }
-{
-    if let Some(found) = ScalarTypeDefinition::read(source, tree)? {
-        return Ok(Some(Definition::ScalarTypeDefinition(found)));
-    }
-    if let Some(found) = ObjectTypeDefinition::read(source, tree)? {
-        return Ok(Some(Definition::ObjectTypeDefinition(found)));
-    }
-    if let Some(found) = InterfaceTypeDefinition::read(source, tree)? {
-        return Ok(Some(Definition::InterfaceTypeDefinition(found)));
-    }
-    if let Some(found) = UnionTypeDefinition::read(source, tree)? {
-        return Ok(Some(Definition::UnionTypeDefinition(found)));
-    }
-    if let Some(found) = EnumTypeDefinition::read(source, tree)? {
-        return Ok(Some(Definition::EnumTypeDefinition(found)));
-    }
-    let found = InputObjectTypeDefinition::read(source, tree)?;
-    Ok(found.map(Definition::InputObjectTypeDefinition))
-}
-
-/// The extension of a schema or a type.
-#[tactic(auto, unfolding(crate::specs::Documents::extension_of))]
+/// The extension of what the word behind `extend` says.
 fn extension(source: &Source<'_>, tree: &Tree) -> Result<Option<Definition>, Memory>
     ensures { IfOk result (λ made. made ≡ spec.extension_of source.now.text.now source.now.file_id (plain tree.now)) }
 {
-    if let Some(found) = SchemaExtension::read(source, tree)? {
-        return Ok(Some(Definition::SchemaExtension(found)));
+    match nth_text(tree.children().as_slice(), source.text, 1) {
+        Some("schema") => {
+            let found = SchemaExtension::read(source, tree)?;
+            Ok(found.map(Definition::SchemaExtension))
+        }
+        Some("scalar") => {
+            let found = ScalarTypeExtension::read(source, tree)?;
+            Ok(found.map(Definition::ScalarTypeExtension))
+        }
+        Some("type") => {
+            let found = ObjectTypeExtension::read(source, tree)?;
+            Ok(found.map(Definition::ObjectTypeExtension))
+        }
+        Some("interface") => {
+            let found = InterfaceTypeExtension::read(source, tree)?;
+            Ok(found.map(Definition::InterfaceTypeExtension))
+        }
+        Some("union") => {
+            let found = UnionTypeExtension::read(source, tree)?;
+            Ok(found.map(Definition::UnionTypeExtension))
+        }
+        Some("enum") => {
+            let found = EnumTypeExtension::read(source, tree)?;
+            Ok(found.map(Definition::EnumTypeExtension))
+        }
+        Some("input") => {
+            let found = InputObjectTypeExtension::read(source, tree)?;
+            Ok(found.map(Definition::InputObjectTypeExtension))
+        }
+        Some(_) => Ok(None),
+        None => Ok(None),
     }
-    if let Some(found) = ScalarTypeExtension::read(source, tree)? {
-        return Ok(Some(Definition::ScalarTypeExtension(found)));
-    }
-    if let Some(found) = ObjectTypeExtension::read(source, tree)? {
-        return Ok(Some(Definition::ObjectTypeExtension(found)));
-    }
-    if let Some(found) = InterfaceTypeExtension::read(source, tree)? {
-        return Ok(Some(Definition::InterfaceTypeExtension(found)));
-    }
-    if let Some(found) = UnionTypeExtension::read(source, tree)? {
-        return Ok(Some(Definition::UnionTypeExtension(found)));
-    }
-    if let Some(found) = EnumTypeExtension::read(source, tree)? {
-        return Ok(Some(Definition::EnumTypeExtension(found)));
-    }
-    let found = InputObjectTypeExtension::read(source, tree)?;
-    Ok(found.map(Definition::InputObjectTypeExtension))
 }
 
-/// One way to define something.
-#[tactic(auto, unfolding(crate::specs::Documents::choice_of))]
+/// What the tree defines, by its kind.
 fn choice(source: &Source<'_>, tree: &Tree) -> Result<Option<Definition>, Memory>
     ensures { IfOk result (λ made. made ≡ spec.choice_of source.now.text.now source.now.file_id (plain tree.now)) }
 {
-    if let Some(found) = executable_definition(source, tree)? {
-        return Ok(Some(found));
+    match tree.kind() {
+        SyntaxKind::OperationDefinition => {
+            let found = OperationDefinition::read(source, tree)?;
+            Ok(found.map(Definition::OperationDefinition))
+        }
+        SyntaxKind::FragmentDefinition => {
+            let found = FragmentDefinition::read(source, tree)?;
+            Ok(found.map(Definition::FragmentDefinition))
+        }
+        SyntaxKind::DirectiveDefinition => {
+            let found = DirectiveDefinition::read(source, tree)?;
+            Ok(found.map(Definition::DirectiveDefinition))
+        }
+        SyntaxKind::SchemaDefinition => {
+            let found = SchemaDefinition::read(source, tree)?;
+            Ok(found.map(Definition::SchemaDefinition))
+        }
+        SyntaxKind::ScalarTypeDefinition => {
+            let found = ScalarTypeDefinition::read(source, tree)?;
+            Ok(found.map(Definition::ScalarTypeDefinition))
+        }
+        SyntaxKind::ObjectTypeDefinition => {
+            let found = ObjectTypeDefinition::read(source, tree)?;
+            Ok(found.map(Definition::ObjectTypeDefinition))
+        }
+        SyntaxKind::InterfaceTypeDefinition => {
+            let found = InterfaceTypeDefinition::read(source, tree)?;
+            Ok(found.map(Definition::InterfaceTypeDefinition))
+        }
+        SyntaxKind::UnionTypeDefinition => {
+            let found = UnionTypeDefinition::read(source, tree)?;
+            Ok(found.map(Definition::UnionTypeDefinition))
+        }
+        SyntaxKind::EnumTypeDefinition => {
+            let found = EnumTypeDefinition::read(source, tree)?;
+            Ok(found.map(Definition::EnumTypeDefinition))
+        }
+        SyntaxKind::InputObjectTypeDefinition => {
+            let found = InputObjectTypeDefinition::read(source, tree)?;
+            Ok(found.map(Definition::InputObjectTypeDefinition))
+        }
+        SyntaxKind::Extension => extension(source, tree),
+        _ => Ok(None),
     }
-    if let Some(found) = schema_definition(source, tree)? {
-        return Ok(Some(found));
-    }
-    if let Some(found) = type_definition(source, tree)? {
-        return Ok(Some(found));
-    }
-    let found = extension(source, tree)?;
-    Ok(found)
 }
 
 /// What the first of the trees that defines something defines.

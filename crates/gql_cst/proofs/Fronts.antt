@@ -12,7 +12,7 @@ use Rattle.gql_cst_grammar.specs.declared.symbol.Symbol.TheVariants.{Token, One,
 use Rattle.gql_cst_grammar.specs.declared.syntax_kind.SyntaxKind.{SyntaxKind}
 use Rattle.gql_cst_grammar.specs.Ends.{Ends, end, symbol, close, closes}
 use Rattle.gql_cst_grammar.specs.Factored.{factored}
-use Rattle.gql_cst_grammar.specs.Reads.{Reads, IsOneOf, here, there, done, token, tree, group, skip, take as take_rule, stop, again, leave, enter, wrap, Sentence}
+use Rattle.gql_cst_grammar.specs.Reads.{Reads, IsOneOf, here, there, done, token, tree, group, skip, take as take_rule, stop, again, leave, enter, wrap}
 use Rattle.gql_cst_grammar.specs.Row as row
 use Rattle.gql_cst_grammar.specs.Row.{Row, joined, with_leaf, with_node, level}
 use Rattle.gql_cst_grammar.proofs.Turns.{Sentence-ends}

@@ -1,5 +1,6 @@
 pub mod Ways
 pub mod Rows
+pub mod Laid
 pub mod Shown
 pub mod Levels
 pub mod Sounds

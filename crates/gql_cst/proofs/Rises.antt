@@ -1,5 +1,5 @@
 -- A word that is taken stands in at most one level more than the words before, and the greatest level says which.
-use Rattle.std.proofs.Common.{◌≡◌, ◌⊎◌, inl, inr, ℕ, ◌+◌, ◌≤◌, max, Bool, true, false, ◌&&◌, ◌||◌, List, [], ◌∷◌, ◌++◌, Option, Some, None, refl, ◌∙◌, sym, ap, subst, arith}
+use Rattle.std.proofs.Common.{◌≡◌, ◌⊎◌, inl, inr, ℕ, ◌+◌, ◌≤◌, max, Bool, true, false, ◌&&◌, ◌||◌, List, [], ◌∷◌, ◌++◌, Option, Some, None, refl, sym, subst, arith}
 use Rattle.std.specs.Prelude.{◌==◌, if◌then◌else◌}
 use Rattle.std.proofs.lemmas.Bool.{eqb-true}
 use Rattle.gql_cst_grammar.specs.declared.word.Word.{Word}
@@ -15,8 +15,8 @@ use Rattle.gql_cst_grammar.specs.Starts.{starts, begins, chosen, way}
 use Rattle.gql_cst_grammar.specs.Stands.{way_at}
 use Rattle.gql_cst_grammar.specs.Word.{takes}
 use Rattle.gql_cst.specs.Forest.{Plain}
-use Rattle.gql_cst.specs.Machine.{State, Turned, again, taken, refused, finished, entered, opened, pushed, closed_in, enter, turned_at, Settles, takes_it, refuses_it, finishes, later, Begins, Judges}
-use Rattle.gql_cst.specs.Sound.{depth, IsSound}
+use Rattle.gql_cst.specs.Machine.{State, Turned, again, taken, refused, finished, entered, pushed, closed_in, enter, turned_at, Settles, takes_it, refuses_it, finishes, later, Begins, Judges}
+use Rattle.gql_cst.specs.Sound.{IsSound}
 use Rattle.gql_cst.proofs.Rows.{nesting_of-ended}
 use Rattle.gql_cst.proofs.Ways.{both}
 

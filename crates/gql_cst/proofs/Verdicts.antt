@@ -1,6 +1,6 @@
 -- What each turn tells of the sentences that go on with the next word.
 use Rattle.std.proofs.Common.{◌≡◌, ℕ, Bool, true, false, List, [], ◌∷◌, ◌++◌, map, Option, Some, None, is_some, refl, ◌∙◌, sym, ap, subst}
-use Rattle.std.specs.Prelude.{if◌then◌else◌, slice_range}
+use Rattle.std.specs.Prelude.{if◌then◌else◌}
 use Rattle.std.specs.List.{list_all}
 use Rattle.gql_cst_grammar.specs.declared.word.Word.{Word}
 use Rattle.gql_cst_grammar.specs.declared.rule.Rule.{Rule}
@@ -17,11 +17,10 @@ use Rattle.gql_cst_grammar.specs.Starts.{way}
 use Rattle.gql_cst_grammar.specs.Stands.{way_at, BetweenIn, StandsIn}
 use Rattle.gql_cst_grammar.proofs.Rooted.{none_sentence, first_refused, first_stands, look_in, taken_in, past_optional_in, past_repeated_in, past_eager_in, past_wrap_in, past_close_in, close_has_row_in, enter_tree_in, enter_group_in, into_optional_in, into_repeated_in, into_eager_in, ended_token_in, ended_rule_in, refused_token_in, refused_rule_in, refused_rest_in}
 use Rattle.gql_cst.specs.Forest.{Plain}
-use Rattle.gql_cst.specs.Leaves.{Part, word, ignored, node, part_of}
+use Rattle.gql_cst.specs.Leaves.{part_of}
 use Rattle.gql_cst.specs.Machine.{State, Turned, again, taken, refused, finished, node_of, pushed, closed_in, enter, turned_at, Settles, takes_it, refuses_it, finishes, later, Begins, Judges}
-use Rattle.gql_cst.specs.Sentences.{row_then, shown, shown_of, root_kind, kind_or, empty, Stood}
+use Rattle.gql_cst.specs.Sentences.{shown_of, root_kind, kind_or, empty, Stood}
 use Rattle.gql_cst.specs.Sound.{is_node, makes_node, IsSound}
-use Rattle.gql_cst.specs.Words.{word_of}
 use Rattle.gql_cst.proofs.Shown.{shown_of-append, shown_of-node}
 use Rattle.gql_cst.proofs.Ways.{both}
 use Rattle.gql_cst.proofs.Sounds.{made, state_of, turn_keeps, pushed_keeps, along, way_at_loose, AllLoose}

@@ -1,29 +1,18 @@
 -- The ways to write rules close no node, and make nothing but nodes.
 use Rattle.std.proofs.Common.{◌≡◌, Bool, true, false, ◌&&◌, List, [], ◌∷◌, Option, Some, None, refl}
-use Rattle.std.specs.Prelude.{◌==◌, if◌then◌else◌}
+use Rattle.std.specs.Prelude.{if◌then◌else◌}
 use Rattle.std.specs.List.{list_all}
 use Rattle.gql_cst_grammar.specs.declared.word.Word.{Word}
 use Rattle.gql_cst_grammar.specs.declared.rule.Rule.{Rule}
 use Rattle.gql_cst_grammar.specs.declared.rule.Rule.TheVariants.{Document}
 use Rattle.gql_cst_grammar.specs.declared.symbol.Symbol.{Symbol}
-use Rattle.gql_cst_grammar.specs.declared.symbol.Symbol.TheVariants.{Token, One, Optional, Repeated, Eager, Wrap, Close}
 use Rattle.gql_cst_grammar.specs.declared.syntax_kind.SyntaxKind.{SyntaxKind}
 use Rattle.gql_cst_grammar.specs.Factored.{factored}
 use Rattle.gql_cst_grammar.specs.Starts.{begins, starts, chosen, way}
 use Rattle.gql_cst_grammar.specs.Rule.{kind_of}
-use Rattle.gql_cst_grammar.specs.Row.{level}
 use Rattle.gql_cst.specs.Leaves.{part_of}
+use Rattle.gql_cst.specs.Laid.{is_loose}
 use Rattle.gql_cst.specs.Sound.{is_node}
-
--- no node ends there, and what is wrapped is a node that opens no level
-abbrev pub is_loose : Symbol → Bool
-is_loose (Close kind) = false
-is_loose (Wrap kind) = is_node (part_of kind) && level kind == 0
-is_loose (Token terminal) = true
-is_loose (One rule) = true
-is_loose (Optional rule) = true
-is_loose (Eager rule) = true
-is_loose (Repeated rule) = true
 
 ways_loose : (r : Rule) → list_all (list_all is_loose) (factored r) ≡ true
 ways_loose Document = refl

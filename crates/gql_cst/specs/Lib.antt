@@ -6,6 +6,7 @@ pub use Rattle.gql_cst_lexer.specs.Message
 pub use Rattle.gql_cst_lexer.specs.Reading
 pub use Rattle.gql_cst_lexer.specs.Value
 pub mod Forest
+pub mod Laid
 pub mod Held
 pub mod Machine
 pub mod Words

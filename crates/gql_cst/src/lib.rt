@@ -19,6 +19,7 @@
 #![tactic(auto)]
 
 mod count;
+mod frame;
 mod limits;
 mod machine;
 mod parse;

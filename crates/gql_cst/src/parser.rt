@@ -196,13 +196,13 @@ impl<'a> Parser<'a> {
             text: _,
             limits: _,
             start: _,
-            mut machine,
+            machine,
             begun: _,
-            mut ignored,
+            ignored,
             tokens,
         } = self;
         let recursion_reached = machine.deepest();
-        let tree = machine.root(kind, &mut ignored)?;
+        let tree = machine.root(kind, ignored)?;
         Ok(Parsed {
             tree,
             error,

@@ -17,3 +17,4 @@ pub mod Leaves
 pub mod Unique
 pub mod Rooted
 pub mod Allowed
+pub mod Spelled

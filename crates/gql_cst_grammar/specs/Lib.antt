@@ -1,6 +1,7 @@
 -- Words, rules, the grammar as the standard writes it, trees, and sentences.
 pub mod Word
 pub mod Spelling
+pub mod Lengths
 pub mod Rule
 pub mod Grammar
 pub mod Factored

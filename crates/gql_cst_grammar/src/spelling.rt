@@ -1,6 +1,7 @@
 //! The words that tokens are.
 
 ghost use Rattle.std.specs.Prelude.{◌≡◌};
+ghost use Rattle.gql_cst_grammar.specs.Lengths as by_length;
 ghost use Rattle.gql_cst_grammar.specs.Spelling as spec;
 
 use crate::Word;
@@ -28,78 +29,130 @@ impl Word {
         }
     }
 
-    /// The word of a name.
+    /// The word of a name. It is looked for among those of the name's length alone.
     pub fn of_name(name: &str) -> Word
         ensures { result ≡ spec.word_of_name name.now }
     {
-        if is_executable_location(name) || is_type_system_location(name) {
-            Word::LocationWord
-        } else if name == "query" || name == "mutation" || name == "subscription" {
-            Word::OperationWord
-        } else if name == "true" || name == "false" {
-            Word::BooleanWord
-        } else {
-            keyword(name)
+        match name.len() {
+            2 => word_of_two(name),
+            4 => word_of_four(name),
+            5 => word_of_five(name),
+            6 => word_of_six(name),
+            8 => word_of_eight(name),
+            9 => word_of_nine(name),
+            10 => word_of_ten(name),
+            0 | 1 | 3 | 7 | 11 => Word::OtherName,
+            _ => word_of_long(name),
         }
     }
 }
 
-/// The word of a name that is a keyword, and of any other name.
-fn keyword(name: &str) -> Word
-    ensures { result ≡ spec.keyword name.now }
+/// The word of a name of two bytes.
+fn word_of_two(name: &str) -> Word
+    ensures { result ≡ by_length.word_of_two name.now }
 {
     match name {
-        "fragment" => Word::FragmentWord,
         "on" => Word::OnWord,
+        _ => Word::OtherName,
+    }
+}
+
+/// The word of a name of four bytes.
+fn word_of_four(name: &str) -> Word
+    ensures { result ≡ by_length.word_of_four name.now }
+{
+    match name {
+        "ENUM" => Word::LocationWord,
+        "true" => Word::BooleanWord,
         "null" => Word::NullWord,
+        "type" => Word::TypeWord,
+        "enum" => Word::EnumWord,
+        _ => Word::OtherName,
+    }
+}
+
+/// The word of a name of five bytes.
+fn word_of_five(name: &str) -> Word
+    ensures { result ≡ by_length.word_of_five name.now }
+{
+    match name {
+        "QUERY" => Word::LocationWord,
+        "FIELD" => Word::LocationWord,
+        "UNION" => Word::LocationWord,
+        "query" => Word::OperationWord,
+        "false" => Word::BooleanWord,
+        "union" => Word::UnionWord,
+        "input" => Word::InputWord,
+        _ => Word::OtherName,
+    }
+}
+
+/// The word of a name of six bytes.
+fn word_of_six(name: &str) -> Word
+    ensures { result ≡ by_length.word_of_six name.now }
+{
+    match name {
+        "SCHEMA" => Word::LocationWord,
+        "SCALAR" => Word::LocationWord,
+        "OBJECT" => Word::LocationWord,
         "schema" => Word::SchemaWord,
         "scalar" => Word::ScalarWord,
-        "type" => Word::TypeWord,
-        "interface" => Word::InterfaceWord,
-        "implements" => Word::ImplementsWord,
-        "union" => Word::UnionWord,
-        "enum" => Word::EnumWord,
-        "input" => Word::InputWord,
-        "directive" => Word::DirectiveWord,
-        "repeatable" => Word::RepeatableWord,
         "extend" => Word::ExtendWord,
         _ => Word::OtherName,
     }
 }
 
-/// Whether the name is an ExecutableDirectiveLocation.
-fn is_executable_location(name: &str) -> bool
-    ensures { result ≡ spec.is_executable_location name.now }
+/// The word of a name of eight bytes.
+fn word_of_eight(name: &str) -> Word
+    ensures { result ≡ by_length.word_of_eight name.now }
 {
-    matches!(
-        name,
-        "QUERY"
-            | "MUTATION"
-            | "SUBSCRIPTION"
-            | "FIELD"
-            | "FRAGMENT_DEFINITION"
-            | "FRAGMENT_SPREAD"
-            | "INLINE_FRAGMENT"
-            | "VARIABLE_DEFINITION"
-    )
+    match name {
+        "MUTATION" => Word::LocationWord,
+        "mutation" => Word::OperationWord,
+        "fragment" => Word::FragmentWord,
+        _ => Word::OtherName,
+    }
 }
 
-/// Whether the name is a TypeSystemDirectiveLocation.
-fn is_type_system_location(name: &str) -> bool
-    ensures { result ≡ spec.is_type_system_location name.now }
+/// The word of a name of nine bytes.
+fn word_of_nine(name: &str) -> Word
+    ensures { result ≡ by_length.word_of_nine name.now }
 {
-    matches!(
-        name,
-        "SCHEMA"
-            | "SCALAR"
-            | "OBJECT"
-            | "FIELD_DEFINITION"
-            | "ARGUMENT_DEFINITION"
-            | "INTERFACE"
-            | "UNION"
-            | "ENUM"
-            | "ENUM_VALUE"
-            | "INPUT_OBJECT"
-            | "INPUT_FIELD_DEFINITION"
-    )
+    match name {
+        "INTERFACE" => Word::LocationWord,
+        "interface" => Word::InterfaceWord,
+        "directive" => Word::DirectiveWord,
+        _ => Word::OtherName,
+    }
+}
+
+/// The word of a name of ten bytes.
+fn word_of_ten(name: &str) -> Word
+    ensures { result ≡ by_length.word_of_ten name.now }
+{
+    match name {
+        "ENUM_VALUE" => Word::LocationWord,
+        "implements" => Word::ImplementsWord,
+        "repeatable" => Word::RepeatableWord,
+        _ => Word::OtherName,
+    }
+}
+
+/// The word of a name of twelve bytes or more.
+fn word_of_long(name: &str) -> Word
+    ensures { result ≡ by_length.word_of_long name.now }
+{
+    match name {
+        "SUBSCRIPTION" => Word::LocationWord,
+        "FRAGMENT_DEFINITION" => Word::LocationWord,
+        "FRAGMENT_SPREAD" => Word::LocationWord,
+        "INLINE_FRAGMENT" => Word::LocationWord,
+        "VARIABLE_DEFINITION" => Word::LocationWord,
+        "FIELD_DEFINITION" => Word::LocationWord,
+        "ARGUMENT_DEFINITION" => Word::LocationWord,
+        "INPUT_OBJECT" => Word::LocationWord,
+        "INPUT_FIELD_DEFINITION" => Word::LocationWord,
+        "subscription" => Word::OperationWord,
+        _ => Word::OtherName,
+    }
 }
