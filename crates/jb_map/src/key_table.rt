@@ -1,5 +1,5 @@
-//! The table of the hashes of a map's keys.
-ghost use Rattle.std.specs.Prelude.{◌≡◌, ◌<◌, ℕ, List, None, [], ◌∷◌, ◌++◌, OnOk, OnErr, length, position, swap_remove, swap, take, slice_index_or, true, false};
+//! A table of keys, found by hash.
+ghost use Rattle.std.specs.Prelude.{◌≡◌, ◌<◌, ℕ, List, None, [], ◌∷◌, ◌++◌, OnOk, OnErr, length, position, remove, swap_remove, swap, take, slice_index_or, true, false};
 ghost use Rattle.std.specs.Str.{bytes_eq};
 ghost use Rattle.std.specs.List.{IsDistinct, list_any};
 ghost use Rattle.jb_map.specs.Covers.{Covers};
@@ -9,7 +9,10 @@ use jb_text::{ByteString, Memory};
 use std::alloc::Global;
 use std::marker::Model;
 
-/// The texts of a map's keys in the map's order, found by hash. Contracts see the list of the texts.
+/// The texts of keys in order, found by hash. Contracts see the list of the texts.
+///
+/// A map of many members and a table of many names keep one beside their entries. Finding, adding and taking the last
+/// key into a gap are expected to take constant time; [`KeyTable::remove`] goes through the keys behind the gap.
 #[derive(Drop)]
 pub struct KeyTable {
     texts: IndexSet<String>,
@@ -25,6 +28,7 @@ impl Model for KeyTable {
 
 impl KeyTable {
     /// A table without keys. It allocates nothing until the first `push`.
+    #[must_use]
     pub fn new(alloc: Global) -> KeyTable
         ensures { result ≡ [] }
     {
@@ -33,7 +37,8 @@ impl KeyTable {
         }
     }
 
-    /// The place of `key`.
+    /// The place of `key`; `None` exactly where it is not there. It takes no memory.
+    #[must_use]
     #[inline(always)]
     pub fn find(&self, key: &str) -> Option<usize>
         ensures { result ≡ position (bytes_eq key.now) self.now }
@@ -52,8 +57,16 @@ impl KeyTable {
         Ok(())
     }
 
+    /// Takes the key at `index` out; the later ones close up. It takes no memory.
+    pub fn remove(&mut self, index: usize)
+        requires { index < length self.old }
+        ensures { self.new ≡ remove self.old index }
+    {
+        let _key = self.texts.shift_remove_index(index);
+    }
+
     /// Takes the key at `index` out. The last key moves into the gap.
-    pub fn swap_remove(&mut self, index: usize)
+    pub(crate) fn swap_remove(&mut self, index: usize)
         requires { index < length self.old }
         ensures { (d : List ℕ) → self.new ≡ swap_remove self.old index d }
     {
@@ -61,7 +74,7 @@ impl KeyTable {
     }
 
     /// Brings the keys into the order of these texts, and takes out those that are not among them. It takes no memory.
-    pub fn align(&mut self, texts: &[ByteString])
+    pub(crate) fn align(&mut self, texts: &[ByteString])
         requires distinct { IsDistinct bytes_eq texts.now }
         requires covered { Covers self.old texts.now }
         ensures { self.new ≡ texts.now }

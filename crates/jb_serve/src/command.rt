@@ -3,7 +3,7 @@
 ghost use Rattle.std.specs.Prelude.{◌≡◌, IfOk};
 ghost use Rattle.jb_serve.specs.Reply.{line as line_of, text_of};
 
-use bytes::Bytes;
+use bytes::{Bytes, BytesMut};
 use jb_tree::Memory;
 use std::alloc::Global;
 
@@ -17,14 +17,16 @@ pub enum Reply {
 }
 
 impl Reply {
-    /// The text with one LF, as it is written.
-    pub(crate) fn line(&self, alloc: Global) -> Result<Vec<u8>, Memory>
-        ensures { IfOk result (λ line. line.items ≡ line_of (text_of self.now)) }
+    /// The text with one LF, as it is written. The LF goes into the text's own buffer, where nothing else shares that.
+    pub(crate) fn into_line(self, alloc: Global) -> Result<BytesMut, Memory>
+        ensures { IfOk result (λ line. line.items ≡ line_of (text_of self)) }
     {
         let (Reply::Answer(text) | Reply::Refusal(text)) = self;
-        let mut line = Vec::with_capacity(alloc, text.len().saturating_add(1))?;
-        line.extend_from_slice(text.as_slice())?;
-        line.push(b'\n')?;
+        let mut line = match text.try_into_mut() {
+            Ok(own) => own,
+            Err(shared) => BytesMut::copy_from_slice(alloc, shared.as_slice())?,
+        };
+        line.extend_from_slice(b"\n")?;
         Ok(line)
     }
 }

@@ -1,11 +1,8 @@
 //! The run of a program: its words, its input, its reply.
 
-ghost use Rattle.std.specs.Prelude.{◌≡◌, ◌≢◌, ◌≤◌, ◌⊎◌, None, IfSome, IsSomeAnd};
-ghost use Rattle.jb_io.specs.Sink.{Takes, TakesFront};
-ghost use Rattle.jb_io.specs.Source.{GivesAtMost, GivesMore};
-ghost use Rattle.jb_io.specs.Stream.{HasFailed};
-ghost use Rattle.jb_serve.specs.Reply.{line as line_of, status_of};
-ghost use Rattle.jb_serve.specs.Run.{BreaksOff, Serves};
+ghost use Rattle.std.specs.Prelude.{◌≡◌, ℕ, List, Some};
+ghost use Rattle.jb_serve.specs.Reply.{status_of};
+ghost use Rattle.jb_serve.specs.Run.{IsServed};
 
 use crate::command::{Command, Reply};
 use jb_io::{InputFault, Sink, SinkFault, Source, read_to_end, write_all};
@@ -45,29 +42,8 @@ pub fn serve<C: Command + Copy, S: Source, K: Sink>(
     source: &mut S,
     sink: &mut K,
 ) -> u8
-    ensures statuses { result ≤ TOO_LONG }
-
-    // The words.
-    ensures misused { result ≡ MISUSED → (asked ≡ None) × Takes (K.taken sink.old) (K.taken sink.new) usage.now }
-    ensures unasked { asked ≡ None → (result ≡ MISUSED)
-        ⊎ ((result ≡ SINK_FAILED) × TakesFront (K.taken sink.old) (K.taken sink.new) usage.now) }
-    ensures unread { asked ≡ None → source.new ≡ source.old }
-
-    // The output.
-    ensures answered { result ≡ ANSWERED → IsSomeAnd asked (λ command. Serves (C.answers command)
-        (S.left source.old) (S.left source.new) (K.taken sink.old) (K.taken sink.new)) }
-    ensures refused { result ≡ REFUSED → IsSomeAnd asked (λ command. Serves (C.refuses command)
-        (S.left source.old) (S.left source.new) (K.taken sink.old) (K.taken sink.new)) }
-    ensures nothing_written { (result ≡ NO_MEMORY) ⊎ ((result ≡ SOURCE_FAILED) ⊎ (result ≡ TOO_LONG))
-        → sink.new ≡ sink.old }
-
-    // The causes.
-    ensures source_failed { result ≡ SOURCE_FAILED → HasFailed (S.faults source.old) (S.faults source.new) }
-    ensures too_long { result ≡ TOO_LONG → GivesMore (S.left source.old) (S.left source.new) }
-    ensures within { result ≢ TOO_LONG → IfSome asked (λ _. GivesAtMost (S.left source.old) (S.left source.new)) }
-    ensures sink_failed { result ≡ SINK_FAILED → HasFailed (K.faults sink.old) (K.faults sink.new) }
-    ensures broken_off { result ≡ SINK_FAILED → IfSome asked (λ command. BreaksOff (C.answers command) (C.refuses command)
-        (S.left source.old) (S.left source.new) (K.taken sink.old) (K.taken sink.new)) }
+    ensures { IsServed C.answers C.refuses S.left S.faults K.taken K.faults asked usage.now
+        source.old source.new sink.old sink.new result }
 {
     match asked {
         Some(command) => serve_command(alloc, &command, source, sink),
@@ -78,27 +54,15 @@ pub fn serve<C: Command + Copy, S: Source, K: Sink>(
     }
 }
 
-// The run where the words ask for `command`.
+// The run where the words ask for `command`. No usage is written.
 fn serve_command<C: Command, S: Source, K: Sink>(
     alloc: Global,
     command: &C,
     source: &mut S,
     sink: &mut K,
 ) -> u8
-    ensures statuses { result ≤ TOO_LONG }
-    ensures used { result ≢ MISUSED }
-    ensures answered { result ≡ ANSWERED → Serves (C.answers command.now)
-        (S.left source.old) (S.left source.new) (K.taken sink.old) (K.taken sink.new) }
-    ensures refused { result ≡ REFUSED → Serves (C.refuses command.now)
-        (S.left source.old) (S.left source.new) (K.taken sink.old) (K.taken sink.new) }
-    ensures nothing_written { (result ≡ NO_MEMORY) ⊎ ((result ≡ SOURCE_FAILED) ⊎ (result ≡ TOO_LONG))
-        → sink.new ≡ sink.old }
-    ensures source_failed { result ≡ SOURCE_FAILED → HasFailed (S.faults source.old) (S.faults source.new) }
-    ensures too_long { result ≡ TOO_LONG → GivesMore (S.left source.old) (S.left source.new) }
-    ensures within { result ≢ TOO_LONG → GivesAtMost (S.left source.old) (S.left source.new) }
-    ensures sink_failed { result ≡ SINK_FAILED → HasFailed (K.faults sink.old) (K.faults sink.new) }
-    ensures broken_off { result ≡ SINK_FAILED → BreaksOff (C.answers command.now) (C.refuses command.now)
-        (S.left source.old) (S.left source.new) (K.taken sink.old) (K.taken sink.new) }
+    ensures { (usage : List ℕ) → IsServed C.answers C.refuses S.left S.faults K.taken K.faults (Some command.now) usage
+        source.old source.new sink.old sink.new result }
 {
     let bytes = match read_to_end(alloc, source) {
         Ok(bytes) => bytes,
@@ -109,11 +73,12 @@ fn serve_command<C: Command, S: Source, K: Sink>(
     let Ok(reply) = command.reply(alloc, &bytes) else {
         return NO_MEMORY;
     };
-    let Ok(line) = reply.line(alloc) else {
+    let status = status_of(&reply);
+    let Ok(line) = reply.into_line(alloc) else {
         return NO_MEMORY;
     };
     match write_all(sink, line.as_slice()) {
-        Ok(()) => status_of(&reply),
+        Ok(()) => status,
         Err(SinkFault) => SINK_FAILED,
     }
 }
