@@ -1,90 +1,15 @@
--- The type of a definition, and the faults in it: of each name the first part stays, and the others are faults.
-use Rattle.std.specs.Prelude.{List, [], ◌++◌}
-use Rattle.gql_ast_definitions.specs.declared.type_definition.ScalarTypeDefinition.{ScalarTypeDefinition}
-use Rattle.gql_ast_definitions.specs.declared.type_definition.ObjectTypeDefinition.{ObjectTypeDefinition}
-use Rattle.gql_ast_definitions.specs.declared.type_definition.InterfaceTypeDefinition.{InterfaceTypeDefinition}
-use Rattle.gql_ast_definitions.specs.declared.type_definition.UnionTypeDefinition.{UnionTypeDefinition}
-use Rattle.gql_ast_definitions.specs.declared.type_definition.EnumTypeDefinition.{EnumTypeDefinition}
-use Rattle.gql_ast_definitions.specs.declared.type_definition.InputObjectTypeDefinition.{InputObjectTypeDefinition}
+-- The type of a definition, and the faults in it.
+use Rattle.std.specs.Prelude.{List, []}
 use Rattle.gql_diag_messages.specs.declared.diagnostic_data.DiagnosticData.{DiagnosticData}
-use Rattle.gql_schema_types.specs.Entries.{joined}
-use Rattle.gql_schema_types.specs.declared.types.ScalarType.{ScalarType}
-use Rattle.gql_schema_types.specs.declared.types.ObjectType.{ObjectType}
-use Rattle.gql_schema_types.specs.declared.types.InterfaceType.{InterfaceType}
-use Rattle.gql_schema_types.specs.declared.types.UnionType.{UnionType}
-use Rattle.gql_schema_types.specs.declared.types.EnumType.{EnumType}
-use Rattle.gql_schema_types.specs.declared.types.InputObjectType.{InputObjectType}
 use Rattle.gql_schema_types.specs.declared.types.ExtendedType.{ExtendedType}
 use Rattle.gql_schema_types.specs.declared.types.ExtendedType.TheVariants as type
-use Rattle.gql_schema_build.specs.DuplicateImplementsInterfaceInObject.{duplicate_interfaces_in_object}
-use Rattle.gql_schema_build.specs.DuplicateImplementsInterfaceInInterface.{duplicate_interfaces_in_interface}
-use Rattle.gql_schema_build.specs.EnumValueNameCollision.{enum_value_name_collisions}
-use Rattle.gql_schema_build.specs.Faults.{names_once}
-use Rattle.gql_schema_build.specs.InputFieldNameCollision.{input_field_name_collisions}
-use Rattle.gql_schema_build.specs.InterfaceFieldNameCollision.{interface_field_name_collisions}
-use Rattle.gql_schema_build.specs.ObjectFieldNameCollision.{object_field_name_collisions}
-use Rattle.gql_schema_build.specs.PartNames.{field_name, input_name, value_name}
-use Rattle.gql_schema_build.specs.UnionMemberNameCollision.{union_member_name_collisions}
-use Rattle.gql_schema_build.specs.declared.type_definition.TypeDefinition.{TypeDefinition}
-use Rattle.gql_schema_build.specs.declared.type_definition.TypeDefinition.TheVariants as definition
-
-abbrev pub scalar_type : ScalarTypeDefinition → ScalarType
-scalar_type d = record { description = d.description; name = d.name; directives = d.directives; location = d.location }
-
-abbrev pub object_type : ObjectTypeDefinition → ObjectType
-object_type d = record {
-  description = d.description;
-  name = d.name;
-  implements_interfaces = names_once d.implements_interfaces;
-  directives = d.directives;
-  fields = joined field_name [] d.fields;
-  location = d.location;
-}
-
-abbrev pub interface_type : InterfaceTypeDefinition → InterfaceType
-interface_type d = record {
-  description = d.description;
-  name = d.name;
-  implements_interfaces = names_once d.implements_interfaces;
-  directives = d.directives;
-  fields = joined field_name [] d.fields;
-  location = d.location;
-}
-
-abbrev pub union_type : UnionTypeDefinition → UnionType
-union_type d = record {
-  description = d.description;
-  name = d.name;
-  directives = d.directives;
-  members = names_once d.members;
-  location = d.location;
-}
-
-abbrev pub enum_type : EnumTypeDefinition → EnumType
-enum_type d = record {
-  description = d.description;
-  name = d.name;
-  directives = d.directives;
-  values = joined value_name [] d.values;
-  location = d.location;
-}
-
-abbrev pub input_object_type : InputObjectTypeDefinition → InputObjectType
-input_object_type d = record {
-  description = d.description;
-  name = d.name;
-  directives = d.directives;
-  fields = joined input_name [] d.fields;
-  location = d.location;
-}
-
-abbrev pub object_faults : ObjectTypeDefinition → List DiagnosticData
-object_faults d = duplicate_interfaces_in_object d.name.text d.implements_interfaces ++ object_field_name_collisions d.name.text d.fields
-
-abbrev pub interface_faults : InterfaceTypeDefinition → List DiagnosticData
-interface_faults d = duplicate_interfaces_in_interface d.name.text d.implements_interfaces ++ interface_field_name_collisions d.name.text d.fields
-
--- a type of any kind
+use Rattle.gql_schema_parts.specs.EnumValueNameCollision.{enum_value_name_collisions}
+use Rattle.gql_schema_parts.specs.InputFieldNameCollision.{input_field_name_collisions}
+use Rattle.gql_schema_parts.specs.KindsBuilt.{scalar_type, object_type, interface_type, union_type, enum_type, input_object_type}
+use Rattle.gql_schema_parts.specs.KindsBuilt.{object_faults, interface_faults}
+use Rattle.gql_schema_parts.specs.UnionMemberNameCollision.{union_member_name_collisions}
+use Rattle.gql_schema_merge.specs.declared.type_definition.TypeDefinition.{TypeDefinition}
+use Rattle.gql_schema_merge.specs.declared.type_definition.TypeDefinition.TheVariants as definition
 
 abbrev pub built : TypeDefinition → ExtendedType
 built (definition.Scalar d) = type.Scalar (scalar_type d)

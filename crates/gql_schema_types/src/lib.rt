@@ -7,7 +7,6 @@
 
 mod implementers;
 mod meta_fields;
-mod name_index;
 mod named;
 mod schema;
 mod table;
@@ -15,7 +14,6 @@ mod types;
 
 pub use implementers::{Implementers, ImplementersMap};
 pub use meta_fields::MetaFields;
-pub use name_index::NameIndex;
 pub use named::Named;
 pub use schema::{Schema, SchemaDefinition};
 pub use table::Table;

@@ -6,8 +6,8 @@ ghost use Rattle.std.specs.Str.{bytes_eq};
 ghost use Rattle.std.specs.List.{IsDistinct};
 ghost use Rattle.gql_schema_types.specs.Entries.{texts, is_called, entry, put, without};
 
-use crate::name_index::NameIndex;
 use crate::named::Named;
+use jb_map::KeyTable;
 use jb_text::Memory;
 use std::alloc::Global;
 use std::marker::Model;
@@ -22,7 +22,7 @@ const MOST_SCANNED: usize = 16;
 #[derive(Drop)]
 pub struct Table<T: Named> {
     entries: Vec<T>,
-    index: Option<Box<NameIndex>>,
+    index: Option<Box<KeyTable>>,
 }
 
 impl<T: Named> Model for Table<T> {
@@ -209,7 +209,7 @@ fn scan<T: Named>(entries: &[T], name: &str) -> Option<usize>
 /// entries to go through. `Err` only for want of memory, with the index as it was.
 fn note_name<T: Named>(
     alloc: Global,
-    index: &mut Option<Box<NameIndex>>,
+    index: &mut Option<Box<KeyTable>>,
     entries: &[T],
     name: &str,
 ) -> Result<(), Memory>
@@ -232,11 +232,11 @@ fn note_name<T: Named>(
 }
 
 /// The index of these entries.
-fn index_of<T: Named>(alloc: Global, entries: &[T]) -> Result<NameIndex, Memory>
+fn index_of<T: Named>(alloc: Global, entries: &[T]) -> Result<KeyTable, Memory>
     requires { IsDistinct bytes_eq (texts T.own entries.now) }
     ensures { IfOk result (λ names. names ≡ texts T.own entries.now) }
 {
-    let mut names = NameIndex::new(alloc);
+    let mut names = KeyTable::new(alloc);
     for entry in entries {
         names.push(alloc, entry.own_name().as_str())?;
     }
@@ -244,7 +244,7 @@ fn index_of<T: Named>(alloc: Global, entries: &[T]) -> Result<NameIndex, Memory>
 }
 
 /// Takes the name at `at` out of the index, where there is one.
-fn forget_name(index: &mut Option<Box<NameIndex>>, at: usize)
+fn forget_name(index: &mut Option<Box<KeyTable>>, at: usize)
     requires { IfSome index.old (λ i. at < length i.value) }
     ensures { (names : List (List ℕ)) → IfSome index.old (λ i. i.value ≡ names) → IfSome index.new (λ i. i.value ≡ remove names at) }
 {

@@ -1,0 +1,6 @@
+pub mod DefinitionLocations
+pub mod DefinitionNames
+pub mod Extended
+pub mod ExtensionNames
+pub mod Kinds
+pub mod Merged

@@ -1,0 +1,10 @@
+pub mod DuplicateImplementsInterfaceInInterface
+pub mod DuplicateImplementsInterfaceInObject
+pub mod EnumValueNameCollision
+pub mod Faults
+pub mod InputFieldNameCollision
+pub mod InterfaceFieldNameCollision
+pub mod KindsBuilt
+pub mod ObjectFieldNameCollision
+pub mod PartNames
+pub mod UnionMemberNameCollision

@@ -1,7 +1,0 @@
-use Rattle.std.proofs.Common.{string_bytes, map, remove, ap, ◌∙◌}
-use Rattle.indexmap.proofs.SetLemmas.{map-remove}
-use Rattle.gql_schema_types.proofs.name_index.NameIndex.remove.Goals as goal
-
-pub returns : goal.returns
-returns c =
-    ap (map string_bytes) c.shift_remove_index-name.ensures.keys ∙ map-remove string_bytes c.self.inside.texts.keys c.args.index ∙ ap (λ l. remove l c.args.index) c.self.view_is
