@@ -1,0 +1,4 @@
+mod Answering
+mod Judging
+mod Ordered
+mod Shallow
