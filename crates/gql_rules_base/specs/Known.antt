@@ -1,0 +1,13 @@
+-- Which types are defined: a built-in scalar counts as defined, even where the schema leaves it out (section 3.5 of GraphQL October 2021).
+use Rattle.std.specs.Prelude.{ℕ, Bool, ◌||◌, List, is_some, codes}
+use Rattle.std.specs.Str.{bytes_eq}
+use Rattle.gql_schema_types.specs.Types.{type_called}
+use Rattle.gql_schema_types.specs.declared.types.ExtendedType.{ExtendedType}
+
+abbrev pub is_built_in_scalar : List ℕ → Bool
+is_built_in_scalar name =
+    bytes_eq name (codes "Int")
+    || (bytes_eq name (codes "Float") || (bytes_eq name (codes "String") || (bytes_eq name (codes "Boolean") || bytes_eq name (codes "ID"))))
+
+abbrev pub is_known : List ExtendedType → List ℕ → Bool
+is_known types name = is_some (type_called name types) || is_built_in_scalar name

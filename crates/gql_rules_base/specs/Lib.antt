@@ -1,0 +1,5 @@
+pub mod Faults
+pub mod Known
+pub mod Seconds
+pub mod TypeShape
+pub mod Written

@@ -1,0 +1,61 @@
+//! Broken rules, as diagnostics.
+
+ghost use Rattle.std.specs.Prelude.{◌≡◌, ◌++◌, [], ◌∷◌, map, IfOk, OnOk};
+ghost use Rattle.gql_rules_base.specs.Faults as spec;
+
+use gql_ast_base::Name;
+use gql_diag_messages::{Details, DiagnosticData, Rule, RuleFault};
+use gql_source::SourceSpan;
+use jb_text::{Listed, Memory, Text};
+use std::alloc::Global;
+
+/// Lists a broken rule with the names that its messages tell, its place and the other place. `Err` only for want of memory.
+pub fn list_fault(
+    alloc: Global,
+    rule: Rule,
+    names: &[&str],
+    location: Option<SourceSpan>,
+    other: Option<SourceSpan>,
+    faults: &mut Listed<DiagnosticData>,
+) -> Result<(), Memory>
+    ensures { OnOk result (faults.new ≡ faults.old ++ spec.fault rule (map (λ name. name.now) names.now) location other ∷ []) }
+{
+    let names = texts(alloc, names)?;
+    faults.push(DiagnosticData {
+        location,
+        details: Details::CompilerDiagnostic(RuleFault { rule, names, other }),
+    })
+}
+
+/// Lists a rule that what has this name breaks, at the name. `Err` only for want of memory.
+pub fn list_name(
+    alloc: Global,
+    rule: Rule,
+    name: &Name,
+    faults: &mut Listed<DiagnosticData>,
+) -> Result<(), Memory>
+    ensures { OnOk result (faults.new ≡ faults.old ++ spec.name_fault rule name.now ∷ []) }
+{
+    list_fault(alloc, rule, &[name.as_str()], name.location(), None, faults)
+}
+
+/// Lists that the chain of names that begins with this one is too long. `Err` only for want of memory.
+pub fn list_long_chain(name: &Name, faults: &mut Listed<DiagnosticData>) -> Result<(), Memory>
+    ensures { OnOk result (faults.new ≡ faults.old ++ spec.long_chain name.now ∷ []) }
+{
+    faults.push(DiagnosticData {
+        location: name.location(),
+        details: Details::RecursionLimitError,
+    })
+}
+
+/// Copies of these texts.
+fn texts(alloc: Global, names: &[&str]) -> Result<Listed<Text>, Memory>
+    ensures { IfOk result (λ made. made ≡ map (λ name. name.now) names.now) }
+{
+    let mut made = Listed::new(alloc);
+    for name in names {
+        made.push(Text::from_str(alloc, name)?)?;
+    }
+    Ok(made)
+}

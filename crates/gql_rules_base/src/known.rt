@@ -1,0 +1,22 @@
+//! Which types are defined.
+
+ghost use Rattle.std.specs.Prelude.{◌≡◌};
+ghost use Rattle.gql_rules_base.specs.Known as spec;
+
+use gql_schema_types::{ExtendedType, Table};
+
+/// Whether this is the name of a scalar that each GraphQL service has (GraphQL October 2021, section 3.5).
+#[must_use]
+pub fn is_built_in_scalar(name: &str) -> bool
+    ensures { result ≡ spec.is_built_in_scalar name.now }
+{
+    name == "Int" || name == "Float" || name == "String" || name == "Boolean" || name == "ID"
+}
+
+/// Whether a type of this name is defined, or is a built-in scalar.
+#[must_use]
+pub fn is_known(types: &Table<ExtendedType>, name: &str) -> bool
+    ensures { result ≡ spec.is_known types.now name.now }
+{
+    types.get(name).is_some() || is_built_in_scalar(name)
+}

@@ -1,0 +1,7 @@
+pub mod Chained
+pub mod Cyclic
+pub mod Flooded
+pub mod Marks
+pub mod Parts
+pub mod Turned
+pub mod Walks

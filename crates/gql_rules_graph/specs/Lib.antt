@@ -1,0 +1,5 @@
+pub mod Chains
+pub mod Cycles
+pub mod Flooding
+pub mod Graph
+pub mod Reversing

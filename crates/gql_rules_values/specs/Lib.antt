@@ -1,0 +1,17 @@
+pub mod Arguments
+pub mod Directives
+pub mod IntCoercionError
+pub mod Literals
+pub mod RequiredArgument
+pub mod RequiredField
+pub mod Typed
+pub mod UndefinedArgument
+pub mod UndefinedDirective
+pub mod UndefinedEnumValue
+pub mod UndefinedInputValue
+pub mod UniqueArgument
+pub mod UniqueDirective
+pub mod UniqueInputValue
+pub mod UnsupportedLocation
+pub mod UnsupportedValueType
+pub mod ValueTypes

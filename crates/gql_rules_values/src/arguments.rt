@@ -1,0 +1,106 @@
+//! The rules on the arguments of a field or of a directive (GraphQL October 2021, section 5.4).
+
+ghost use Rattle.std.specs.Prelude.{◌≡◌, ◌++◌, OnOk};
+ghost use Rattle.std.specs.List.{flat_map};
+ghost use Rattle.gql_rules_values.specs.Arguments as spec;
+
+use crate::literals::{list_literal, list_untyped};
+use crate::required_argument::list_required_arguments;
+use crate::undefined_argument::{defined, list_undefined_argument};
+use crate::unique_argument::list_unique_argument;
+use gql_ast_definitions::InputValueDefinition;
+use gql_ast_values::Argument;
+use gql_diag_messages::DiagnosticData;
+use gql_schema_types::{ExtendedType, Table};
+use gql_source::SourceSpan;
+use jb_text::{Listed, Memory};
+use std::alloc::Global;
+
+/// What arguments are given to: a field or a directive, by its name, and the place of the field or of the use.
+#[derive(Clone, Copy)]
+pub struct Call<'s> {
+    pub directive: bool,
+    pub name: &'s str,
+    pub location: Option<SourceSpan>,
+}
+
+/// Lists what is wrong with the arguments of a field or a directive that has these definitions of arguments. `Err` only for
+/// want of memory.
+pub fn list_arguments(
+    alloc: Global,
+    types: &Table<ExtendedType>,
+    call: &Call<'_>,
+    definitions: &[InputValueDefinition],
+    arguments: &[Argument],
+    faults: &mut Listed<DiagnosticData>,
+) -> Result<(), Memory>
+    ensures { OnOk result (faults.new
+        ≡ faults.old ++ spec.argument_faults types.now call.now.directive call.now.name.now call.now.location definitions.now arguments.now) }
+{
+    list_unique_argument(alloc, arguments, faults)?;
+    list_each(alloc, types, call.name, definitions, arguments, faults)?;
+    list_required_arguments(alloc, call, arguments, definitions, faults)
+}
+
+/// Lists what is wrong with arguments of which none is known. `Err` only for want of memory.
+pub(crate) fn list_unknown_arguments(
+    alloc: Global,
+    types: &Table<ExtendedType>,
+    arguments: &[Argument],
+    faults: &mut Listed<DiagnosticData>,
+) -> Result<(), Memory>
+    ensures { OnOk result (faults.new ≡ faults.old ++ spec.unknown_argument_faults types.now arguments.now) }
+{
+    list_unique_argument(alloc, arguments, faults)?;
+    list_each_unknown(alloc, types, arguments, faults)
+}
+
+/// Lists what is wrong with each argument by itself.
+fn list_each(
+    alloc: Global,
+    types: &Table<ExtendedType>,
+    name: &str,
+    definitions: &[InputValueDefinition],
+    arguments: &[Argument],
+    faults: &mut Listed<DiagnosticData>,
+) -> Result<(), Memory>
+    ensures { OnOk result (faults.new ≡ faults.old ++ flat_map (spec.one_argument types.now name.now definitions.now) arguments.now) }
+{
+    for argument in arguments {
+        list_argument(alloc, types, name, definitions, argument, faults)?;
+    }
+    Ok(())
+}
+
+/// Lists what is wrong with an argument by itself.
+fn list_argument(
+    alloc: Global,
+    types: &Table<ExtendedType>,
+    name: &str,
+    definitions: &[InputValueDefinition],
+    argument: &Argument,
+    faults: &mut Listed<DiagnosticData>,
+) -> Result<(), Memory>
+    ensures { OnOk result (faults.new ≡ faults.old ++ spec.one_argument types.now name.now definitions.now argument.now) }
+{
+    list_undefined_argument(alloc, name, definitions, argument, faults)?;
+    match defined(definitions, argument.name.as_str()) {
+        Some(definition) => list_literal(alloc, types, &argument.value, &definition.ty, faults),
+        None => list_untyped(alloc, types, &argument.value, faults),
+    }
+}
+
+/// Lists what is wrong with the values of arguments of which none is known.
+fn list_each_unknown(
+    alloc: Global,
+    types: &Table<ExtendedType>,
+    arguments: &[Argument],
+    faults: &mut Listed<DiagnosticData>,
+) -> Result<(), Memory>
+    ensures { OnOk result (faults.new ≡ faults.old ++ flat_map (spec.unknown_argument types.now) arguments.now) }
+{
+    for argument in arguments {
+        list_untyped(alloc, types, &argument.value, faults)?;
+    }
+    Ok(())
+}

@@ -1,0 +1,112 @@
+//! An argument that has to be given is given (GraphQL October 2021, section 5.4.2.1).
+
+ghost use Rattle.std.specs.Prelude.{◌≡◌, ◌++◌, ◌∷◌, [], None, IfOk, OnOk};
+ghost use Rattle.std.specs.List.{list_any};
+ghost use Rattle.std.specs.Str.{bytes_eq};
+ghost use Rattle.gql_ast_print.specs.TypeText.{type_text};
+ghost use Rattle.gql_diag_messages.specs.declared.rule.Rule.TheVariants.{RequiredArgument};
+ghost use Rattle.gql_rules_base.specs.Faults as told;
+ghost use Rattle.gql_rules_values.specs.RequiredArgument as spec;
+
+use crate::arguments::Call;
+use gql_ast_base::both;
+use gql_ast_definitions::InputValueDefinition;
+use gql_ast_print::print_type;
+use gql_ast_values::Argument;
+use gql_diag_messages::{DiagnosticData, Rule};
+use gql_rules_base::{is_required, list_fault};
+use jb_text::{Listed, Memory, Text};
+use std::alloc::Global;
+
+/// Lists each argument that has to be given and is not.
+pub(crate) fn list_required_arguments(
+    alloc: Global,
+    call: &Call<'_>,
+    arguments: &[Argument],
+    definitions: &[InputValueDefinition],
+    faults: &mut Listed<DiagnosticData>,
+) -> Result<(), Memory>
+    ensures { OnOk result (faults.new ≡ faults.old ++ spec.required_arguments call.now.directive call.now.name.now call.now.location arguments.now definitions.now) }
+{
+    for index in 0..definitions.len() {
+        let earlier = &definitions[..index];
+        list_required_argument(alloc, call, arguments, earlier, &definitions[index], faults)?;
+    }
+    Ok(())
+}
+
+/// Lists an argument if it has to be given and is not. Of several definitions of a name the first counts.
+fn list_required_argument(
+    alloc: Global,
+    call: &Call<'_>,
+    arguments: &[Argument],
+    earlier: &[InputValueDefinition],
+    definition: &InputValueDefinition,
+    faults: &mut Listed<DiagnosticData>,
+) -> Result<(), Memory>
+    ensures { OnOk result (faults.new
+        ≡ faults.old ++ spec.required_argument call.now.directive call.now.name.now call.now.location arguments.now earlier.now definition.now) }
+{
+    if is_required(definition)
+        && !is_given(arguments, definition.name.as_str())
+        && !is_defined(earlier, definition.name.as_str())
+    {
+        list_lacking(alloc, call, definition, faults)
+    } else {
+        Ok(())
+    }
+}
+
+/// Whether one of these definitions has the name.
+fn is_defined(definitions: &[InputValueDefinition], name: &str) -> bool
+    ensures { result ≡ list_any (spec.is_called name.now) definitions.now }
+{
+    definitions
+        .iter()
+        .any(|definition| name == definition.name.as_str())
+}
+
+/// Whether one of the arguments has this name.
+fn is_given(arguments: &[Argument], name: &str) -> bool
+    ensures { result ≡ list_any (λ argument. bytes_eq name.now argument.name.text) arguments.now }
+{
+    arguments
+        .iter()
+        .any(|argument| name == argument.name.as_str())
+}
+
+/// Lists an argument that is not given.
+fn list_lacking(
+    alloc: Global,
+    call: &Call<'_>,
+    definition: &InputValueDefinition,
+    faults: &mut Listed<DiagnosticData>,
+) -> Result<(), Memory>
+    ensures { OnOk result (faults.new ≡ faults.old
+        ++ told.fault RequiredArgument (spec.told_name call.now.directive call.now.name.now ∷ definition.now.name.text ∷ type_text definition.now.ty ∷ []) call.now.location None ∷ []) }
+{
+    let (name, ty) = both(
+        told_name(alloc, call.directive, call.name),
+        print_type(alloc, &definition.ty),
+    )?;
+    list_fault(
+        alloc,
+        Rule::RequiredArgument,
+        &[name.as_str(), definition.name.as_str(), ty.as_str()],
+        call.location,
+        None,
+        faults,
+    )
+}
+
+/// The name, with `@` before it if it is a directive's.
+fn told_name(alloc: Global, directive: bool, name: &str) -> Result<Text, Memory>
+    ensures { IfOk result (λ told. told ≡ spec.told_name directive name.now) }
+{
+    if !directive {
+        return Text::from_str(alloc, name);
+    }
+    let mut told = String::from_str(alloc, "@")?;
+    told.push_str(name)?;
+    Ok(Text::from_string(told))
+}

@@ -1,0 +1,79 @@
+//! A literal at an input object type gives each field that has to be given (GraphQL October 2021, section 5.6.4).
+
+ghost use Rattle.std.specs.Prelude.{◌≡◌, ◌++◌, ◌∷◌, [], None, OnOk};
+ghost use Rattle.std.specs.List.{list_any};
+ghost use Rattle.std.specs.Str.{bytes_eq};
+ghost use Rattle.gql_ast_print.specs.TypeText.{type_text};
+ghost use Rattle.gql_diag_messages.specs.declared.rule.Rule.TheVariants.{RequiredField};
+ghost use Rattle.gql_rules_base.specs.Faults as told;
+ghost use Rattle.gql_rules_values.specs.RequiredField as spec;
+
+use gql_ast_base::Name;
+use gql_ast_definitions::InputValueDefinition;
+use gql_ast_print::print_type;
+use gql_ast_values::Value;
+use gql_diag_messages::{DiagnosticData, Rule};
+use gql_rules_base::{is_required, list_fault};
+use jb_text::{Listed, Memory};
+use std::alloc::Global;
+
+/// Lists each field that has to be given and is not.
+pub(crate) fn list_required_fields(
+    alloc: Global,
+    literal: &Value,
+    members: &[(Name, Value)],
+    fields: &[InputValueDefinition],
+    faults: &mut Listed<DiagnosticData>,
+) -> Result<(), Memory>
+    ensures { OnOk result (faults.new ≡ faults.old ++ spec.required_fields literal.now members.now fields.now) }
+{
+    for field in fields {
+        list_required_field(alloc, literal, members, field, faults)?;
+    }
+    Ok(())
+}
+
+/// Lists a field if it has to be given and is not.
+fn list_required_field(
+    alloc: Global,
+    literal: &Value,
+    members: &[(Name, Value)],
+    field: &InputValueDefinition,
+    faults: &mut Listed<DiagnosticData>,
+) -> Result<(), Memory>
+    ensures { OnOk result (faults.new ≡ faults.old ++ spec.required_field literal.now members.now field.now) }
+{
+    if is_required(field) && !has_key(members, field.name.as_str()) {
+        list_lacking(alloc, literal, field, faults)
+    } else {
+        Ok(())
+    }
+}
+
+/// Whether one of the members has this key.
+fn has_key(members: &[(Name, Value)], key: &str) -> bool
+    ensures { result ≡ list_any (λ member. bytes_eq key.now member.0.text) members.now }
+{
+    members.iter().any(|member| key == member.0.as_str())
+}
+
+/// Lists a field that the literal lacks.
+fn list_lacking(
+    alloc: Global,
+    literal: &Value,
+    field: &InputValueDefinition,
+    faults: &mut Listed<DiagnosticData>,
+) -> Result<(), Memory>
+    ensures { OnOk result (faults.new ≡ faults.old
+        ++ told.fault RequiredField (field.now.name.text ∷ type_text field.now.ty ∷ []) literal.now.location None ∷ []) }
+{
+    let ty = print_type(alloc, &field.ty)?;
+    list_fault(
+        alloc,
+        Rule::RequiredField,
+        &[field.name.as_str(), ty.as_str()],
+        literal.location,
+        None,
+        faults,
+    )
+}

@@ -1,0 +1,4 @@
+pub mod CycleFaults
+pub mod RecursiveDirectiveDefinition
+pub mod RecursiveInputObjectDefinition
+pub mod RecursiveInterfaceDefinition

@@ -1,0 +1,17 @@
+pub mod DuplicateRootOperationType
+pub mod EmptyFieldSet
+pub mod EmptyInputValueSet
+pub mod EmptyMemberSet
+pub mod EmptyValueSet
+pub mod Fields
+pub mod InputType
+pub mod InputValues
+pub mod ObjectTypes
+pub mod OutputType
+pub mod QueryRootOperationType
+pub mod ReservedName
+pub mod RootOperationObjectType
+pub mod SchemaRules
+pub mod TypeRules
+pub mod UndefinedDefinition
+pub mod UnionMemberObjectType

@@ -1,0 +1,26 @@
+//! An object type and an interface have fields (GraphQL October 2021, sections 3.6 and 3.7).
+
+ghost use Rattle.std.specs.Prelude.{◌≡◌, ◌++◌, OnOk};
+ghost use Rattle.gql_schema_rules_types.specs.EmptyFieldSet as spec;
+
+use gql_ast_base::Name;
+use gql_ast_definitions::FieldDefinition;
+use gql_diag_messages::{DiagnosticData, Rule};
+use gql_rules_base::list_name;
+use jb_text::{Listed, Memory};
+use std::alloc::Global;
+
+/// Lists the name of a type that has none of these.
+pub(crate) fn list_empty_field_set(
+    alloc: Global,
+    name: &Name,
+    fields: &[FieldDefinition],
+    faults: &mut Listed<DiagnosticData>,
+) -> Result<(), Memory>
+    ensures { OnOk result (faults.new ≡ faults.old ++ spec.empty_field_set name.now fields.now) }
+{
+    match fields {
+        [] => list_name(alloc, Rule::EmptyFieldSet, name, faults),
+        [_, ..] => Ok(()),
+    }
+}

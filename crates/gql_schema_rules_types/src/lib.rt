@@ -1,0 +1,27 @@
+//! The rules on the parts of a GraphQL schema: its root types, its directives, its types and what these are made of (GraphQL
+//! October 2021, section 3).
+//!
+//! Each rule is a list of diagnostics of one node, as a name, a field or a type; what is wrong with a schema is what its nodes
+//! say, one behind another. A rule has a file of its own here and in `specs/`, named after it.
+#![tactic(auto)]
+
+mod duplicate_root_operation_type;
+mod empty_field_set;
+mod empty_input_value_set;
+mod empty_member_set;
+mod empty_value_set;
+mod fields;
+mod input_type;
+mod input_values;
+mod object_types;
+mod output_type;
+mod query_root_operation_type;
+mod reserved_name;
+mod root_operation_object_type;
+mod schema_rules;
+mod types;
+mod undefined_definition;
+mod union_member_object_type;
+
+pub use schema_rules::{list_directive_definitions, list_schema_definition};
+pub use types::list_types;

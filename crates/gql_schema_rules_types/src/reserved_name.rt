@@ -1,0 +1,36 @@
+//! No name that a user gives begins with two underscores (GraphQL October 2021, section 2.1.9 and the validation of types in
+//! section 3).
+
+ghost use Rattle.std.specs.Prelude.{◌≡◌, ◌++◌, OnOk};
+ghost use Rattle.gql_schema_rules_types.specs.ReservedName as spec;
+
+use gql_ast_base::Name;
+use gql_diag_messages::{DiagnosticData, Rule};
+use gql_rules_base::list_name;
+use jb_text::{Listed, Memory};
+use std::alloc::Global;
+
+/// Lists a name that begins with two underscores.
+pub(crate) fn list_reserved_name(
+    alloc: Global,
+    name: &Name,
+    faults: &mut Listed<DiagnosticData>,
+) -> Result<(), Memory>
+    ensures { OnOk result (faults.new ≡ faults.old ++ spec.reserved_name name.now) }
+{
+    if is_reserved(name.as_str().as_bytes()) {
+        list_name(alloc, Rule::ReservedName, name, faults)
+    } else {
+        Ok(())
+    }
+}
+
+/// Whether the text begins with two underscores.
+fn is_reserved(text: &[u8]) -> bool
+    ensures { result ≡ spec.is_reserved text.now }
+{
+    match text {
+        [one, two, ..] => *one == b'_' && *two == b'_',
+        _ => false,
+    }
+}
