@@ -1,0 +1,17 @@
+pub mod Outcome
+pub mod Faults
+pub mod Subject
+pub mod TypeShape
+pub mod Messages
+pub mod Missing
+pub mod Scalars
+pub mod Translation
+pub mod Filled
+pub mod InputValue
+pub mod Variables
+pub mod LiteralValue
+pub mod Arguments
+pub mod InputTypes
+pub mod ByName
+pub mod Told
+pub mod Inputs
