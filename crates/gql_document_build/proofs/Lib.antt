@@ -1,0 +1,8 @@
+mod Fragments
+mod Keys
+mod MadeSelections
+mod RootMeasure
+mod RootWay
+mod SelectionNodes
+mod Sizes
+mod Variants

@@ -1,0 +1,160 @@
+//! Builders of executable documents.
+
+ghost use Rattle.std.specs.Prelude.{◌≡◌, true, false, OnOk, OnErr};
+
+use crate::build::build_document;
+use crate::executable_definitions::ExecutableDefinitions;
+use crate::judged::judged;
+use crate::taking::{list_type_systems, take_list};
+use gql_ast::Document;
+use gql_diag::{DiagnosticData, DiagnosticList, WithErrors};
+use gql_document_types::ExecutableDocument;
+use gql_schema_types::Schema;
+use gql_source::SourceMap;
+use jb_text::{Listed, Memory, Refused};
+use std::alloc::{AllocError, Global};
+
+/// Builds an executable document of documents, against a schema. Clauses speak of what it has taken.
+#[derive(Drop)]
+pub struct ExecutableDocumentBuilder<'s> {
+    alloc: Global,
+    schema: &'s Schema,
+    sources: SourceMap,
+    definitions: ExecutableDefinitions,
+    faults: Listed<DiagnosticData>,
+    refused: bool,
+}
+
+impl<'s> ExecutableDocumentBuilder<'s> {
+    ghost use Rattle.gql_document_build.specs.Builders as spec;
+
+    /// A builder that has taken nothing. It takes no memory.
+    #[must_use]
+    pub fn new(alloc: Global, schema: &'s Schema) -> ExecutableDocumentBuilder<'s>
+        ensures { spec.taken result ≡ spec.nothing_taken schema.now }
+    {
+        ExecutableDocumentBuilder {
+            alloc,
+            schema,
+            sources: SourceMap::new(alloc),
+            definitions: ExecutableDefinitions::new(alloc),
+            faults: Listed::new(alloc),
+            refused: false,
+        }
+    }
+
+    /// Takes copies of a document's operations, fragments and files, and the faults and files of the list. A file whose
+    /// number is taken is left out. Where `type_system_definitions_are_errors` is true, all other definitions are faults;
+    /// else they are passed over. `Err` only for want of memory: then each further call of the builder is refused too.
+    pub fn add_ast(
+        &mut self,
+        document: &Document,
+        errors: DiagnosticList,
+        type_system_definitions_are_errors: bool,
+    ) -> Result<(), Memory>
+        ensures taken { OnOk result (spec.taken self.new ≡ spec.with_document (spec.taken self.old) document.now errors type_system_definitions_are_errors) }
+        ensures open { OnOk result ((spec.taken self.old).refused ≡ false) }
+        ensures refused { OnErr result ((spec.taken self.new).refused ≡ true) }
+    {
+        if self.refused {
+            return Err(AllocError);
+        }
+        let added = self.add_copy(document, errors, type_system_definitions_are_errors);
+        self.refused = added.is_err();
+        added
+    }
+
+    /// Takes a document as [`ExecutableDocumentBuilder::add_ast`] does, the definitions and files themselves in place of
+    /// copies.
+    pub fn take_ast(
+        &mut self,
+        document: Document,
+        errors: DiagnosticList,
+        type_system_definitions_are_errors: bool,
+    ) -> Result<(), Memory>
+        ensures taken { OnOk result (spec.taken self.new ≡ spec.with_document (spec.taken self.old) document errors type_system_definitions_are_errors) }
+        ensures open { OnOk result ((spec.taken self.old).refused ≡ false) }
+        ensures refused { OnErr result ((spec.taken self.new).refused ≡ true) }
+    {
+        if self.refused {
+            return Err(AllocError);
+        }
+        let added = self.add_itself(document, errors, type_system_definitions_are_errors);
+        self.refused = added.is_err();
+        added
+    }
+
+    /// The document of all that was taken, with its files.
+    ///
+    /// Of operations of one name the first stays, and of fragments (GraphQL October 2021, sections 5.2.1.1 and 5.5.1.1); what
+    /// is inside the others is not looked at. No more than the build is checked: the rules of documents are not.
+    ///
+    /// # Errors
+    ///
+    /// The faults that were taken and those of the build, sorted as [`DiagnosticList::sort`] does, exactly where there are
+    /// any; beside them the document without what they list, but with each subscription whatever it selects at its root. Else
+    /// want of memory alone, and always after a call that was refused for it.
+    pub fn build(self) -> Result<ExecutableDocument, Refused<WithErrors<ExecutableDocument>>>
+        ensures { spec.IsAnswer (spec.taken self.entry) result }
+    {
+        let ExecutableDocumentBuilder {
+            alloc,
+            schema,
+            sources,
+            definitions,
+            mut faults,
+            refused,
+        } = self;
+        if refused {
+            return Err(Refused::Memory);
+        }
+        let document = build_document(alloc, schema, sources, definitions, &mut faults)?;
+        judged(alloc, document, faults)
+    }
+
+    /// Takes copies of a document's definitions and files, and the list.
+    fn add_copy(
+        &mut self,
+        document: &Document,
+        errors: DiagnosticList,
+        type_system_definitions_are_errors: bool,
+    ) -> Result<(), Memory>
+        ensures { OnOk result (spec.taken self.new ≡ spec.with_document (spec.taken self.old) document.now errors type_system_definitions_are_errors) }
+    {
+        let alloc = self.alloc;
+        take_list(errors, &mut self.sources, &mut self.faults)?;
+        list_type_systems(
+            alloc,
+            type_system_definitions_are_errors,
+            &document.definitions,
+            &mut self.faults,
+        )?;
+        self.definitions.copy_all(alloc, &document.definitions)?;
+        self.sources.merge(document.sources.copy(alloc)?)
+    }
+
+    /// Takes a document's definitions and files, and the list.
+    fn add_itself(
+        &mut self,
+        document: Document,
+        errors: DiagnosticList,
+        type_system_definitions_are_errors: bool,
+    ) -> Result<(), Memory>
+        ensures { OnOk result (spec.taken self.new ≡ spec.with_document (spec.taken self.old) document errors type_system_definitions_are_errors) }
+    {
+        let alloc = self.alloc;
+        let Document {
+            sources,
+            definitions,
+        } = document;
+        take_list(errors, &mut self.sources, &mut self.faults)?;
+        list_type_systems(
+            alloc,
+            type_system_definitions_are_errors,
+            &definitions,
+            &mut self.faults,
+        )?;
+        self.definitions.take_all(definitions)?;
+        self.sources.merge(sources)
+    }
+}

@@ -1,0 +1,4 @@
+mod Measure
+mod RootWalk
+mod Spread
+mod Variants

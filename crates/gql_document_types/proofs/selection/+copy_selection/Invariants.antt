@@ -1,0 +1,6 @@
+use Rattle.std.proofs.Common.{◌≡◌, take}
+use Rattle.gql_document_types.proofs.selection.+copy_selection.Given as goal
+
+-- those so far are copied
+abbrev pub invariant-copy_selections-loop-selection : goal.invariant-copy_selections-loop-selection
+invariant-copy_selections-loop-selection l = l.copies ≡ take l.selection-index l.selections
