@@ -1,8 +1,8 @@
 -- What the library answers.
 use Rattle.std.specs.Prelude.{if◌then◌else◌, ℕ, List, codes, pos}
 use Rattle.std.specs.Str.{bytes_eq}
-use Rattle.jb_tree.specs.declared.value.Value.TheVariants as json
-use Rattle.gql_exec.specs.Meaning.{Meaning, gives_leaf, gives_object}
+use Rattle.gql_engine.specs.Resolving.{Meaning, gives_leaf, gives_object}
+use Rattle.gql_engine.specs.Resolving.json
 use Rattle.example_resolver.specs.declared.library.Library.{Library}
 use Rattle.example_resolver.specs.declared.library.Library.TheVariants.{Root, Emma}
 

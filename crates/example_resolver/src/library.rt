@@ -1,7 +1,8 @@
 //! The data: a library with one book.
 
-use gql_exec::{ObjectValue, ResolveError, ResolveInfo, ResolvedValue};
-use jb_tree::{ByteString, Number, Value};
+use gql_engine::{
+    ByteString, Number, ObjectValue, ResolveError, ResolveInfo, ResolvedValue, Value,
+};
 use std::alloc::Global;
 
 /// The objects that a query can reach.

@@ -1,5 +1,5 @@
 -- A plain request is refused for no cause.
-use Rattle.std.proofs.Common.{◌≡◌, ◌≢◌, ◌≤◌, ◌<◌, ◌⊎◌, ℕ, zero, suc, Bool, true, false, List, [], ◌++◌, length, Option, Some, None, Result, Ok, Err, IfOk, IfErr, IsErrAnd, refl, ◌∙◌, sym, ap, subst, inl, inr, arith, length-append, append-nil}
+use Rattle.std.proofs.Common.{◌≡◌, ◌≢◌, ◌≤◌, ◌⊎◌, ℕ, zero, suc, Bool, true, false, List, ◌++◌, length, Option, Some, None, Result, Ok, Err, IfOk, IfErr, refl, ◌∙◌, sym, ap, subst, inl, inr, arith, length-append, append-nil}
 use Rattle.std.specs.Prelude.{OnOk}
 use Rattle.std.specs.Borrow.{Bor}
 use Rattle.std.specs.Option.{IsSomeAnd}
@@ -18,7 +18,7 @@ use Rattle.gql_engine.specs.declared.answering.AnswerError.{AnswerError}
 use Rattle.gql_engine.specs.declared.answering.AnswerError.TheVariants.{Variables, Unbuilt, Memory}
 use Rattle.gql_engine.specs.declared.task.Task.{Task}
 use Rattle.gql_engine.specs.declared.task.Task.TheVariants.{Answer}
-use Rattle.gql_engine.specs.AnswerError.{AsksNoOptions, AsksOptions, AsksPlainly, HasCause, IsNoObject, IsObjectText, IsRefusedText, IsUnplainPart, are_options}
+use Rattle.gql_engine.specs.AnswerError.{AsksNoOptions, AsksOptions, AsksPlainly, HasCause, IsNoObject, IsObjectText, are_options}
 use Rattle.gql_engine.specs.Meant.{IsUnmeantSchema, IsUnplain, PlainTexts}
 use Rattle.gql_engine.specs.Program.{IsPlainInput}
 use Rattle.gql_engine.specs.Reply.{Cause, no_text, no_request, not_built, IsPlainRequest, IsUnbuilt, Refuses}
@@ -58,25 +58,6 @@ both_ways one name variables introspection h k =
     let yes : are_options name h.members introspection ≡ true = h.asked in
     let no : are_options name k.members introspection ≡ false = k.asked in
     cc (e, yes, no)
-
-module _ (s q : List ℕ) (name : Option (Bor (List ℕ))) (v : List ℕ) (i : Bool) where
-  -- a refusal of the variables' text has its cause
-  text_cause : (error : AnswerError) → IsRefusedText v error → HasCause s q name v i error
-  text_cause (Variables (Read fault)) h = h
-  text_cause (Variables NotObject) h = h
-  text_cause (Unbuilt part) h = absurd h
-  text_cause Memory h = tt
-
-  pub handed_cause : {A : Type 0} (result : Result A AnswerError) (error : AnswerError) → IsErrAnd result (λ e. e ≡ error) → IsRefusedText v error
-      → IfErr result (HasCause s q name v i)
-  handed_cause (Ok bytes) error is h = absurd is
-  handed_cause (Err e) error is h = subst (λ (x : AnswerError). HasCause s q name v i x) (sym is) (text_cause error h)
-
-  -- a text that means nothing is a cause where no option is asked for
-  pub part_cause : (part : UnbuiltPart) → AsksNoOptions name v i → IsUnplainPart s q part → HasCause s q name v i (Unbuilt part)
-  part_cause Options none h = absurd h
-  part_cause Schema none h = (none, h)
-  part_cause Query none h = (none, h)
 
 module _ (one : OneValue) (one_fault : OneFault) (not_both : NotBoth) (s q : List ℕ) (name : Option (Bor (List ℕ))) (v : List ℕ) (i : Bool) where
   unread_object : (fault : ReadFault) (xs : Members) → JsonFault v fault → IsObjectText v xs → ⊥

@@ -1,5 +1,5 @@
 -- What a text is read as is one, and a text that is refused is read as nothing.
-use Rattle.std.proofs.Common.{◌≡◌, ◌≤◌, ℕ, Bool, true, ◌&&◌, cond, if◌then◌else◌, refl, eq-eqb, List, Some, None, is_some, Result, Ok, Err, IfErr, IsErrAnd, codes, ◌∙◌, sym, ap, subst, arith}
+use Rattle.std.proofs.Common.{◌≡◌, ◌≤◌, ℕ, Bool, true, cond, refl, eq-eqb, List, Some, None, is_some, Result, Ok, Err, IfErr, IsErrAnd, codes, ◌∙◌, sym, ap, subst, arith}
 use Rattle.std.specs.Map.{lookup}
 use Rattle.std.specs.Str.{bytes_eq}
 use Rattle.jb_text.specs.declared.refused.Refused.{Refused}

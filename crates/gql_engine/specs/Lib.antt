@@ -1,5 +1,6 @@
 pub mod AnswerError
 pub mod Answered
+pub mod Answering
 pub mod Data
 pub mod DataMeaning
 pub mod DataName
@@ -9,3 +10,4 @@ pub mod Program
 pub mod Reply
 pub mod Request
 pub mod Task
+pub mod Resolving

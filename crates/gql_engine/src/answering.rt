@@ -8,11 +8,12 @@ ghost use Rattle.gql_engine.specs.AnswerError.{Asks, AsksNoOptions, AsksPlainly,
 ghost use Rattle.gql_engine.specs.Request.{Members};
 
 use crate::texts;
+use crate::uncounted::answer_uncounted;
 use bytes::Bytes;
 use gql_ast_laws::laws;
 use gql_exec::{ObjectValue, Steps, execute};
 use gql_plain::NotPlain;
-use jb_read::{ReadFault, from_bytes_whole, laws as json_laws};
+use jb_read::{ReadFault, from_bytes_whole};
 use jb_tree::{Memory, Refused};
 use std::alloc::Global;
 use std::sync::ledger::Ledger;
@@ -108,8 +109,7 @@ pub fn answer<O: ObjectValue, L: Ledger>(
         → IfErr result (λ error. error ≡ refusal.Memory) }
     ensures uncounted { steps.new ≡ steps.old }
 {
-    json_laws::each_text_has_one_answer();
-    answer_or_refuse(
+    answer_uncounted(
         alloc,
         schema,
         query,
@@ -121,7 +121,7 @@ pub fn answer<O: ObjectValue, L: Ledger>(
 }
 
 /// The response, or the first cause of a refusal.
-fn answer_or_refuse<O: ObjectValue>(
+pub(crate) fn answer_or_refuse<O: ObjectValue>(
     alloc: Global,
     schema: &str,
     query: &str,

@@ -13,8 +13,11 @@ mod reply;
 mod request;
 mod task;
 mod texts;
+mod uncounted;
 
 pub use answering::{AnswerError, UnbuiltPart, VariablesFault, answer};
 pub use data_object::DataObject;
-pub use gql_exec::Steps;
+pub use gql_exec::{FieldError, ObjectValue, ResolveError, ResolveInfo, ResolvedValue, Steps};
+pub use jb_tree::{ByteString, Number, Value};
 pub use program::{run, run_in_memory};
+pub use uncounted::answer_uncounted;

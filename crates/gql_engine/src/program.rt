@@ -4,7 +4,7 @@ ghost use Rattle.std.specs.Prelude.{◌≡◌, ◌≢◌, ◌≤◌, ◌⊎◌, 
 ghost use Rattle.gql_engine.specs.Program.{AsksAnswer, IsLong, IsPlainInput, usage};
 ghost use Rattle.gql_engine.specs.Reply.{Answers, Refuses};
 ghost use Rattle.jb_io.specs.Sink.{Takes, TakesFront};
-ghost use Rattle.jb_io.specs.Source.{GivesMore};
+ghost use Rattle.jb_io.specs.Source.{GivesAtMost, GivesMore};
 ghost use Rattle.jb_io.specs.Stream.{HasFailed};
 ghost use Rattle.jb_serve.specs.Run.{BreaksOff, Serves};
 
@@ -52,6 +52,7 @@ pub fn run<S: Source, K: Sink, L: Ledger>(
     // The causes.
     ensures source_failed { result ≡ SOURCE_FAILED → HasFailed (S.faults source.old) (S.faults source.new) }
     ensures too_long { result ≡ TOO_LONG → GivesMore (S.left source.old) (S.left source.new) }
+    ensures within { result ≢ TOO_LONG → AsksAnswer words.now → GivesAtMost (S.left source.old) (S.left source.new) }
     ensures sink_failed { result ≡ SINK_FAILED → HasFailed (K.faults sink.old) (K.faults sink.new) }
     ensures broken_off { result ≡ SINK_FAILED → AsksAnswer words.now → BreaksOff Answers Refuses
         (S.left source.old) (S.left source.new) (K.taken sink.old) (K.taken sink.new) }

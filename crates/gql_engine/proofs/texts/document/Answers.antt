@@ -1,4 +1,4 @@
-use Rattle.std.proofs.Common.{◌≡◌, true, is_some, rules, ap, subst, sym}
+use Rattle.std.proofs.Common.{◌≡◌, true, is_some, rules}
 use Rattle.gql_engine.proofs.Unread.{refused_unread}
 use Rattle.gql_engine.proofs.texts.document.Goals as goal
 

@@ -1,4 +1,3 @@
-use Rattle.std.proofs.Common.{rules}
 use Rattle.gql_engine.proofs.Unread.{one_file-found}
 use Rattle.gql_engine.proofs.texts.only_file.Goals as goal
 

@@ -1,0 +1,38 @@
+//! Answering for callers who count no steps.
+
+ghost use Rattle.gql_engine.specs.Answering.{GivesAnswer};
+
+use crate::answering::{AnswerError, answer_or_refuse};
+use bytes::Bytes;
+use gql_exec::ObjectValue;
+use jb_read::laws;
+use std::alloc::Global;
+
+/// [`answer`](crate::answer) without a counter of steps: the same response or refusal.
+///
+/// # Errors
+///
+/// Those of [`answer`](crate::answer), exactly where they come there.
+pub fn answer_uncounted<O: ObjectValue>(
+    alloc: Global,
+    schema: &str,
+    query: &str,
+    operation_name: Option<&str>,
+    variables: &Bytes,
+    introspection: bool,
+    root: &O,
+) -> Result<Bytes, AnswerError>
+    ensures { GivesAnswer O.type_of O.resolves root.now schema.now query.now
+        operation_name.entry variables.now introspection result }
+{
+    laws::each_text_has_one_answer();
+    answer_or_refuse(
+        alloc,
+        schema,
+        query,
+        operation_name,
+        variables,
+        introspection,
+        root,
+    )
+}
