@@ -2,9 +2,9 @@
 """Checks the repository's form, a family of habits at a time. Each fault is one line: where it stands, and what is wrong."""
 import sys
 
-from shared import layout_documentation, layout_files, layout_functions, layout_habits, layout_repository
+from shared import layout_documentation, layout_files, layout_functions, layout_habits, layout_repository, layout_rules
 
-FAMILIES = [layout_repository, layout_files, layout_documentation, layout_functions, layout_habits]
+FAMILIES = [layout_repository, layout_files, layout_documentation, layout_functions, layout_habits, layout_rules]
 
 
 def main():
