@@ -32,7 +32,8 @@ pub data Refuses (fragments : Fragments) : ℕ → Memo → Nested → Place →
       → Refuses fragments c m (field_then weight place within rest) at (suc (j + k))
   refuse_again : {c : ℕ} {m : Memo} {rest : Nested} (f : ℕ) (place : Place) (d : ℕ) → slice_get m f ≡ Some (Some d) → 3 ≤ c + d
       → Refuses fragments c m (spread_then f place rest) place 1
-  refuse_after_again : {c : ℕ} {m : Memo} {rest : Nested} {at : Place} {k : ℕ} (f : ℕ) (place : Place) (d : ℕ) → slice_get m f ≡ Some (Some d) → c + d < 3
+  refuse_after_again : {c : ℕ} {m : Memo} {rest : Nested} {at : Place} {k : ℕ} (f : ℕ) (place : Place) (d : ℕ)
+      → slice_get m f ≡ Some (Some d) → c + d < 3
       → Refuses fragments c m rest at k → Refuses fragments c m (spread_then f place rest) at (suc k)
   refuse_into : {c : ℕ} {m : Memo} {rest : Nested} {at : Place} {k : ℕ} (f : ℕ) (place : Place) → slice_get m f ≡ Some None
       → Refuses fragments c (set m f (Some 0)) (body_of fragments f) at k → Refuses fragments c m (spread_then f place rest) at (suc k)

@@ -22,7 +22,8 @@ pub record AcceptedOne (fragments : Fragments) (c : ℕ) (one : One) (m : Memo) 
   pub looks : u ≡ t + taken
   pub fewer : unentered fragments n ≤ unentered fragments m
   pub low : c + d < 3
-  pub accepts : (rest : Nested) (e k : ℕ) (o : Memo) → Accepts fragments c n rest e o k → Accepts fragments c m (then_more one rest) (max d e) o (taken + k)
+  pub accepts : (rest : Nested) (e k : ℕ) (o : Memo) → Accepts fragments c n rest e o k
+      → Accepts fragments c m (then_more one rest) (max d e) o (taken + k)
   pub refuses : (rest : Nested) (at : Place) (k : ℕ) → Refuses fragments c n rest at k → Refuses fragments c m (then_more one rest) at (taken + k)
 
 pub record RefusedOne (fragments : Fragments) (c : ℕ) (one : One) (m : Memo) (t : ℕ) (at : Place) (u : ℕ) : Type 0 where

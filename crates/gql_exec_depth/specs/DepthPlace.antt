@@ -1,5 +1,6 @@
 -- Where too great a depth is told.
-use Rattle.std.specs.Prelude.{ℕ, zero, suc, ◌+◌, Bool, true, false, leb, List, [], ◌∷◌, ◌++◌, length, set, slice_get, replicate, find, Option, Some, None}
+use Rattle.std.specs.Prelude.{ℕ, zero, suc, ◌+◌, Bool, true, false, leb, Option, Some, None}
+use Rattle.std.specs.Prelude.{List, [], ◌∷◌, ◌++◌, length, set, slice_get, replicate, find}
 use Rattle.std.specs.Option.{option_map}
 use Rattle.gql_exec_depth.specs.Expanded.{fragment_depth, most}
 use Rattle.gql_exec_depth.specs.Nested.{Nested, nothing, field_then, spread_then, inline_then, Fragments, Place, body_of}

@@ -37,7 +37,7 @@ impl<'a> DepthCheck<'a> {
     /// The depth of these selections below a chain of counted fields, or the place where a chain is found to have three.
     /// `memo` has the depths of the fragments that were entered, and 0 for those that the walk is in.
     #[cycle(depth)]
-    pub(crate) fn set<L: Ledger>(
+    pub(crate) fn selection_set<L: Ledger>(
         &self,
         selections: &Listed<Selection>,
         chain: u32,
@@ -101,7 +101,7 @@ impl<'a> DepthCheck<'a> {
         if longer >= TOO_MANY {
             return Err(field.name.location());
         }
-        let below = self.set(&field.selection_set.selections, longer, memo, steps)?;
+        let below = self.selection_set(&field.selection_set.selections, longer, memo, steps)?;
         Ok(counted + below)
     }
 
@@ -121,7 +121,7 @@ impl<'a> DepthCheck<'a> {
             (λ place. RefusedOne (fragments_nested self.now.fragments.now) chain (inline_of self.now.fragments.now fragment.now) memo.old steps.old place steps.new) }
     {
         steps.tick();
-        self.set(&fragment.selection_set.selections, chain, memo, steps)
+        self.selection_set(&fragment.selection_set.selections, chain, memo, steps)
     }
 
     /// The same of a spread. That of a fragment which is not defined counts nothing.
@@ -176,7 +176,7 @@ impl<'a> DepthCheck<'a> {
         }
         let body = &self.fragments.as_slice()[number].selection_set.selections;
         memo[number] = Some(0);
-        let depth = self.set(body, chain, memo, steps)?;
+        let depth = self.selection_set(body, chain, memo, steps)?;
         memo[number] = Some(depth);
         Ok(depth)
     }

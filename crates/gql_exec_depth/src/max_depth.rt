@@ -71,7 +71,7 @@ fn found_deep<L: Ledger>(
     laws::acyclic_graphs_have_ranks();
     let mut memo = vec![in alloc; None; fragments.len()]?;
     let check = DepthCheck { fragments };
-    match check.set(selections, 0, memo.as_mut_slice(), steps) {
+    match check.selection_set(selections, 0, memo.as_mut_slice(), steps) {
         Ok(_) => Ok(None),
         Err(place) => Ok(Some(place)),
     }

@@ -29,13 +29,13 @@ returns-in-Ok-clause-found g c =
     let ranked = c.acyclic_graphs_have_ranks.ensures (spread_graph all) c.requires.acyclic in
     let start = begun all c.as_mut_slice.result.now c.len.result (c.as_mut_slice.ensures.value ∙ c.in_ok-memo.ensures.items_if_clones_equal (elim [ None ↦ λ e. refl | Some x ↦ λ e. absurd e ])) c.len.ensures.value in
     accepts-low (fragments_nested all) ranked.0 (fragments-ranked all ranked.0 ranked.1)
-    (accepted (fragments_nested all) (nested all c.args.selections.now) c.as_mut_slice.result.now c.args.steps.now c.in-Ok.field-0 c.set.new.memo c.set.new.steps start c.in-Ok.ensures).accepts
+    (accepted (fragments_nested all) (nested all c.args.selections.now) c.as_mut_slice.result.now c.args.steps.now c.in-Ok.field-0 c.selection_set.new.memo c.selection_set.new.steps start c.in-Ok.ensures).accepts
 
 pub returns-in-Ok-clause-looks : goal.returns-in-Ok-clause-looks
 returns-in-Ok-clause-looks g c =
     let all = c.args.fragments.now in
     let start = begun all c.as_mut_slice.result.now c.len.result (c.as_mut_slice.ensures.value ∙ c.in_ok-memo.ensures.items_if_clones_equal (elim [ None ↦ λ e. refl | Some x ↦ λ e. absurd e ])) c.len.ensures.value in
-    let found = accepted (fragments_nested all) (nested all c.args.selections.now) c.as_mut_slice.result.now c.args.steps.now c.in-Ok.field-0 c.set.new.memo c.set.new.steps start c.in-Ok.ensures in
+    let found = accepted (fragments_nested all) (nested all c.args.selections.now) c.as_mut_slice.result.now c.args.steps.now c.in-Ok.field-0 c.selection_set.new.memo c.selection_set.new.steps start c.in-Ok.ensures in
     omega (arith, found.looks, accepts-cost found.accepts)
 
 pub returns-clause-found : goal.returns-clause-found
@@ -43,7 +43,7 @@ returns-clause-found g c =
     let all = c.args.fragments.now in
     let ranked = c.acyclic_graphs_have_ranks.ensures (spread_graph all) c.requires.acyclic in
     let start = begun all c.as_mut_slice.result.now c.len.result (c.as_mut_slice.ensures.value ∙ c.in_ok-memo.ensures.items_if_clones_equal (elim [ None ↦ λ e. refl | Some x ↦ λ e. absurd e ])) c.len.ensures.value in
-    let found = refused (fragments_nested all) (nested all c.args.selections.now) c.as_mut_slice.result.now c.args.steps.now c.in-Err.place c.set.new.steps start c.in-Err.ensures in
+    let found = refused (fragments_nested all) (nested all c.args.selections.now) c.as_mut_slice.result.now c.args.steps.now c.in-Err.place c.selection_set.new.steps start c.in-Err.ensures in
     record {
       deep = refuses-high (fragments_nested all) ranked.0 (fragments-ranked all ranked.0 ranked.1) found.refuses;
       first = refuses-place (fragments_nested all) ranked.0 (fragments-ranked all ranked.0 ranked.1) (nested all c.args.selections.now) c.in-Err.place _ found.refuses;
@@ -53,5 +53,5 @@ pub returns-clause-looks : goal.returns-clause-looks
 returns-clause-looks g c =
     let all = c.args.fragments.now in
     let start = begun all c.as_mut_slice.result.now c.len.result (c.as_mut_slice.ensures.value ∙ c.in_ok-memo.ensures.items_if_clones_equal (elim [ None ↦ λ e. refl | Some x ↦ λ e. absurd e ])) c.len.ensures.value in
-    let found = refused (fragments_nested all) (nested all c.args.selections.now) c.as_mut_slice.result.now c.args.steps.now c.in-Err.place c.set.new.steps start c.in-Err.ensures in
+    let found = refused (fragments_nested all) (nested all c.args.selections.now) c.as_mut_slice.result.now c.args.steps.now c.in-Err.place c.selection_set.new.steps start c.in-Err.ensures in
     omega (arith, found.looks, refuses-cost found.refuses)

@@ -24,39 +24,39 @@ field-returns-in_err-below g t c =
     let counted = c.weight-counted.ensures ∙ ap (λ n. weight_of n) c.as_str.ensures.text in
     from_err c.from_residual.result c.in_err-below.field-0.0 _ _ c.from_residual.ensures.1
     (field-fails all c.args.chain c.args.field.now c.args.memo.now c.args.steps.now c.tick.new.self c.weight-counted.result c.tick.ensures counted
-    c.args.field.now.selection_set.selections c.in_err-below.field-0.0 c.set.new.steps refl c.if-longer-ge-TOO_MANY.false c.in_err-below.ensures)
+    c.args.field.now.selection_set.selections c.in_err-below.field-0.0 c.selection_set.new.steps refl c.if-longer-ge-TOO_MANY.false c.in_err-below.ensures)
 
 pub field-returns : goal.field-returns
 field-returns g t c =
     let all = c.args.self.now.fragments.now in
     let counted = c.weight-counted.ensures ∙ ap (λ n. weight_of n) c.as_str.ensures.text in
     field-goes all c.args.chain c.args.field.now c.args.memo.now c.args.steps.now c.tick.new.self c.weight-counted.result c.tick.ensures counted
-    c.args.field.now.selection_set.selections c.in_ok-below.below c.set.new.memo c.set.new.steps refl c.if-longer-ge-TOO_MANY.false c.in_ok-below.ensures
+    c.args.field.now.selection_set.selections c.in_ok-below.below c.selection_set.new.memo c.selection_set.new.steps refl c.if-longer-ge-TOO_MANY.false c.in_ok-below.ensures
 
 pub inline-returns : goal.inline-returns
 inline-returns g t c =
     let all = c.args.self.now.fragments.now in
     let inside = c.args.fragment.now.selection_set.selections in
-    MatchResult-weaker c.set.result c.set.ensures
-    (λ d found. inline-goes all c.args.chain c.args.fragment.now inside c.args.memo.now c.args.steps.now c.tick.new.self refl c.tick.ensures d c.set.new.memo c.set.new.steps found)
-    (λ at found. inline-fails all c.args.chain c.args.fragment.now inside c.args.memo.now c.args.steps.now c.tick.new.self refl c.tick.ensures at c.set.new.steps found)
+    MatchResult-weaker c.selection_set.result c.selection_set.ensures
+    (λ d found. inline-goes all c.args.chain c.args.fragment.now inside c.args.memo.now c.args.steps.now c.tick.new.self refl c.tick.ensures d c.selection_set.new.memo c.selection_set.new.steps found)
+    (λ at found. inline-fails all c.args.chain c.args.fragment.now inside c.args.memo.now c.args.steps.now c.tick.new.self refl c.tick.ensures at c.selection_set.new.steps found)
 
-pub set-one-requires : goal.set-one-requires
-set-one-requires g t c κs within =
+pub selection_set-one-requires : goal.selection_set-one-requires
+selection_set-one-requires g t c κs within =
     let all = c.args.self.now.fragments.now in
     let table = fragments_nested all in
     let smaller : 4 * (total (then_more (one_of all c.selection-item.result) nothing) + unentered table c.loop-selection.memo) + 2 < 4 * (total (nested all c.args.selections.now) + unentered table c.args.memo.now) + 3 =
     item-less all c.args.selections.now c.as_slice-selection-items.result.now c.loop-selection.selection-index c.selection-item.result _ _ c.as_slice-selection-items.ensures c.loop-selection-test.true c.selection-item.is c.loop-selection.invariant.fewer in
     search rules
 
-pub set-returns-in_err-below : goal.set-returns-in_err-below
-set-returns-in_err-below g t c =
+pub selection_set-returns-in_err-below : goal.selection_set-returns-in_err-below
+selection_set-returns-in_err-below g t c =
     from_err c.from_residual.result c.in_err-below.field-0.0 _ _ c.from_residual.ensures.1
     (set-refused c.args.self.now.fragments.now c.args.chain c.args.selections.now c.as_slice-selection-items.result.now c.loop-selection.selection-index _ _ _ _ _ c.loop-selection.invariant
     c.selection-item.result c.in_err-below.field-0.0 c.one.new.steps c.loop-selection-test.true c.selection-item.is c.in_err-below.ensures)
 
-pub set-loop-selection-preserved : goal.set-loop-selection-preserved
-set-loop-selection-preserved g t c =
+pub selection_set-loop-selection-preserved : goal.selection_set-loop-selection-preserved
+selection_set-loop-selection-preserved g t c =
     let all = c.args.self.now.fragments.now in
     let is : max c.loop-selection.depth c.in_ok-below.below ≡ c.max-depth.result = search rules in
     subst (λ d. IsCheckedSoFar (fragments_nested all) c.args.chain (nested all c.args.selections.now) c.args.memo.now c.args.steps.now
@@ -64,8 +64,8 @@ set-loop-selection-preserved g t c =
     (set-more all c.args.chain c.args.selections.now c.as_slice-selection-items.result.now c.loop-selection.selection-index _ _ _ _ _ c.loop-selection.invariant
     c.selection-item.result c.in_ok-below.below c.one.new.memo c.one.new.steps c.loop-selection-test.true c.selection-item.is c.in_ok-below.ensures)
 
-pub set-returns : goal.set-returns
-set-returns g t c =
+pub selection_set-returns : goal.selection_set-returns
+selection_set-returns g t c =
     set-all c.args.self.now.fragments.now c.args.chain c.args.selections.now c.as_slice-selection-items.result.now c.loop-selection.selection-index _ _ _ _ _ c.loop-selection.invariant c.loop-selection-test.false
 
 pub spread-returns-in-Some : goal.spread-returns-in-Some
@@ -97,8 +97,8 @@ fragment-returns-in-Some g t c =
     again-goes (fragments_nested c.args.self.now.fragments.now) c.args.chain c.args.number c.args.place c.in-Some.depth c.args.memo.now c.args.steps.now c.tick.new.self
     (search rules) c.in-Some.is c.requires.low c.if-depth-chain.false c.tick.ensures
 
-pub fragment-set-requires : goal.fragment-set-requires
-fragment-set-requires g t c κs within =
+pub fragment-selection_set-requires : goal.fragment-selection_set-requires
+fragment-selection_set-requires g t c κs within =
     let all = c.args.self.now.fragments.now in
     let table = fragments_nested all in
     let f = c.args.number in
@@ -121,7 +121,7 @@ fragment-returns-in_err-depth g t c =
     let there = subst (λ l. slice_get l f ≡ Some it) c.as_slice.ensures.entries
     (slice_get_read c.as_slice.result.now (length c.as_slice.result.now) f it refl (omega (arith, c.requires.within, ap length c.as_slice.ensures.entries)) c.index-as_slice-number.is) in
     from_err c.from_residual.result c.in_err-depth.field-0.0 _ _ c.from_residual.ensures.1
-    (fragment-refused all c.args.chain f it c.args.memo.now there c.args.place slice c.args.steps.now c.tick.new.self c.in_err-depth.field-0.0 c.set.new.steps
+    (fragment-refused all c.args.chain f it c.args.memo.now there c.args.place slice c.args.steps.now c.tick.new.self c.in_err-depth.field-0.0 c.selection_set.new.steps
     (ap (λ x. x.selection_set.selections) (sym c.index-as_slice-number.is)) fresh c.tick.ensures c.in_err-depth.ensures)
 
 pub fragment-returns : goal.fragment-returns
@@ -133,5 +133,5 @@ fragment-returns g t c =
     let fresh : slice_get c.args.memo.now f ≡ Some None = memo-is c.args.memo.now f None (omega (arith, c.requires.within, c.requires.sized)) (none_from (get_or c.args.memo.now f None) c.in_default.not-Some) in
     let there = subst (λ l. slice_get l f ≡ Some it) c.as_slice.ensures.entries
     (slice_get_read c.as_slice.result.now (length c.as_slice.result.now) f it refl (omega (arith, c.requires.within, ap length c.as_slice.ensures.entries)) c.index-as_slice-number.is) in
-    fragment-accepted all c.args.chain f it c.args.memo.now there c.args.place slice c.args.steps.now c.tick.new.self c.in_ok-depth.depth c.set.new.memo c.set.new.steps
+    fragment-accepted all c.args.chain f it c.args.memo.now there c.args.place slice c.args.steps.now c.tick.new.self c.in_ok-depth.depth c.selection_set.new.memo c.selection_set.new.steps
     (ap (λ x. x.selection_set.selections) (sym c.index-as_slice-number.is)) fresh c.tick.ensures c.in_ok-depth.ensures

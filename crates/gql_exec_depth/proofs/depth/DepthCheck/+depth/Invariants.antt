@@ -5,8 +5,8 @@ use Rattle.gql_exec_depth.specs.View.{nested, one_of, inline_of, field_of, then_
 use Rattle.gql_exec_depth.proofs.DepthSteps.{IsCheckedSoFar}
 use Rattle.gql_exec_depth.proofs.depth.DepthCheck.+depth.Given as goal
 
-abbrev pub decreases-set : goal.decreases-set
-decreases-set g l = 4 * (total (nested l.self.now.fragments.now l.selections.now) + unentered (fragments_nested l.self.now.fragments.now) l.memo.now) + 3
+abbrev pub decreases-selection_set : goal.decreases-selection_set
+decreases-selection_set g l = 4 * (total (nested l.self.now.fragments.now l.selections.now) + unentered (fragments_nested l.self.now.fragments.now) l.memo.now) + 3
 
 abbrev pub decreases-one : goal.decreases-one
 decreases-one g l = 4 * (total (then_more (one_of l.self.now.fragments.now l.selection.now) nothing) + unentered (fragments_nested l.self.now.fragments.now) l.memo.now) + 2
@@ -23,7 +23,7 @@ decreases-spread g l = 4 * (1 + unentered (fragments_nested l.self.now.fragments
 abbrev pub decreases-fragment : goal.decreases-fragment
 decreases-fragment g l = 4 * (1 + unentered (fragments_nested l.self.now.fragments.now) l.memo.now)
 
-abbrev pub invariant-set-loop-selection : goal.invariant-set-loop-selection
-invariant-set-loop-selection g l =
+abbrev pub invariant-selection_set-loop-selection : goal.invariant-selection_set-loop-selection
+invariant-selection_set-loop-selection g l =
     IsCheckedSoFar (fragments_nested l.self.fragments.now) l.chain (nested l.self.fragments.now l.selections) l.fn.memo l.fn.steps
     (nested l.self.fragments.now (drop l.selection-index l.selection-items)) l.depth l.memo l.steps
