@@ -1,0 +1,79 @@
+//! The text of an error with a message, and with a place if it has one.
+
+ghost use Rattle.std.specs.Prelude.{◌≡◌, ◌++◌, [], ◌∷◌, true, pos, map, option_to_list, codes, OnOk, string_bytes};
+ghost use Rattle.jb_tree.specs.declared.value.Value.TheVariants as json;
+ghost use Rattle.jb_print.specs.Compact.{compact};
+ghost use Rattle.jb_print.specs.Pieces.{member_piece, pieces_text};
+ghost use Rattle.gql_response.specs.Response.{error_value, list_member, location_value};
+ghost use Rattle.gql_refusal.specs.Refusal.{error_of, error_with};
+
+use gql_diag::DiagnosticData;
+use gql_source::{LineColumn, SourceMap};
+use jb_print::{append_string, append_value};
+use jb_text::{Memory, Number};
+use jb_tree::Value;
+use std::alloc::Global;
+
+/// Appends the error of a diagnostic. `Err` only for want of memory.
+pub(crate) fn append_diagnostic(
+    alloc: Global,
+    out: &mut String,
+    sources: &SourceMap,
+    item: &DiagnosticData,
+) -> Result<(), Memory>
+    ensures { OnOk result (string_bytes out.new ≡ string_bytes out.old ++ compact (error_value (error_of sources.now item.now))) }
+{
+    let message = item.details.message(alloc)?;
+    append_error(out, message.as_str(), place_of(sources, item))
+}
+
+/// The line and column of a diagnostic, where its place is found in the files.
+fn place_of(sources: &SourceMap, item: &DiagnosticData) -> Option<LineColumn>
+    ensures { option_to_list result ≡ (error_of sources.now item.now).locations }
+{
+    match item.location {
+        Some(location) => location.line_column(sources),
+        None => None,
+    }
+}
+
+/// Appends an error with a message, and with a place if there is one.
+fn append_error(out: &mut String, message: &str, place: Option<LineColumn>) -> Result<(), Memory>
+    ensures { OnOk result (string_bytes out.new ≡ string_bytes out.old ++ compact (error_value (error_with message.now (option_to_list place)))) }
+{
+    out.push_str("{\"message\":")?;
+    append_string(out, message)?;
+    append_places(out, place)?;
+    out.push_str("}")?;
+    Ok(())
+}
+
+/// Appends the member of an error that has its places, where there is one.
+fn append_places(out: &mut String, place: Option<LineColumn>) -> Result<(), Memory>
+    ensures { OnOk result (string_bytes out.new ≡ string_bytes out.old
+        ++ pieces_text true (map member_piece (list_member (codes "locations") (map location_value (option_to_list place))))) }
+{
+    match place {
+        Some(place) => append_place(out, place),
+        None => Ok(()),
+    }
+}
+
+fn append_place(out: &mut String, place: LineColumn) -> Result<(), Memory>
+    ensures { OnOk result (string_bytes out.new ≡ string_bytes out.old
+        ++ pieces_text true (map member_piece (list_member (codes "locations") (map location_value (place ∷ []))))) }
+{
+    out.push_str(",\"locations\":[{\"line\":")?;
+    append_whole(out, place.line)?;
+    out.push_str(",\"column\":")?;
+    append_whole(out, place.column)?;
+    out.push_str("}]")?;
+    Ok(())
+}
+
+/// Appends a count as a JSON number.
+fn append_whole(out: &mut String, count: usize) -> Result<(), Memory>
+    ensures { OnOk result (string_bytes out.new ≡ string_bytes out.old ++ compact (json.Number (pos count))) }
+{
+    append_value(out, &Value::Number(Number::from_u64(count as u64)))
+}
