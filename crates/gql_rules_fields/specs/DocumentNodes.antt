@@ -13,7 +13,8 @@ use Rattle.gql_diag_messages.specs.declared.diagnostic_data.DiagnosticData.{Diag
 use Rattle.gql_document_types.specs.declared.document.ExecutableDocument.{ExecutableDocument}
 use Rattle.gql_document_types.specs.declared.fragment.Fragment.{Fragment}
 use Rattle.gql_document_types.specs.declared.selection.Field.{Field}
-use Rattle.gql_rules_nodes.specs.Nodes.{Node, operation, fragment, field, spread, inline_fragment, OperationNode, FragmentNode, FieldNode, SpreadNode, InlineNode, nodes}
+use Rattle.gql_rules_nodes.specs.Nodes.{Node, operation, fragment, field, spread, inline_fragment, nodes}
+use Rattle.gql_rules_nodes.specs.Nodes.{OperationNode, FragmentNode, FieldNode, SpreadNode, InlineNode}
 use Rattle.gql_rules_values.specs.Arguments.{argument_faults}
 use Rattle.gql_rules_values.specs.Directives.{directive_faults}
 use Rattle.gql_schema_types.specs.declared.schema.Schema.{Schema}

@@ -158,13 +158,13 @@ fn table_of(alloc: Global, names: &[Name]) -> Result<KeyTable, Memory>
 {
     let mut table = KeyTable::new(alloc);
     for name in names {
-        note(alloc, &mut table, name)?;
+        note_name(alloc, &mut table, name)?;
     }
     Ok(table)
 }
 
 /// Adds a name to a table, unless it is there.
-fn note(alloc: Global, table: &mut KeyTable, name: &Name) -> Result<(), Memory>
+fn note_name(alloc: Global, table: &mut KeyTable, name: &Name) -> Result<(), Memory>
     ensures { OnOk result (table.new ≡ with_name table.old name.now) }
 {
     match table.find(name.as_str()) {

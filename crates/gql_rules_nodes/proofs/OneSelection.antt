@@ -1,14 +1,14 @@
 -- The nodes of selections, one by one.
-use Rattle.std.proofs.Common.{rules, ◌≡◌, Bool, List, [], ◌∷◌, ◌++◌, map, refl, sym, ap, ◌∙◌, append_assoc}
+use Rattle.std.proofs.Common.{rules, ◌≡◌, Bool, List, [], ◌∷◌, ◌++◌, map, refl, ap, ◌∙◌}
 use Rattle.std.specs.List.{flat_map}
 use Rattle.std.proofs.lemmas.Grind.{flat_map-append}
 use Rattle.gql_ast_base.specs.Names.{Named}
 use Rattle.gql_document_types.specs.declared.selection.Field.{Field}
 use Rattle.gql_document_types.specs.declared.selection.FragmentSpread.{FragmentSpread}
 use Rattle.gql_document_types.specs.declared.selection.InlineFragment.{InlineFragment}
-use Rattle.gql_document_types.specs.declared.selection.Selection.{Selection, the_lemmas}
+use Rattle.gql_document_types.specs.declared.selection.Selection.{the_lemmas}
 use Rattle.gql_document_types.specs.declared.selection.Selection.TheVariants as selection
-use Rattle.gql_rules_nodes.specs.Nodes.{Node, field, FieldNode, is_nonempty, field_at, spread_at, inline_at, selection_nodes, selections_nodes, set_nodes, field_nodes, inline_nodes}
+use Rattle.gql_rules_nodes.specs.Nodes.{Node, field, is_nonempty, spread_at, selection_nodes, set_nodes, field_nodes, inline_nodes}
 
 is_nonempty-map : {A B : Type 0} (f : A → B) (xs : List A) → is_nonempty (map f xs) ≡ is_nonempty xs
 is_nonempty-map f [] = refl
