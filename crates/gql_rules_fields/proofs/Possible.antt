@@ -19,7 +19,7 @@ use Rattle.gql_schema_types.specs.declared.implementers.Implementers.{Implemente
 use Rattle.gql_schema_types.specs.declared.types.ExtendedType.{ExtendedType}
 use Rattle.gql_schema_types.specs.declared.types.ExtendedType.TheVariants as type
 use Rattle.jb_map.proofs.Positions.{beside, keys_back}
-use Rattle.gql_rules_fields.specs.PossibleTypes.{texts_of, is_among, possible_names, possible_texts, distinct_texts, objects_in, names_in, tables_in}
+use Rattle.gql_rules_fields.specs.PossibleTypes.{texts_of, is_among, possible_names, possible_texts, have_common, distinct_texts, objects_in, names_in, tables_in}
 use Rattle.gql_rules_fields.specs.Seen.{with_name}
 
 -- ---- tests
@@ -157,3 +157,26 @@ table_at implementers types known tables are name at is =
     ∙ ap (option_map (λ ty. distinct_texts (names_in implementers ty))) (sym (found (is_called type_name name) types at is))
     ∙ map-same (λ ty. distinct_texts (names_in implementers ty)) (λ ty. distinct_texts (possible_names types ty))
     (λ ty. ap distinct_texts (names-known implementers types known ty)) (type_called name types)
+
+-- ---- what is answered at a name
+
+-- one of the names is possible for a type, by its table
+pub any_at : (types : List ExtendedType) (names : List Named) (o : Option ExtendedType) (table : List (List ℕ))
+    → Some table ≡ option_map (λ ty. distinct_texts (possible_names types ty)) o
+    → list_any (λ (name : Named). is_some (position (bytes_eq name.text) table)) names
+    ≡ option_map_or (λ ty. list_any (is_among (possible_texts types ty)) (texts_of names)) o true
+any_at types names None table is = absurd cc
+any_at types names (Some ty) table is =
+    ap (λ o. option_map_or (λ (table : List (List ℕ)). list_any (λ (name : Named). is_some (position (bytes_eq name.text) table)) names) o true) is
+    ∙ any-table (possible_names types ty) names
+
+-- the names of the second type, looked for among those of the first
+pub other_way : (types : List ExtendedType) (a b : Option ExtendedType) (names others : List Named)
+    → option_map (possible_names types) a ≡ Some names → Some others ≡ option_map (possible_names types) b
+    → option_map_or (λ ty. list_any (is_among (possible_texts types ty)) (texts_of others)) a true
+    ≡ option_map_or (λ x. option_map_or (have_common types x) b true) a true
+other_way types None b names others is also = refl
+other_way types (Some x) None names others is also = absurd cc
+other_way types (Some x) (Some y) names others is also =
+    ap (λ o. option_map_or (λ (names : List Named). list_any (is_among (possible_texts types x)) (texts_of names)) o true) also
+    ∙ any-symmetric (possible_texts types y) (possible_texts types x)

@@ -13,6 +13,7 @@ use Rattle.gql_diag_messages.specs.declared.diagnostic_data.DiagnosticData.{Diag
 use Rattle.gql_document_types.specs.declared.document.ExecutableDocument.{ExecutableDocument}
 use Rattle.gql_document_types.specs.declared.fragment.Fragment.{Fragment}
 use Rattle.gql_document_types.specs.declared.selection.Field.{Field}
+use Rattle.gql_document_types.specs.declared.selection.InlineFragment.{InlineFragment}
 use Rattle.gql_rules_nodes.specs.Nodes.{Node, operation, fragment, field, spread, inline_fragment, nodes}
 use Rattle.gql_rules_nodes.specs.Nodes.{OperationNode, FragmentNode, FieldNode, SpreadNode, InlineNode}
 use Rattle.gql_rules_values.specs.Arguments.{argument_faults}
@@ -35,8 +36,8 @@ module _ (types : List ExtendedType) (parent : Named) where
   abbrev pub one_condition : Option Span → Named → List DiagnosticData
   one_condition place condition = invalid_target types [] condition.text place ++ invalid_spread types [] parent.text condition.text place
 
-  abbrev pub condition_faults : Option Named → Option Span → List DiagnosticData
-  condition_faults condition place = option_map_or (one_condition place) condition []
+  abbrev pub condition_at : InlineFragment → List DiagnosticData
+  condition_at it = option_map_or (one_condition it.location) it.type_condition []
 
 module _ (schema : Schema) where
   abbrev pub directives_at : DirectiveLocation → List Directive → List DiagnosticData

@@ -16,19 +16,19 @@ use std::alloc::Global;
 /// has no type.
 pub(crate) fn list_invalid_spread(
     alloc: Global,
-    schema: &PossibleTypes<'_>,
+    possible: &PossibleTypes<'_>,
     fragments: &Table<Fragment>,
     parent: &str,
     spread: &FragmentSpread,
     faults: &mut Listed<DiagnosticData>,
 ) -> Result<(), Memory>
     ensures { OnOk result (faults.new
-        ≡ faults.old ++ spec.spread_at schema.now.types fragments.now parent.now spread.now.fragment_name.text spread.now.location) }
+        ≡ faults.old ++ spec.spread_at possible.now.schema.now.types fragments.now parent.now spread.now.fragment_name.text spread.now.location) }
 {
     match fragments.get(spread.fragment_name.as_str()) {
         Some(fragment) => list_invalid_fragment_spread(
             alloc,
-            schema,
+            possible,
             spread.fragment_name.as_str(),
             parent,
             fragment.selection_set.ty.as_str(),
@@ -43,16 +43,16 @@ pub(crate) fn list_invalid_spread(
 /// stands in and for its condition.
 pub(crate) fn list_invalid_fragment_spread(
     alloc: Global,
-    schema: &PossibleTypes<'_>,
+    possible: &PossibleTypes<'_>,
     name: &str,
     parent: &str,
     condition: &str,
     place: Option<SourceSpan>,
     faults: &mut Listed<DiagnosticData>,
 ) -> Result<(), Memory>
-    ensures { OnOk result (faults.new ≡ faults.old ++ spec.invalid_spread schema.now.types name.now parent.now condition.now place) }
+    ensures { OnOk result (faults.new ≡ faults.old ++ spec.invalid_spread possible.now.schema.now.types name.now parent.now condition.now place) }
 {
-    if schema.can_meet(parent, condition) {
+    if possible.can_meet(parent, condition) {
         Ok(())
     } else {
         list_fault(

@@ -17,7 +17,6 @@ use gql_document_types::{Field, Fragment, FragmentSpread, InlineFragment, Operat
 use gql_rules_nodes::Visitor;
 use gql_rules_values::{Call, list_arguments, list_directives};
 use gql_schema_types::Table;
-use gql_source::SourceSpan;
 use jb_text::{Listed, Memory};
 use std::alloc::Global;
 
@@ -34,7 +33,7 @@ impl Visitor for NodeRules<'_> {
 
     ghost use Rattle.gql_rules_fields.specs.DocumentNodes.{node_faults};
 
-    ghost at = { λ rules. node_faults rules.possible.now rules.fragments.now };
+    ghost at = { λ rules. node_faults rules.possible.now.schema.now rules.fragments.now };
 
     fn operation(
         &self,
@@ -48,7 +47,7 @@ impl Visitor for NodeRules<'_> {
         )?;
         list_variables(
             self.alloc,
-            self.possible.schema(),
+            self.possible.schema,
             operation.variables.as_slice(),
             faults,
         )
@@ -66,7 +65,7 @@ impl Visitor for NodeRules<'_> {
         )?;
         list_invalid_fragment_target(
             self.alloc,
-            &self.possible.schema().types,
+            &self.possible.schema.types,
             fragment.name.as_str(),
             fragment.selection_set.ty.as_str(),
             fragment.location,
@@ -82,7 +81,7 @@ impl Visitor for NodeRules<'_> {
     ) -> Result<(), Memory> {
         self.list_directives(DirectiveLocation::Field, &field.directives, faults)?;
         self.list_arguments(field, faults)?;
-        list_missing_subselection(self.alloc, &self.possible.schema().types, field, faults)
+        list_missing_subselection(self.alloc, &self.possible.schema.types, field, faults)
     }
 
     fn spread(
@@ -117,7 +116,7 @@ impl Visitor for NodeRules<'_> {
             &fragment.directives,
             faults,
         )?;
-        self.list_condition(ty, &fragment.type_condition, fragment.location, faults)
+        self.list_condition(ty, fragment, faults)
     }
 }
 
@@ -129,11 +128,11 @@ impl NodeRules<'_> {
         directives: &Listed<Directive>,
         faults: &mut Listed<DiagnosticData>,
     ) -> Result<(), Memory>
-        ensures { OnOk result (faults.new ≡ faults.old ++ spec.directives_at self.now.possible.now location directives.now) }
+        ensures { OnOk result (faults.new ≡ faults.old ++ spec.directives_at self.now.possible.now.schema.now location directives.now) }
     {
         list_directives(
             self.alloc,
-            self.possible.schema(),
+            self.possible.schema,
             location,
             directives.as_slice(),
             faults,
@@ -146,7 +145,7 @@ impl NodeRules<'_> {
         field: &Field,
         faults: &mut Listed<DiagnosticData>,
     ) -> Result<(), Memory>
-        ensures { OnOk result (faults.new ≡ faults.old ++ spec.arguments_at self.now.possible.now field.now) }
+        ensures { OnOk result (faults.new ≡ faults.old ++ spec.arguments_at self.now.possible.now.schema.now field.now) }
     {
         let call = Call {
             directive: false,
@@ -155,7 +154,7 @@ impl NodeRules<'_> {
         };
         list_arguments(
             self.alloc,
-            &self.possible.schema().types,
+            &self.possible.schema.types,
             &call,
             field.definition.arguments.as_slice(),
             field.arguments.as_slice(),
@@ -167,34 +166,33 @@ impl NodeRules<'_> {
     fn list_condition(
         &self,
         ty: &Name,
-        condition: &Option<Name>,
-        place: Option<SourceSpan>,
+        fragment: &InlineFragment,
         faults: &mut Listed<DiagnosticData>,
     ) -> Result<(), Memory>
-        ensures { OnOk result (faults.new ≡ faults.old ++ spec.condition_faults self.now.possible.now.types ty.now condition.now place) }
+        ensures { OnOk result (faults.new ≡ faults.old ++ spec.condition_at self.now.possible.now.schema.now.types ty.now fragment.now) }
     {
-        match condition {
-            Some(condition) => self.list_present_condition(ty, condition, place, faults),
+        match &fragment.type_condition {
+            Some(condition) => self.list_present_condition(ty, fragment, condition, faults),
             None => Ok(()),
         }
     }
 
-    /// Lists what is wrong with this condition of an inline fragment.
+    /// Lists what is wrong with an inline fragment whose condition is this one.
     fn list_present_condition(
         &self,
         ty: &Name,
+        fragment: &InlineFragment,
         condition: &Name,
-        place: Option<SourceSpan>,
         faults: &mut Listed<DiagnosticData>,
     ) -> Result<(), Memory>
-        ensures { OnOk result (faults.new ≡ faults.old ++ spec.one_condition self.now.possible.now.types ty.now place condition.now) }
+        ensures { OnOk result (faults.new ≡ faults.old ++ spec.one_condition self.now.possible.now.schema.now.types ty.now fragment.now.location condition.now) }
     {
         list_invalid_fragment_target(
             self.alloc,
-            &self.possible.schema().types,
+            &self.possible.schema.types,
             "",
             condition.as_str(),
-            place,
+            fragment.location,
             faults,
         )?;
         list_invalid_fragment_spread(
@@ -203,7 +201,7 @@ impl NodeRules<'_> {
             "",
             ty.as_str(),
             condition.as_str(),
-            place,
+            fragment.location,
             faults,
         )
     }

@@ -1,9 +1,11 @@
 //! The object types that are possible where a type is (GraphQL October 2021, section 5.5.2.3).
 
-ghost use Rattle.std.specs.Prelude.{◌≡◌, true, Some, is_some, position, IfOk, OnOk};
+ghost use Rattle.std.specs.Prelude.{◌≡◌, ℕ, List, true, Some, is_some, position, IfOk, OnOk};
 ghost use Rattle.std.specs.List.{list_any};
+ghost use Rattle.std.specs.Map.{lookup};
 ghost use Rattle.std.specs.Option.{option_copied, option_map, option_map_or};
 ghost use Rattle.std.specs.Str.{bytes_eq};
+ghost use Rattle.gql_schema_types.specs.Implementers.{implementers_of};
 ghost use Rattle.gql_schema_types.specs.Types.{type_called};
 ghost use Rattle.gql_rules_fields.specs.PossibleTypes as spec;
 ghost use Rattle.gql_rules_fields.specs.Seen.{with_name};
@@ -13,37 +15,22 @@ use gql_schema_types::{ExtendedType, ImplementersMap, Schema};
 use jb_map::KeyTable;
 use jb_text::{Listed, Memory};
 use std::alloc::Global;
-use std::marker::Model;
 use std::slice;
 
-/// A schema, with the possible object types of each of its types, which are found by hash. Contracts see the schema.
+/// A schema, with the possible object types of each of its types, which are found by hash.
 #[derive(Drop)]
 pub(crate) struct PossibleTypes<'s> {
-    schema: &'s Schema,
+    pub(crate) schema: &'s Schema,
     implementers: ImplementersMap,
     tables: Listed<KeyTable>,
-}
-
-impl<'s> Model for PossibleTypes<'s> {
-    ghost use Rattle.std.specs.Prelude.{◌≡◌, ℕ, List};
-    ghost use Rattle.std.specs.Map.{lookup};
-    ghost use Rattle.std.specs.Str.{bytes_eq};
-    ghost use Rattle.gql_schema_types.specs.Implementers.{implementers_of};
-    ghost use Rattle.gql_schema_types.specs.declared.schema.Schema as declared;
-    ghost use Rattle.gql_rules_fields.specs.PossibleTypes.{tables_in};
-
-    ghost Value = { declared.Schema };
-
-    ghost view = { λ possible. possible.schema.now };
-
-    ghost invariant = { λ possible. ((name : List ℕ) → lookup (bytes_eq name) possible.implementers ≡ implementers_of name possible.schema.now.types)
-        × (possible.tables ≡ tables_in possible.implementers possible.schema.now.types) };
+    ghost implementers_known: { (name : List ℕ) → lookup (bytes_eq name) implementers ≡ implementers_of name schema.now.types },
+    ghost tables_known: { tables ≡ spec.tables_in implementers schema.now.types },
 }
 
 impl<'s> PossibleTypes<'s> {
     /// The schema with its possible types. `Err` only for want of memory.
     pub(crate) fn new(alloc: Global, schema: &'s Schema) -> Result<PossibleTypes<'s>, Memory>
-        ensures { IfOk result (λ made. made ≡ schema.now) }
+        ensures { IfOk result (λ made. made.schema.now ≡ schema.now) }
     {
         let implementers = schema.implementers_map(alloc)?;
         let tables = possible_tables(alloc, schema.types.as_slice(), &implementers)?;
@@ -54,16 +41,9 @@ impl<'s> PossibleTypes<'s> {
         })
     }
 
-    /// The schema.
-    pub(crate) fn schema(&self) -> &'s Schema
-        ensures { result.now ≡ self.now }
-    {
-        self.schema
-    }
-
     /// Whether an object type is possible for both types, or one of them is not defined.
     pub(crate) fn can_meet(&self, first: &str, second: &str) -> bool
-        ensures { result ≡ spec.can_meet self.now.types first.now second.now }
+        ensures { result ≡ spec.can_meet self.now.schema.now.types first.now second.now }
     {
         match self.names(first) {
             Some(names) => self.can_meet_names(first, names, second),
@@ -74,8 +54,8 @@ impl<'s> PossibleTypes<'s> {
     /// The same, where these are the names of the objects that are possible for the first type: the fewer names are gone
     /// through.
     fn can_meet_names(&self, first: &str, names: &[Name], second: &str) -> bool
-        requires { option_map (spec.possible_names self.now.types) (type_called first.now self.now.types) ≡ Some names.now }
-        ensures { result ≡ spec.can_meet self.now.types first.now second.now }
+        requires { option_map (spec.possible_names self.now.schema.now.types) (type_called first.now self.now.schema.now.types) ≡ Some names.now }
+        ensures { result ≡ spec.can_meet self.now.schema.now.types first.now second.now }
     {
         match self.names(second) {
             Some(others) if others.len() < names.len() => self.is_any_possible(others, first),
@@ -86,7 +66,7 @@ impl<'s> PossibleTypes<'s> {
 
     /// Whether one of these names is that of an object that is possible for the type of the name, or that is not defined.
     fn is_any_possible(&self, names: &[Name], name: &str) -> bool
-        ensures { result ≡ option_map_or (λ ty. list_any (spec.is_among (spec.possible_texts self.now.types ty)) (spec.texts_of names.now)) (type_called name.now self.now.types) true }
+        ensures { result ≡ option_map_or (λ ty. list_any (spec.is_among (spec.possible_texts self.now.schema.now.types ty)) (spec.texts_of names.now)) (type_called name.now self.now.schema.now.types) true }
     {
         match self.table(name) {
             Some(table) => is_any_in(names, table),
@@ -96,7 +76,7 @@ impl<'s> PossibleTypes<'s> {
 
     /// The names of the objects that are possible for the type of the name, if that is defined.
     fn names(&self, name: &str) -> Option<&[Name]>
-        ensures { option_copied result ≡ option_map (spec.possible_names self.now.types) (type_called name.now self.now.types) }
+        ensures { option_copied result ≡ option_map (spec.possible_names self.now.schema.now.types) (type_called name.now self.now.schema.now.types) }
     {
         match self.schema.types.get(name) {
             Some(ty) => Some(names_of(&self.implementers, ty)),
@@ -106,7 +86,7 @@ impl<'s> PossibleTypes<'s> {
 
     /// The table of these names.
     fn table(&self, name: &str) -> Option<&KeyTable>
-        ensures { option_copied result ≡ option_map (λ ty. spec.distinct_texts (spec.possible_names self.now.types ty)) (type_called name.now self.now.types) }
+        ensures { option_copied result ≡ option_map (λ ty. spec.distinct_texts (spec.possible_names self.now.schema.now.types ty)) (type_called name.now self.now.schema.now.types) }
     {
         match self.schema.types.find(name) {
             Some(at) => self.tables.get(at),
