@@ -1,6 +1,6 @@
 -- The possible types of types, by tables of their names.
 use Rattle.std.proofs.Common.{◌≡◌, ℕ, Bool, true, false, ◌&&◌, ◌||◌, cond, if◌then◌else◌, Option, Some, None, is_some, List, [], ◌∷◌, ◌++◌, map, fold, filter, position, slice_get, refl, sym, ap, ◌∙◌}
-use Rattle.std.specs.List.{list_any, find}
+use Rattle.std.specs.List.{list_any}
 use Rattle.std.specs.Map.{lookup}
 use Rattle.std.specs.Option.{option_map, option_map_or}
 use Rattle.std.specs.Str.{bytes_eq}
@@ -19,7 +19,7 @@ use Rattle.gql_schema_types.specs.declared.implementers.Implementers.{Implemente
 use Rattle.gql_schema_types.specs.declared.types.ExtendedType.{ExtendedType}
 use Rattle.gql_schema_types.specs.declared.types.ExtendedType.TheVariants as type
 use Rattle.jb_map.proofs.Positions.{beside, keys_back}
-use Rattle.gql_rules_fields.specs.PossibleTypes.{texts_of, is_among, possible_names, possible_texts, have_common, distinct_texts, objects_in, names_in, tables_in}
+use Rattle.gql_rules_fields.specs.PossibleTypes.{texts_of, is_among, possible_names, possible_texts, have_common, distinct_texts, names_in, tables_in}
 use Rattle.gql_rules_fields.specs.Seen.{with_name}
 
 -- ---- tests

@@ -1,5 +1,5 @@
 -- A field of a composite type has selections: section 5.3.3 of GraphQL October 2021.
-use Rattle.std.specs.Prelude.{ℕ, Bool, ◌&&◌, not, List, [], ◌∷◌, Option, None}
+use Rattle.std.specs.Prelude.{Bool, ◌&&◌, not, List, [], ◌∷◌, Option, None}
 use Rattle.gql_source.specs.Span.{Span}
 use Rattle.gql_ast_base.specs.Names.{Named}
 use Rattle.gql_ast_print.specs.TypeText.{type_text}
