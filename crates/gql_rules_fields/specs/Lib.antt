@@ -1,0 +1,11 @@
+pub mod Composite
+pub mod DocumentNodes
+pub mod InvalidFragmentSpread
+pub mod InvalidFragmentTarget
+pub mod MissingSubselection
+pub mod PossibleTypes
+pub mod Seen
+pub mod UniqueVariable
+pub mod VariableInputType
+pub mod VariableType
+pub mod Variables
