@@ -1,0 +1,3 @@
+mod CycleTold
+mod FromStarts
+mod OneName

@@ -1,0 +1,6 @@
+pub mod Reached
+pub mod RecursiveFragmentDefinition
+pub mod SpreadFaults
+pub mod UndefinedFragment
+pub mod UnusedFragment
+pub mod WayRound
