@@ -6,3 +6,4 @@ pub mod Numerals
 pub mod VariableLemmas
 pub mod Found
 pub mod Outcomes
+pub mod TypeParts

@@ -15,3 +15,4 @@ pub mod InputTypes
 pub mod ByName
 pub mod Told
 pub mod Inputs
+pub mod Wanted

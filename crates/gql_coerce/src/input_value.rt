@@ -13,17 +13,19 @@ ghost use Rattle.gql_coerce.specs.TypeShape.{wrap, innermost, is_non_null};
 ghost use Rattle.gql_coerce.specs.Filled.{filled, absent, not_given};
 ghost use Rattle.gql_coerce.specs.InputValue as spec;
 ghost use Rattle.gql_coerce.specs.InputTypes.{field_name};
+ghost use Rattle.gql_coerce.specs.Wanted.{IsFound};
 ghost use Rattle.gql_coerce.specs.InputValue.{coerced, leaf, object, first_unknown, misfit, input_object, field_value, places, taken, each_at};
 
 use crate::fault::{CoercionFault, refuse, suspect};
-use crate::input_types::{input_object_called, is_field};
+use crate::input_types::is_field;
 use crate::messages::{could_not_coerce, non_input_type, null_value, undefined_type, unknown_key};
 use crate::missing::Missing;
 use crate::outcome::{given_value, places, put};
 use crate::scalar::{enum_takes, scalar_takes};
 use crate::subject::Subject;
 use crate::translation::translate;
-use crate::type_shape::{innermost, is_non_null, item_type, wrap};
+use crate::type_shape::{innermost, is_non_null, wrap};
+use crate::wanted::Wanted;
 use gql_ast_base::Name;
 use gql_ast_definitions::InputValueDefinition;
 use gql_ast_values::{TypeRef, Value as Literal};
@@ -46,23 +48,24 @@ impl<'s> Coercion<'s> {
         &self,
         value: &Value,
         subject: &Subject<'_>,
-        ty: &TypeRef,
+        wanted: &Wanted<'_>,
     ) -> Result<Value, Refused<CoercionFault>>
-        ensures { Answers (coerced self.now.types.now value.now (subject_text subject.now) ty.now) result }
+        requires { IsFound self.now.types.now wanted.now }
+        ensures { Answers (coerced self.now.types.now value.now (subject_text subject.now) wanted.now.ty.now) result }
     {
         match value {
-            Value::Null => self.coerce_null(subject, ty),
-            Value::Array(items) => match item_type(ty) {
-                Some(item) => self.coerce_items(items, subject, item),
-                None => self.coerce_leaf(value, subject, innermost(ty)),
+            Value::Null => self.coerce_null(subject, wanted.ty),
+            Value::Array(items) => match wanted.items() {
+                Some(item) => self.coerce_items(items, subject, &item),
+                None => self.coerce_leaf(value, subject, wanted),
             },
             Value::Object(members) => {
-                let made = self.coerce_object(members, value, subject, innermost(ty));
-                self.wrapped(ty, made)
+                let made = self.coerce_object(members, value, subject, wanted);
+                self.wrapped(wanted.ty, made)
             }
-            Value::Bool(_) => self.coerce_single(value, subject, ty),
-            Value::Number(_) => self.coerce_single(value, subject, ty),
-            Value::String(_) => self.coerce_single(value, subject, ty),
+            Value::Bool(_) => self.coerce_single(value, subject, wanted),
+            Value::Number(_) => self.coerce_single(value, subject, wanted),
+            Value::String(_) => self.coerce_single(value, subject, wanted),
         }
     }
 
@@ -85,12 +88,13 @@ impl<'s> Coercion<'s> {
         &self,
         value: &Value,
         subject: &Subject<'_>,
-        ty: &TypeRef,
+        wanted: &Wanted<'_>,
     ) -> Result<Value, Refused<CoercionFault>>
-        ensures { Answers (mapped (wrap ty.now) (leaf self.now.types.now (subject_text subject.now) (innermost ty.now) value.now)) result }
+        requires { IsFound self.now.types.now wanted.now }
+        ensures { Answers (mapped (wrap wanted.now.ty.now) (leaf self.now.types.now (subject_text subject.now) (innermost wanted.now.ty.now) value.now)) result }
     {
-        let made = self.coerce_leaf(value, subject, innermost(ty));
-        self.wrapped(ty, made)
+        let made = self.coerce_leaf(value, subject, wanted);
+        self.wrapped(wanted.ty, made)
     }
 
     /// The value in a list of its own for each list of the type.
@@ -113,9 +117,10 @@ impl<'s> Coercion<'s> {
         &self,
         items: &Listed<Value>,
         subject: &Subject<'_>,
-        item: &TypeRef,
+        item: &Wanted<'_>,
     ) -> Result<Value, Refused<CoercionFault>>
-        ensures { Answers (each_at (coerced self.now.types.now) (subject_text subject.now) item.now items.now) result }
+        requires { IsFound self.now.types.now item.now }
+        ensures { Answers (each_at (coerced self.now.types.now) (subject_text subject.now) item.now.ty.now items.now) result }
     {
         let mut made = Listed::new(self.alloc);
         for value in items.as_slice() {
@@ -127,16 +132,18 @@ impl<'s> Coercion<'s> {
         Ok(Value::Array(made))
     }
 
-    /// A value without members as an input of the type of this name.
+    /// A value without members as an input of the type within all lists.
     fn coerce_leaf(
         &self,
         value: &Value,
         subject: &Subject<'_>,
-        name: &Name,
+        wanted: &Wanted<'_>,
     ) -> Result<Value, Refused<CoercionFault>>
-        ensures { Answers (leaf self.now.types.now (subject_text subject.now) name.now value.now) result }
+        requires { IsFound self.now.types.now wanted.now }
+        ensures { Answers (leaf self.now.types.now (subject_text subject.now) (innermost wanted.now.ty.now) value.now) result }
     {
-        match self.types.get(name.as_str()) {
+        let name = innermost(wanted.ty);
+        match wanted.found {
             None => self.undefined(subject, name),
             Some(ExtendedType::Scalar(_)) => {
                 let takes = scalar_takes(name.as_str(), value);
@@ -153,20 +160,21 @@ impl<'s> Coercion<'s> {
         }
     }
 
-    /// A value with these members as an input of the type of this name.
+    /// A value with these members as an input of the type within all lists.
     #[cycle(coerce)]
     fn coerce_object(
         &self,
         members: &Map,
         value: &Value,
         subject: &Subject<'_>,
-        name: &Name,
+        wanted: &Wanted<'_>,
     ) -> Result<Value, Refused<CoercionFault>>
-        ensures { Answers (object self.now.types.now (coerced self.now.types.now) members.now (subject_text subject.now) name.now value.now) result }
+        requires { IsFound self.now.types.now wanted.now }
+        ensures { Answers (object self.now.types.now (coerced self.now.types.now) members.now (subject_text subject.now) (innermost wanted.now.ty.now) value.now) result }
     {
-        match input_object_called(self.types, name.as_str()) {
-            Some(it) => self.coerce_members(members, name.as_str(), it),
-            None => self.coerce_leaf(value, subject, name),
+        match wanted.input_object() {
+            Some(it) => self.coerce_members(members, innermost(wanted.ty).as_str(), it),
+            None => self.coerce_leaf(value, subject, wanted),
         }
     }
 
@@ -250,7 +258,11 @@ impl<'s> Coercion<'s> {
         let field_name = field.name.as_str();
         let subject = Subject::InputField(name, field_name);
         match members.get(field_name) {
-            Some(value) => given_value(self.coerce_value(value, &subject, &field.ty)),
+            Some(value) => given_value(self.coerce_value(
+                value,
+                &subject,
+                &Wanted::new(&*self.types, &field.ty),
+            )),
             None => self.not_given(
                 &subject,
                 &field.ty,

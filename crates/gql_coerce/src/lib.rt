@@ -24,6 +24,7 @@ mod told;
 mod translation;
 mod type_shape;
 mod variables;
+mod wanted;
 
 pub use arguments::coerce_arguments;
 pub use told::{ArgumentFault, InputCoercionError};

@@ -10,6 +10,7 @@ use crate::missing::Missing;
 use crate::outcome::{given_value, put};
 use crate::subject::Subject;
 use crate::told::{InputCoercionError, tell_variables};
+use crate::wanted::Wanted;
 use gql_ast_operations::VariableDefinition;
 use gql_diag::{JsonMap, Valid};
 use gql_schema_types::Schema;
@@ -71,7 +72,7 @@ impl<'s> Coercion<'s> {
             Some(value) => given_value(self.coerce_value(
                 value,
                 &Subject::Variable(name),
-                &definition.ty,
+                &Wanted::new(&*self.types, &definition.ty),
             )),
             None => self.not_given(
                 &Subject::DefaultOfVariable(name),

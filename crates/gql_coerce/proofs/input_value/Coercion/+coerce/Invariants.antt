@@ -11,8 +11,8 @@ use Rattle.gql_coerce.proofs.input_value.Coercion.+coerce.Given as goal
 -- what is made, and what is left, make the whole
 abbrev pub invariant-coerce_items-loop-value : goal.invariant-coerce_items-loop-value
 invariant-coerce_items-loop-value l =
-    let make = λ (value : JsonValue). coerced l.self.types.now value (subject_text l.subject) l.item in
-    mapped (λ (values : List JsonValue). Array (l.made ++ values)) (all_of (map make (drop l.value-index l.value-items))) ≡ each_at (coerced l.self.types.now) (subject_text l.subject) l.item l.items
+    let make = λ (value : JsonValue). coerced l.self.types.now value (subject_text l.subject) l.item.ty.now in
+    mapped (λ (values : List JsonValue). Array (l.made ++ values)) (all_of (map make (drop l.value-index l.value-items))) ≡ each_at (coerced l.self.types.now) (subject_text l.subject) l.item.ty.now l.items
 
 abbrev pub invariant-coerce_fields-loop-field : goal.invariant-coerce_fields-loop-field
 invariant-coerce_fields-loop-field l =

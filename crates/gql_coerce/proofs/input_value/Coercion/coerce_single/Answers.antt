@@ -5,5 +5,5 @@ use Rattle.gql_coerce.proofs.input_value.Coercion.coerce_single.Goals as goal
 
 pub returns : goal.returns
 returns c =
-    c.wrapped.ensures (leaf c.args.self.now.types.now (subject_text c.args.subject.now) (innermost c.args.ty.now) c.args.value.now)
-    (rw c.innermost.ensures at c.coerce_leaf-made.ensures)
+    c.wrapped.ensures (leaf c.args.self.now.types.now (subject_text c.args.subject.now) (innermost c.args.wanted.now.ty.now) c.args.value.now)
+    c.coerce_leaf-made.ensures

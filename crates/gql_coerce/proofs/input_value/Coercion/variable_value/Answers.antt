@@ -15,7 +15,7 @@ returns-in-Some c =
     let variable = c.args.definition.now in
     let value = c.in-Some.value.now in
     answered _ _ _ (variable-given types values variable value (ap (λ key. lookup (bytes_eq key) values) (sym c.as_str-name.ensures.text) ∙ sym c.in-Some.ensures))
-    (c.given_value.ensures (coerced types value (variable_words (variable_name variable)) variable.ty) (rw c.as_str-name.ensures.text at c.coerce_value.ensures))
+    (c.given_value.ensures (coerced types value (variable_words (variable_name variable)) variable.ty) (rw c.new.ensures.ty at (rw c.as_str-name.ensures.text at c.coerce_value.ensures)))
 
 pub returns-in-None : goal.returns-in-None
 returns-in-None c =
