@@ -1,0 +1,9 @@
+pub mod Applies
+pub mod Collected
+pub mod Flat
+pub mod Kept
+pub mod Ranks
+pub mod Same
+pub mod Setting
+pub mod Sizes
+pub mod Walk
