@@ -54,7 +54,7 @@ module _ (s : Setting) (rank : ℕ → ℕ) (ranked : AreRanked s.fragments rank
   opened-less (Selection-F.Field it) r below = record { bound = r; below = tt; less = omega arith }
   opened-less (Selection-F.FragmentSpread it) r below = when-less (is_kept s.variables it.directives) r 0 (body s it.fragment_name.text) (body-less it r below)
   opened-less (Selection-F.InlineFragment it) r below =
-      let b = is_kept s.variables it.directives && applies_if s.types s.object it.type_condition in
+      let b = is_kept s.variables it.directives && applies_if s.schema.types s.object it.type_condition in
       record {
         bound = r;
         below = when-below s.fragments rank r b it.selection_set.selections below;

@@ -1,5 +1,8 @@
 pub mod Enough
 pub mod Followed
+pub mod GroupFacts
+pub mod Keys
+pub mod Put
 pub mod Measure
 pub mod Numbers
 pub mod OnTheWay

@@ -48,7 +48,7 @@ module _ (s : Setting) where
 
   contents-inside : (o : Option Fragment) → size (contents s o) ≤ inside o
   contents-inside None = omega arith
-  contents-inside (Some fragment) = when-size (applies s.types s.object fragment.selection_set.ty.text) fragment.selection_set.selections
+  contents-inside (Some fragment) = when-size (applies s.schema.types s.object fragment.selection_set.ty.text) fragment.selection_set.selections
 
   pub new-mark : (marks : List Bool) (f : ℕ) → is_new s marks (Some f) ≡ true → slice_get marks f ≡ Some false
   new-mark marks f new = by (slice_get marks f) refl new
@@ -78,7 +78,7 @@ module _ (s : Setting) where
 
   shape_less : (k : Shape) (marks : List Bool) → size (gone_into s k marks) + unentered s.fragments (marked s k marks) + 1 ≤ shape_own k + unentered s.fragments marks
   shape_less (Selection-F.Field it) marks = omega arith
-  shape_less (Selection-F.InlineFragment it) marks = omega (arith, when-size (is_kept s.variables it.directives && applies_if s.types s.object it.type_condition) it.selection_set.selections)
+  shape_less (Selection-F.InlineFragment it) marks = omega (arith, when-size (is_kept s.variables it.directives && applies_if s.schema.types s.object it.type_condition) it.selection_set.selections)
   shape_less (Selection-F.FragmentSpread it) marks = by (is_followed s it marks) refl
     where
       by : (b : Bool) → is_followed s it marks ≡ b

@@ -143,4 +143,4 @@ contents-size s f = by (slice_get s.fragments f) refl
   where
     by : (o : Option Fragment) → slice_get s.fragments f ≡ o → size (contents s o) ≤ fragments_size s.fragments
     by None is = omega arith
-    by (Some fragment) is = omega (arith, when-size (applies s.types s.object fragment.selection_set.ty.text) fragment.selection_set.selections, fragment-size s.fragments f fragment is)
+    by (Some fragment) is = omega (arith, when-size (applies s.schema.types s.object fragment.selection_set.ty.text) fragment.selection_set.selections, fragment-size s.fragments f fragment is)

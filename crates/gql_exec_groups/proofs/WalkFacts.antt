@@ -188,7 +188,7 @@ module _ (s : Setting) (rank : ℕ → ℕ) (ranked : AreRanked s.fragments rank
   inside (Selection-F.Field it) m r seen inner between below known sized goes = plain (Selection-F.Field it) m r seen inner between [] refl (goes r seen tt known sized)
   inside (Selection-F.InlineFragment it) m r seen inner between below known sized goes =
       plain (Selection-F.InlineFragment it) m r seen inner between (opened s (Selection-F.InlineFragment it)) refl
-      (goes r seen (when-below s.fragments rank r (is_kept s.variables it.directives && applies_if s.types s.object it.type_condition) it.selection_set.selections below) known sized)
+      (goes r seen (when-below s.fragments rank r (is_kept s.variables it.directives && applies_if s.schema.types s.object it.type_condition) it.selection_set.selections below) known sized)
   inside (Selection-F.FragmentSpread it) m r seen inner between below known sized goes =
       by_kept it m r seen inner between (is_kept s.variables it.directives) refl below known sized goes
 

@@ -27,7 +27,7 @@ module _ (s : Setting) where
   -- a fragment's selections, if it is defined and applies
   abbrev pub contents : Option Fragment → List Selection
   contents None = []
-  contents (Some fragment) = when (applies s.types s.object fragment.selection_set.ty.text) fragment.selection_set.selections
+  contents (Some fragment) = when (applies s.schema.types s.object fragment.selection_set.ty.text) fragment.selection_set.selections
 
   abbrev pub body : List ℕ → List Selection
   body name = contents (entry fragment_name name s.fragments)
@@ -42,7 +42,7 @@ module _ (s : Setting) where
   opened (Selection-F.Field it) = []
   opened (Selection-F.FragmentSpread it) = when (is_kept s.variables it.directives) (body it.fragment_name.text)
   opened (Selection-F.InlineFragment it) =
-      when (is_kept s.variables it.directives && applies_if s.types s.object it.type_condition) it.selection_set.selections
+      when (is_kept s.variables it.directives && applies_if s.schema.types s.object it.type_condition) it.selection_set.selections
 
   -- with at most n fragments inside one another
   abbrev pub flat_within : ℕ → List Selection → List Field

@@ -1,6 +1,8 @@
 pub mod Applies
 pub mod Collected
 pub mod Flat
+pub mod Grouping
+pub mod Groups
 pub mod Kept
 pub mod Ranks
 pub mod Same

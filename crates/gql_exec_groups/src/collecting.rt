@@ -12,7 +12,7 @@ use crate::directives::is_kept;
 use gql_document_types::{
     ExecutableDocument, Field, Fragment, FragmentSpread, InlineFragment, Selection, SelectionSet,
 };
-use gql_schema_types::{ExtendedType, ObjectType, Schema, Table};
+use gql_schema_types::{ObjectType, Schema, Table};
 use jb_text::{Listed, Memory};
 use jb_tree::Map;
 use std::alloc::Global;
@@ -21,7 +21,7 @@ use std::alloc::Global;
 /// by `@skip` and `@include`, those of fragments that apply among them. Each fragment is entered once, so they are the
 /// fields of the sets with each fragment written out, repeats aside. A fragment that is not defined has no fields. `Err`
 /// only for want of memory. The time is linear in the selections that are looked at.
-pub fn collect_fields<'d>(
+pub fn selected_fields<'d>(
     alloc: Global,
     schema: &Schema,
     document: &'d ExecutableDocument,
@@ -31,11 +31,11 @@ pub fn collect_fields<'d>(
 ) -> Result<Listed<&'d Field>, Memory>
     requires { (rank : ℕ → ℕ) × AreRanked document.now.fragments rank }
     ensures { IfOk result (λ fields. SameFirst (walk.fields_of fields)
-        (flat_sets (setting document.now.fragments schema.now.types object_type.now variables.now) (sets_of sets.now))) }
+        (flat_sets (setting document.now.fragments schema.now object_type.now variables.now) (sets_of sets.now))) }
 {
     let collector = Collector {
         fragments: &document.fragments,
-        types: &schema.types,
+        schema,
         object: object_type,
         variables,
     };
@@ -62,7 +62,7 @@ fn laid_aside<'d>(
 #[derive(Clone, Copy)]
 struct Collector<'d, 'v> {
     fragments: &'d Table<Fragment>,
-    types: &'v Table<ExtendedType>,
+    schema: &'v Schema,
     object: &'v ObjectType,
     variables: &'v Map,
 }
@@ -114,14 +114,14 @@ impl<'d, 'v> Collector<'d, 'v> {
         ensures { OnOk result (walk.walk_of marks.new pending.new fields.new ≡ walk.with_selection (setting_of self.now) selection.now (walk.walk_of marks.old pending.old fields.old)) }
     {
         match selection {
-            Selection::Field(field) => self.note(field, fields),
+            Selection::Field(field) => self.note_field(field, fields),
             Selection::InlineFragment(fragment) => self.open(fragment, pending),
             Selection::FragmentSpread(spread) => self.follow(spread, marks, pending),
         }
     }
 
     /// Notes a field that is kept.
-    fn note(&self, field: &'d Field, fields: &mut Listed<&'d Field>) -> Result<(), Memory>
+    fn note_field(&self, field: &'d Field, fields: &mut Listed<&'d Field>) -> Result<(), Memory>
         ensures { OnOk result (walk.fields_of fields.new ≡ walk.with_field (setting_of self.now) field.now (walk.fields_of fields.old)) }
     {
         if is_kept(self.variables, field.directives.as_slice()) {
@@ -140,7 +140,7 @@ impl<'d, 'v> Collector<'d, 'v> {
         ensures { OnOk result (walk.lists_of pending.new ≡ walk.with_inline (setting_of self.now) fragment.now (walk.lists_of pending.old)) }
     {
         if is_kept(self.variables, fragment.directives.as_slice())
-            && applies_if(self.types, self.object, &fragment.type_condition)
+            && applies_if(&self.schema.types, self.object, &fragment.type_condition)
         {
             lay_aside(fragment.selection_set.selections.as_slice(), pending)
         } else {
@@ -190,9 +190,11 @@ impl<'d, 'v> Collector<'d, 'v> {
     {
         match self.fragments.at(number) {
             Some(fragment)
-                if applies(self.types, self.object, fragment.selection_set.ty.as_str()) => {
-                lay_aside(fragment.selection_set.selections.as_slice(), pending)
-            }
+                if applies(
+                    &self.schema.types,
+                    self.object,
+                    fragment.selection_set.ty.as_str(),
+                ) => { lay_aside(fragment.selection_set.selections.as_slice(), pending) }
             _ => Ok(()),
         }
     }

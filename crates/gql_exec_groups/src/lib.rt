@@ -7,5 +7,9 @@
 mod applies;
 mod collecting;
 mod directives;
+mod group;
+mod grouping;
 
-pub use collecting::collect_fields;
+pub use collecting::selected_fields;
+pub use group::Group;
+pub use grouping::collect_fields;
