@@ -1,6 +1,6 @@
 -- Flat selections to the depth that is enough are all flat selections.
-use Rattle.std.proofs.Common.{arith, ◌≡◌, ℕ, zero, suc, ◌+◌, ◌*◌, ◌<◌, ◌≤◌, Bool, true, false, ◌&&◌, List, [], ◌∷◌, ◌++◌, length, replicate, Option, Some, None, slice_get, refl, sym, ap, ◌∙◌, subst, append_assoc}
-use Rattle.std.specs.List.{find, flat_map}
+use Rattle.std.proofs.Common.{arith, ◌≡◌, ℕ, zero, suc, ◌+◌, ◌*◌, ◌<◌, ◌≤◌, Bool, true, false, ◌&&◌, List, [], ◌++◌, length, replicate, Option, Some, None, slice_get, refl, sym, ap, ◌∙◌, subst, append_assoc}
+use Rattle.std.specs.List.{find}
 use Rattle.std.specs.Prelude.{option_to_list}
 use Rattle.std.proofs.lemmas.List.{length-replicate}
 use Rattle.std.proofs.Math.Nat.{mul-le-mul_right}
@@ -15,7 +15,7 @@ use Rattle.gql_exec_groups.specs.Kept.{is_kept}
 use Rattle.gql_exec_groups.specs.Ranks.{AreRanked}
 use Rattle.gql_exec_groups.specs.Same.{SameFirst}
 use Rattle.gql_exec_groups.specs.Setting.{Setting}
-use Rattle.gql_exec_groups.specs.Sizes.{own, size, fragments_size}
+use Rattle.gql_exec_groups.specs.Sizes.{size, fragments_size}
 use Rattle.gql_exec_groups.specs.Walk.{number_of, WalksAll}
 use Rattle.gql_exec_groups.proofs.Numbers.{AreBelow, shape_numbers, first-below, rest-below, when-below, below-all, contents-below, body-is, body-none, shape_own, own-shape, when-size, contents-size}
 use Rattle.gql_exec_groups.proofs.WalkFacts.{IsFlat, flat_none, flat_on, AreFlat, none_flat, one_flat, collected_all, none-marked}

@@ -1,13 +1,11 @@
 -- What looking at a spread leaves.
-use Rattle.std.proofs.Common.{◌≡◌, ℕ, Bool, true, false, ◌&&◌, cond, List, [], position, set, Option, Some, None, slice_get, refl, sym, ap, ◌∙◌, subst}
-use Rattle.gql_schema_types.specs.Entries.{is_called}
-use Rattle.gql_document_types.specs.RootFields.{fragment_name}
+use Rattle.std.proofs.Common.{◌≡◌, ℕ, Bool, true, ◌&&◌, cond, List, Option, Some, None, refl, sym, ap, ◌∙◌, subst}
 use Rattle.gql_document_types.specs.declared.selection.FragmentSpread.{FragmentSpread}
 use Rattle.gql_document_types.specs.declared.selection.Selection.{Selection}
-use Rattle.gql_exec_groups.specs.Flat.{when, contents, body}
+use Rattle.gql_exec_groups.specs.Flat.{when, body}
 use Rattle.gql_exec_groups.specs.Kept.{is_kept}
 use Rattle.gql_exec_groups.specs.Setting.{Setting}
-use Rattle.gql_exec_groups.specs.Walk.{put_before, number_of, is_new, is_followed, mark, IsEntered, IsFollowed}
+use Rattle.gql_exec_groups.specs.Walk.{put_before, number_of, is_new, mark, IsEntered, IsFollowed}
 use Rattle.gql_exec_groups.proofs.Numbers.{body-is}
 
 module _ (s : Setting) (it : FragmentSpread) (marks : List Bool) (left : List (List Selection)) where

@@ -9,3 +9,4 @@ pub mod OnTheWay
 pub mod SameFacts
 pub mod Variants
 pub mod WalkFacts
+pub mod WithinGroups

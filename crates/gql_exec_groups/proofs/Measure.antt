@@ -1,16 +1,16 @@
 -- A walk comes to an end: what is left of it, with all that can still be entered, becomes less.
-use Rattle.std.proofs.Common.{arith, ◌≡◌, ℕ, zero, suc, ◌+◌, ◌*◌, ◌<◌, ◌≤◌, Bool, true, false, cond, not, ◌&&◌, List, [], ◌∷◌, ◌++◌, set, Option, Some, None, slice_get, refl, sym, ap, ◌∙◌, subst}
+use Rattle.std.proofs.Common.{arith, ◌≡◌, ℕ, zero, suc, ◌+◌, ◌*◌, ◌<◌, ◌≤◌, Bool, true, false, cond, not, ◌&&◌, List, [], ◌∷◌, set, Option, Some, None, slice_get, refl, ap}
 use Rattle.std.specs.Option.{unwrap_or}
 use Rattle.gql_document_types.specs.declared.fragment.Fragment.{Fragment}
 use Rattle.gql_document_types.specs.declared.selection.FragmentSpread.{FragmentSpread}
 use Rattle.gql_document_types.specs.declared.selection.Selection.{Selection, out-Selection}
 use Rattle.gql_document_types.specs.declared.selection.Selection.TheOpen.{Selection-F}
 use Rattle.gql_exec_groups.specs.Applies.{applies, applies_if}
-use Rattle.gql_exec_groups.specs.Flat.{Shape, when, contents, body, opened}
+use Rattle.gql_exec_groups.specs.Flat.{Shape, when, contents, body}
 use Rattle.gql_exec_groups.specs.Kept.{is_kept}
 use Rattle.gql_exec_groups.specs.Setting.{Setting}
-use Rattle.gql_exec_groups.specs.Sizes.{own, size, fragments_size}
-use Rattle.gql_exec_groups.specs.Walk.{Walk, put_before, with_list, number_of, is_new, is_followed, mark, marked, gone_into, met, with_selection, with_first}
+use Rattle.gql_exec_groups.specs.Sizes.{own, size}
+use Rattle.gql_exec_groups.specs.Walk.{Walk, put_before, number_of, is_new, is_followed, mark, marked, gone_into, with_first}
 use Rattle.gql_exec_groups.proofs.Numbers.{shape_own, own-shape, when-size, body-is}
 
 -- what can still be entered

@@ -1,14 +1,13 @@
 -- The fragments that selections spread, by their numbers, and the ranks of these.
-use Rattle.std.proofs.Common.{rules, arith, ◌≡◌, ℕ, zero, suc, ◌+◌, ◌<◌, ◌≤◌, Bool, true, false, ◌&&◌, List, [], ◌∷◌, ◌++◌, map, length, Option, Some, None, slice_get, position, get_or, refl, sym, ap, ◌∙◌, subst}
-use Rattle.std.specs.List.{Contains, find}
+use Rattle.std.proofs.Common.{rules, arith, ◌≡◌, ℕ, zero, suc, ◌+◌, ◌<◌, ◌≤◌, Bool, true, false, List, [], ◌∷◌, ◌++◌, Option, Some, None, slice_get, position, refl, sym, ap, ◌∙◌, subst}
+use Rattle.std.specs.List.{Contains}
 use Rattle.std.specs.Option.{unwrap_or, option_map}
-use Rattle.std.specs.Prelude.{option_to_list}
 use Rattle.std.proofs.lemmas.Option.{slice_get-map}
-use Rattle.gql_rules_graph.specs.Graph.{HasEdge, row}
-use Rattle.gql_schema_types.specs.Entries.{is_called, entry}
-use Rattle.gql_schema_types.proofs.Lookups.{found, missing, place_within}
+use Rattle.gql_rules_graph.specs.Graph.{row}
+use Rattle.gql_schema_types.specs.Entries.{is_called}
+use Rattle.gql_schema_types.proofs.Lookups.{found, missing}
 use Rattle.gql_document_types.specs.RootFields.{fragment_name}
-use Rattle.gql_document_types.specs.Spreads.{Numbers, all_numbers, number_of, numbers_at, spread_numbers, spreads_in, spread_graph}
+use Rattle.gql_document_types.specs.Spreads.{number_of, numbers_at, spread_numbers, spreads_in, spread_graph}
 use Rattle.gql_document_types.specs.declared.fragment.Fragment.{Fragment}
 use Rattle.gql_document_types.specs.declared.selection.Field.{Field}
 use Rattle.gql_document_types.specs.declared.selection.FragmentSpread.{FragmentSpread}
@@ -17,7 +16,7 @@ use Rattle.gql_document_types.specs.declared.selection.Selection.{Selection, the
 use Rattle.gql_document_types.specs.declared.selection.Selection.TheVariants as selection
 use Rattle.gql_document_types.specs.declared.selection.Selection.TheOpen.{Selection-F}
 use Rattle.gql_exec_groups.specs.Applies.{applies}
-use Rattle.gql_exec_groups.specs.Flat.{Shape, when, contents, body, opened}
+use Rattle.gql_exec_groups.specs.Flat.{Shape, when, contents, body}
 use Rattle.gql_exec_groups.specs.Ranks.{AreRanked}
 use Rattle.gql_exec_groups.specs.Setting.{Setting}
 use Rattle.gql_exec_groups.specs.Sizes.{own, size, fragments_size}

@@ -1,13 +1,12 @@
 -- A walk on its way: with the fields of what is left it has those of the whole.
 use Rattle.std.proofs.Common.{◌≡◌, ◌<◌, Bool, List, [], ◌∷◌, ◌++◌, map, refl, sym, ap, ◌∙◌, subst, append_assoc}
 use Rattle.std.specs.Borrow.{Bor}
-use Rattle.std.specs.Prelude.{reverse}
-use Rattle.std.proofs.lemmas.List.{reverse-append, map-append, append-nil}
+use Rattle.std.proofs.lemmas.List.{reverse-append, append-nil}
 use Rattle.gql_document_types.specs.declared.selection.Field.{Field}
 use Rattle.gql_document_types.specs.declared.selection.Selection.{Selection, out-Selection}
-use Rattle.gql_exec_groups.specs.Flat.{Shape, field_of}
+use Rattle.gql_exec_groups.specs.Flat.{field_of}
 use Rattle.gql_exec_groups.specs.Setting.{Setting}
-use Rattle.gql_exec_groups.specs.Walk.{Walk, lists_of, fields_of, walk_of, put_before, with_list, marked, gone_into, met, with_selection, with_first, Walks, walked_all, walked_on, WalksAll, no_more, list_first}
+use Rattle.gql_exec_groups.specs.Walk.{Walk, lists_of, fields_of, walk_of, put_before, with_list, gone_into, with_selection, with_first, Walks, walked_all, walked_on, WalksAll, no_more, list_first}
 use Rattle.gql_exec_groups.proofs.Measure.{weight, first_less}
 
 module _ (s : Setting) where

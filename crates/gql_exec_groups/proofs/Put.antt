@@ -1,9 +1,9 @@
 -- A field that is put into the group of its number, or begins one.
-use Rattle.std.proofs.Common.{arith, ◌≡◌, ℕ, zero, suc, ◌+◌, ◌<◌, Bool, true, false, cond, if◌then◌else◌, List, [], ◌∷◌, ◌++◌, map, length, get_or, set, position, Option, Some, None, slice_get, refl, sym, ap, ◌∙◌, subst, Bor}
+use Rattle.std.proofs.Common.{arith, ◌≡◌, ℕ, zero, suc, ◌<◌, Bool, true, false, cond, if◌then◌else◌, List, [], ◌∷◌, ◌++◌, length, get_or, set, position, Option, Some, None, slice_get, refl, sym, ap, ◌∙◌, Bor}
 use Rattle.std.specs.List.{find}
 use Rattle.std.specs.Option.{option_map_or}
 use Rattle.std.specs.Str.{bytes_eq}
-use Rattle.std.proofs.lemmas.List.{map-append, map-set}
+use Rattle.std.proofs.lemmas.List.{map-append}
 use Rattle.std.proofs.lemmas.List.Quantifiers.{position-Some}
 use Rattle.gql_document_types.specs.declared.selection.Field.{Field}
 use Rattle.gql_schema_types.specs.Entries.{is_called, entry}

@@ -1,18 +1,16 @@
 -- A walk that enters each fragment once finds what flat selections have, repeats aside.
-use Rattle.std.proofs.Common.{arith, ◌≡◌, ℕ, zero, suc, ◌+◌, ◌<◌, ◌≤◌, Bool, true, false, cond, not, ◌&&◌, List, [], ◌∷◌, ◌++◌, length, set, replicate, ◌⊎◌, inl, inr, Option, Some, None, slice_get, refl, sym, ap, ◌∙◌, subst, append_assoc, lt_irrefl}
+use Rattle.std.proofs.Common.{arith, ◌≡◌, ℕ, zero, suc, ◌<◌, ◌≤◌, Bool, true, false, cond, not, ◌&&◌, List, [], ◌∷◌, ◌++◌, length, set, replicate, ◌⊎◌, inl, inr, Option, Some, None, slice_get, refl, sym, ap, ◌∙◌, subst, append_assoc, lt_irrefl}
 use Rattle.std.specs.List.{find}
 use Rattle.std.specs.Option.{unwrap_or}
 use Rattle.std.specs.Prelude.{option_to_list}
 use Rattle.std.proofs.lemmas.Bool.{cases_lt}
 use Rattle.std.proofs.lemmas.List.{append-nil, length-set}
-use Rattle.std.proofs.lemmas.Option.{slice_get_past}
 use Rattle.gql_schema_types.specs.Entries.{is_called}
 use Rattle.gql_schema_types.proofs.Lookups.{place_within}
 use Rattle.gql_document_types.specs.RootFields.{fragment_name}
-use Rattle.gql_document_types.specs.Spreads.{spread_numbers, number_of as numbers_of}
+use Rattle.gql_document_types.specs.Spreads.{spread_numbers}
 use Rattle.gql_document_types.specs.declared.selection.Field.{Field}
 use Rattle.gql_document_types.specs.declared.selection.FragmentSpread.{FragmentSpread}
-use Rattle.gql_document_types.specs.declared.selection.InlineFragment.{InlineFragment}
 use Rattle.gql_document_types.specs.declared.selection.Selection.{Selection, out-Selection}
 use Rattle.gql_document_types.specs.declared.selection.Selection.TheOpen.{Selection-F}
 use Rattle.gql_exec_groups.specs.Applies.{applies_if}
@@ -21,7 +19,7 @@ use Rattle.gql_exec_groups.specs.Kept.{is_kept}
 use Rattle.gql_exec_groups.specs.Ranks.{AreRanked}
 use Rattle.gql_exec_groups.specs.Same.{SameFirst}
 use Rattle.gql_exec_groups.specs.Setting.{Setting}
-use Rattle.gql_exec_groups.specs.Walk.{number_of, is_new, is_followed, mark, marked, gone_into, Walks, walked_all, walked_on, WalksAll, no_more, list_first}
+use Rattle.gql_exec_groups.specs.Walk.{number_of, is_new, mark, marked, gone_into, Walks, walked_all, walked_on, WalksAll, no_more, list_first}
 use Rattle.gql_exec_groups.proofs.Measure.{new-mark}
 use Rattle.gql_exec_groups.proofs.Numbers.{AreBelow, shape_numbers, first-below, rest-below, when-below, below-all, contents-below, body-is, body-none}
 use Rattle.gql_exec_groups.proofs.SameFacts.{same-append, same-known, same-twice}

@@ -1,5 +1,5 @@
 -- Groups of fields by response key: CollectFields, section 6.3.2 of GraphQL October 2021.
-use Rattle.std.specs.Prelude.{◌≡◌, ℕ, Bool, true, false, if◌then◌else◌, List, [], ◌∷◌, ◌++◌, map, Option, Some, None, is_some}
+use Rattle.std.specs.Prelude.{◌≡◌, ℕ, Bool, false, if◌then◌else◌, List, [], ◌∷◌, map, Option, is_some}
 use Rattle.std.specs.List.{find, filter, list_any}
 use Rattle.std.specs.Option.{unwrap_or, option_map_or}
 use Rattle.std.specs.Str.{bytes_eq}

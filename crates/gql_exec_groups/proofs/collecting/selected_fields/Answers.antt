@@ -1,4 +1,4 @@
-use Rattle.std.proofs.Common.{rules, ◌≡◌, ◌∙◌, ap, subst, Bool, true, false, length, replicate, refl, List, ℕ}
+use Rattle.std.proofs.Common.{◌≡◌, ◌∙◌, ap, subst, true, false, length, replicate, refl}
 use Rattle.std.proofs.lemmas.Result.{IfOk-weaker}
 use Rattle.gql_exec_groups.specs.Collected.{setting, sets_of}
 use Rattle.gql_exec_groups.specs.Flat.{flat_sets}

@@ -1,4 +1,4 @@
-use Rattle.std.proofs.Common.{arith, ◌≡◌, ◌+◌, ◌<◌, length, take, get_or, sym, ap, ◌∙◌}
+use Rattle.std.proofs.Common.{arith, ◌≡◌, ◌<◌, length, take, get_or, sym, ap, ◌∙◌}
 use Rattle.gql_exec_groups.specs.Grouping.{added}
 use Rattle.gql_exec_groups.specs.Groups.{groups_of}
 use Rattle.gql_exec_groups.specs.Walk.{fields_of}
