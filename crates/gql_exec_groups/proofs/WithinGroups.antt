@@ -1,10 +1,10 @@
 -- What is asked below a group, where fields are the same once repeats are left out: an execution over groups that goes
 -- down by these steps gives the same over both.
-use Rattle.std.proofs.Common.{◌≡◌, List, map}
+use Rattle.std.proofs.Common.{List, map}
 use Rattle.gql_document_types.specs.declared.selection.Field.{Field}
 use Rattle.gql_document_types.specs.declared.selection.Selection.{Selection}
 use Rattle.gql_exec_groups.specs.Flat.{flat, flat_sets}
-use Rattle.gql_exec_groups.specs.Groups.{groups_of, is_defined, applying, SameGroups}
+use Rattle.gql_exec_groups.specs.Groups.{applying, SameGroups}
 use Rattle.gql_exec_groups.specs.Same.{SameFirst}
 use Rattle.gql_exec_groups.specs.Setting.{Setting}
 use Rattle.gql_exec_groups.proofs.GroupFacts.{groups-same, defined-same}
