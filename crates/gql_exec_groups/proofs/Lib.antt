@@ -1,0 +1,12 @@
+pub mod Enough
+pub mod Followed
+pub mod GroupFacts
+pub mod Keys
+pub mod Put
+pub mod Measure
+pub mod Numbers
+pub mod OnTheWay
+pub mod SameFacts
+pub mod Variants
+pub mod WalkFacts
+pub mod WithinGroups

@@ -1,0 +1,11 @@
+pub mod Applies
+pub mod Collected
+pub mod Flat
+pub mod Grouping
+pub mod Groups
+pub mod Kept
+pub mod Ranks
+pub mod Same
+pub mod Setting
+pub mod Sizes
+pub mod Walk

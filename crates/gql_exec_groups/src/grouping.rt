@@ -1,0 +1,137 @@
+//! Fields that are put into groups by their response keys.
+
+ghost use Rattle.std.specs.Prelude.{◌≡◌, ◌∷◌, [], ◌++◌, ℕ, None, IfOk, OnOk};
+ghost use Rattle.std.specs.List.{filter};
+ghost use Rattle.gql_schema_types.specs.Entries.{entry};
+ghost use Rattle.gql_exec_groups.specs.Collected.{setting, sets_of};
+ghost use Rattle.gql_exec_groups.specs.Grouping as step;
+ghost use Rattle.gql_exec_groups.specs.Groups as spec;
+ghost use Rattle.gql_exec_groups.specs.Ranks.{AreRanked};
+ghost use Rattle.gql_exec_groups.specs.Walk.{fields_of};
+
+use crate::collecting::selected_fields;
+use crate::group::{Group, Key, response_name};
+use gql_document_types::{ExecutableDocument, Field, SelectionSet};
+use gql_schema_types::{ObjectType, Schema, Table};
+use jb_text::{Listed, Memory};
+use jb_tree::Map;
+use std::alloc::{AllocError, Global};
+
+/// The groups of fields that selection sets ask of an object type, in the order in which their keys first occur (GraphQL
+/// October 2021, section 6.3.2, CollectFields). A group whose first field is not defined on the type is left out. What is
+/// collected is what [`selected_fields`] gives: each fragment is entered once, so that a group has the fields of the sets
+/// with each fragment written out, repeats aside. `Err` only for want of memory. The time is linear in the selections that
+/// are looked at; keys are found by hash.
+pub fn collect_fields<'d>(
+    alloc: Global,
+    schema: &Schema,
+    document: &'d ExecutableDocument,
+    object_type: &ObjectType,
+    sets: &[&'d SelectionSet],
+    variables: &Map,
+) -> Result<Listed<Group<'d>>, Memory>
+    requires { (rank : ℕ → ℕ) × AreRanked document.now.fragments rank }
+    ensures { IfOk result (λ groups. spec.SameGroups (step.groups_seen groups)
+        (spec.applying (setting document.now.fragments schema.now object_type.now variables.now) (sets_of sets.now))) }
+{
+    let fields = selected_fields(alloc, schema, document, object_type, sets, variables)?;
+    let groups = grouped(alloc, &fields)?;
+    defined(alloc, schema, object_type, groups)
+}
+
+/// The fields in groups.
+fn grouped<'d>(alloc: Global, fields: &Listed<&'d Field>) -> Result<Listed<Group<'d>>, Memory>
+    ensures { IfOk result (λ groups. step.groups_seen groups ≡ spec.groups_of (fields_of fields.now)) }
+{
+    let mut keys = Table::new(alloc);
+    let mut groups = Listed::new(alloc);
+    for field in fields.as_slice() {
+        put(alloc, *field, &mut keys, &mut groups)?;
+    }
+    Ok(groups)
+}
+
+/// Puts a field into the group of its key, or begins one.
+fn put<'d>(
+    alloc: Global,
+    field: &'d Field,
+    keys: &mut Table<Key<'d>>,
+    groups: &mut Listed<Group<'d>>,
+) -> Result<(), Memory>
+    requires { step.key_texts keys.old ≡ step.group_keys (step.groups_seen groups.old) }
+    ensures groups { OnOk result (step.groups_seen groups.new ≡ step.added (step.groups_seen groups.old) field.now) }
+    ensures keys { OnOk result (step.key_texts keys.new ≡ step.group_keys (step.groups_seen groups.new)) }
+{
+    match keys.find(response_name(field).as_str()) {
+        Some(number) => extend(field, number, groups),
+        None => begin(alloc, field, keys, groups),
+    }
+}
+
+/// Puts a field last into the group of the number.
+fn extend<'d>(field: &'d Field, number: usize, groups: &mut Listed<Group<'d>>) -> Result<(), Memory>
+    ensures { OnOk result (groups.new ≡ step.extended groups.old number field.entry) }
+{
+    match groups.get_mut(number) {
+        Some(group) => group.fields.push(field),
+        None => Ok(()),
+    }
+}
+
+/// Begins a group with a field.
+fn begin<'d>(
+    alloc: Global,
+    field: &'d Field,
+    keys: &mut Table<Key<'d>>,
+    groups: &mut Listed<Group<'d>>,
+) -> Result<(), Memory>
+    requires { entry step.key_name (spec.response_key field.now) keys.old ≡ None }
+    ensures groups { OnOk result (step.groups_seen groups.new ≡ step.groups_seen groups.old ++ step.begun field.now ∷ []) }
+    ensures keys { OnOk result (step.key_texts keys.new ≡ step.key_texts keys.old ++ spec.response_key field.now ∷ []) }
+{
+    note_key(keys, Key { field })?;
+    let mut fields = Listed::new(alloc);
+    fields.push(field)?;
+    groups.push(Group {
+        first: field,
+        fields,
+    })
+}
+
+/// Adds a key that is not there.
+fn note_key<'d>(keys: &mut Table<Key<'d>>, key: Key<'d>) -> Result<(), Memory>
+    requires { entry step.key_name (step.key_name key).text keys.old ≡ None }
+    ensures { OnOk result (keys.new ≡ keys.old ++ key.entry ∷ []) }
+{
+    match keys.insert_new(key) {
+        Ok(()) => Ok(()),
+        Err(_) => Err(AllocError),
+    }
+}
+
+/// The groups whose first field is defined on the object type.
+fn defined<'d>(
+    alloc: Global,
+    schema: &Schema,
+    object_type: &ObjectType,
+    groups: Listed<Group<'d>>,
+) -> Result<Listed<Group<'d>>, Memory>
+    ensures { IfOk result (λ kept. step.groups_seen kept ≡ filter (spec.is_defined schema.now object_type.now) (step.groups_seen groups.entry)) }
+{
+    let mut kept = Listed::new(alloc);
+    for group in groups {
+        if is_defined(schema, object_type, group.first) {
+            kept.push(group)?;
+        }
+    }
+    Ok(kept)
+}
+
+/// Whether the object type has the field.
+fn is_defined(schema: &Schema, object_type: &ObjectType, field: &Field) -> bool
+    ensures { result ≡ spec.has_field schema.now object_type.now field.now }
+{
+    schema
+        .type_field(object_type.name.as_str(), field.name.as_str())
+        .is_some()
+}
