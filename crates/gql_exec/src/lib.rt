@@ -19,12 +19,11 @@ mod resolved_value;
 mod resolver;
 mod schema;
 mod selection;
-mod steps;
 
 pub use execution::execute;
+pub use gql_exec_steps::Steps;
 pub use gql_response::{ExecutionResponse, GraphQLError, ResponseDataPathSegment};
 pub use resolved_value::ResolvedValue;
 pub use resolver::{FieldError, ObjectValue, ResolveError, ResolveInfo};
 pub use schema::{ObjectType, Schema, TypeRef};
 pub use selection::{Field, SelectionSet};
-pub use steps::Steps;
