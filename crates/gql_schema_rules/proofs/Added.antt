@@ -1,5 +1,5 @@
--- Scalars that were added and are taken out again.
-use Rattle.std.proofs.Common.{◌≡◌, ℕ, Bool, true, false, cond, not, ◌&&◌, Option, Some, None, is_some, List, [], ◌∷◌, ◌++◌, refl, sym, ap, ◌∙◌}
+-- Scalars that were added and are taken out again, and faults that a list has taken.
+use Rattle.std.proofs.Common.{◌≡◌, ℕ, Bool, true, false, cond, not, ◌&&◌, ◌⊎◌, inl, inr, Option, Some, None, is_some, Result, Ok, Err, OnErr, List, [], ◌∷◌, ◌++◌, refl, sym, ap, ◌∙◌}
 use Rattle.std.specs.List.{filter, find}
 use Rattle.std.proofs.lemmas.List.{append-nil}
 use Rattle.gql_diag_messages.specs.declared.diagnostic_data.DiagnosticData.{DiagnosticData}
@@ -7,8 +7,10 @@ use Rattle.gql_schema_rules.specs.Taken.{HasTakenSome}
 use Rattle.std.specs.Str.{bytes_eq}
 use Rattle.std.specs.Cmp.Lexicographic.{nat_list_eq_equiv}
 use Rattle.gql_schema_rules.specs.Scalars.{new_scalar}
+use Rattle.gql_schema_rules.specs.SchemaFaults.{AreSchemaFaults, HasListedAllFaults, HasListedSomeFaults}
 use Rattle.gql_schema_types.specs.Entries.{without, is_called}
 use Rattle.gql_schema_types.specs.Types.{type_name, type_called}
+use Rattle.gql_schema_types.specs.declared.schema.Schema.{Schema}
 use Rattle.gql_schema_types.specs.declared.types.ExtendedType.{ExtendedType}
 
 pub taken_out : (name : List ℕ) (types : List ExtendedType) → type_called name types ≡ None → without type_name name (types ++ new_scalar name ∷ []) ≡ types
@@ -20,19 +22,26 @@ taken_out name (t ∷ ts) none = by_test (bytes_eq name (type_name t).text) none
     by_test true none later = absurd cc
     by_test false none later = ap (λ l. t ∷ l) (later none)
 
-both_true : (a b : Bool) → (a && b) ≡ true → (a ≡ true) × (b ≡ true)
-both_true true true h = (refl, refl)
-both_true true false h = absurd cc
-both_true false b h = absurd cc
-
-pub none_called : (o : Option ExtendedType) (named : Bool) → (named && not (is_some o)) ≡ true → o ≡ None
-none_called None named h = refl
-none_called (Some t) true h = absurd cc
-none_called (Some t) false h = absurd cc
-
-pub first_is_name : (test : List ℕ → Bool) (name : List ℕ) (rest : Bool) → (test name && rest) ≡ true → (test name ≡ true) × (rest ≡ true)
-first_is_name test name rest h = both_true (test name) rest h
-
 -- nothing was taken yet
 pub none_taken : (old faults : List DiagnosticData) → HasTakenSome old faults old
 none_taken old faults = record { some = []; rest = faults; all = refl; taken = sym (append-nil old) }
+
+-- what has taken some of the faults lists some of them
+pub some_listed : (schema : Schema) (faults old new : List DiagnosticData) → AreSchemaFaults schema faults → HasTakenSome old faults new → HasListedSomeFaults schema old new
+some_listed schema faults old new are taken =
+    inr (faults, are, record { some = taken.some; rest = taken.rest; all = taken.all; listed = inl taken.taken })
+
+-- what lists all of them lists some
+pub all_listed : (schema : Schema) (old new : List DiagnosticData) → HasListedAllFaults schema old new → HasListedSomeFaults schema old new
+all_listed schema old new all =
+    inr (all.0, all.1, record { some = all.0; rest = []; all = sym (append-nil all.0); listed = inr all.2 })
+
+-- what follows from what a refusal tells
+pub on_refusal : {T E P Q : Type 0} (r : Result T E) → (P → Q) → OnErr r P → OnErr r Q
+on_refusal (Ok x) f told = tt
+on_refusal (Err e) f told = f told
+
+-- what holds in any case
+pub in_any_case : {T E Q : Type 0} (r : Result T E) → Q → OnErr r Q
+in_any_case (Ok x) holds = tt
+in_any_case (Err e) holds = holds

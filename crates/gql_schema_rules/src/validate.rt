@@ -1,10 +1,7 @@
 //! The validation of schemas.
 
-ghost use Rattle.std.specs.Prelude.{◌≡◌, ◌++◌, List, OnOk, OnErr};
-ghost use Rattle.gql_diag.specs.List.{IsStableSort};
-ghost use Rattle.gql_diag.specs.Order.{list_order};
-ghost use Rattle.gql_diag_messages.specs.declared.diagnostic_data.DiagnosticData as item;
-ghost use Rattle.gql_schema_rules.specs.SchemaFaults.{AreSchemaFaults};
+ghost use Rattle.std.specs.Prelude.{◌≡◌, OnOk, OnErr};
+ghost use Rattle.gql_schema_rules.specs.SchemaFaults.{HasListedAllFaults, HasListedSomeFaults};
 ghost use Rattle.gql_schema_rules.specs.Scalars.{validated};
 
 use crate::scalars::settle_scalars;
@@ -27,12 +24,22 @@ pub fn validate_schema(
     schema: &mut Schema,
     errors: &mut DiagnosticList,
 ) -> Result<(), Memory>
-    ensures faults { OnOk result ((faults : List item.DiagnosticData) × AreSchemaFaults schema.old faults × IsStableSort list_order (errors.old.items ++ faults) errors.new.items) }
+    ensures faults { OnOk result (HasListedAllFaults schema.old errors.old.items errors.new.items) }
     ensures schema { OnOk result (schema.new ≡ validated schema.old) }
     ensures sources { errors.new.sources ≡ errors.old.sources }
     ensures unchanged { OnErr result (schema.new ≡ schema.old) }
+    ensures some { OnErr result (HasListedSomeFaults schema.old errors.old.items errors.new.items) }
+{
+    list_faults(alloc, schema, errors)?;
+    settle_scalars(alloc, &schema.directive_definitions, &mut schema.types)
+}
+
+/// Lists what is wrong with a schema, in the order of lists. Refused for want of memory, the list has some of the faults.
+fn list_faults(alloc: Global, schema: &Schema, errors: &mut DiagnosticList) -> Result<(), Memory>
+    ensures faults { OnOk result (HasListedAllFaults schema.now errors.old.items errors.new.items) }
+    ensures sources { errors.new.sources ≡ errors.old.sources }
+    ensures some { OnErr result (HasListedSomeFaults schema.now errors.old.items errors.new.items) }
 {
     let faults = schema_faults(alloc, schema)?;
-    take_faults(faults, errors)?;
-    settle_scalars(alloc, &schema.directive_definitions, &mut schema.types)
+    take_faults(faults, errors)
 }
