@@ -1,5 +1,5 @@
 -- What is made of a parse is what comes of the file.
-use Rattle.std.proofs.Common.{◌≡◌, inl, inr, ℕ, List, Option, Some, None, MatchOption, IsSome, OnOk, Result, Ok, Err, refl, sym, ap, subst}
+use Rattle.std.proofs.Common.{◌≡◌, inl, inr, ℕ, List, Option, Some, None, MatchOption, IsSome, IfOk, Result, Ok, Err, ◌++◌, ◌∙◌, refl, sym, ap, subst}
 use Rattle.jb_text.specs.declared.refused.Refused.{Refused}
 use Rattle.jb_text.specs.declared.refused.Refused.TheVariants.{Fault, Memory}
 use Rattle.gql_source.specs.declared.file_id.FileId.{FileId}
@@ -17,15 +17,23 @@ use Rattle.gql_ast.specs.declared.document.Document.{Document}
 use Rattle.gql_ast.specs.Documents.{definitions}
 use Rattle.gql_ast_values.specs.declared.type_ref.TypeRef.{TypeRef}
 use Rattle.gql_ast_values.specs.Types.{type_of}
-use Rattle.gql_ast_laws.specs.Meant.{IsDocumentOf, IsTypeOf}
+use Rattle.gql_ast_operations.specs.declared.selection.Selection.{Selection}
+use Rattle.gql_ast_operations.specs.Selections.{selected, selections}
+use Rattle.gql_ast_laws.specs.Meant.{IsDocumentOf, AreSelectionsOf, IsTypeOf}
 use Rattle.gql_diag.specs.List.{Diagnostics}
 use Rattle.gql_diag.specs.declared.valid.WithErrors.{WithErrors}
-use Rattle.gql_schema.specs.Builders.{Taken}
+use Rattle.gql_ast_base.specs.Names.{Named}
+use Rattle.gql_document_build.specs.FieldSets.{built, all_faults}
+use Rattle.gql_document_build.specs.Judged.{IsJudged as IsFaultsJudged}
+use Rattle.gql_document_types.specs.declared.document.FieldSet.{FieldSet}
+use Rattle.gql_schema_types.specs.declared.schema.Schema.{Schema}
 use Rattle.gql_parser.specs.Parsers.{ParserState, Given}
 use Rattle.gql_parser.specs.Readings.{IsReading, IsWhole, IsStopped, IsJudged, IsLeft}
 use Rattle.gql_parser.specs.DocumentsRead.{document_of, IsDocumentRead, IsDocumentAnswer, IsDocumentOfParse}
 use Rattle.gql_parser.specs.TypesRead.{IsComplete, IsTypeAnswer, IsTypeOfParse}
-use Rattle.gql_parser.specs.SchemasRead.{Takes, TakesParse}
+use Rattle.gql_parser.specs.FileRead.{IsFileRead, IsFileOfParse}
+use Rattle.gql_parser.specs.FieldSetsRead.{AreSelectionsRead, AreSelectionsOfParse, IsFieldSetAnswer}
+use Rattle.gql_parser.proofs.Gathered.{gathered}
 use Rattle.gql_parser.proofs.Judging.{TreesLaw}
 
 abbrev pub DocumentLaw : Type 0
@@ -96,15 +104,42 @@ complete trees kinds law parser given parsed judged is =
     let parse = (whole parser rule.TypeReference given.text parsed judged is).reading.parse in
     law given.text given.file (plain parsed.tree) (kinds rule.TypeReference given.text parser.limits parsed parse) (trees rule.TypeReference given.text parser.limits parsed parse is)
 
--- ---- schemas
+-- ---- files that a builder takes
 
-pub takes : DocumentLaw → (parser : ParserState) (given : Given) (parsed : Parsed) (old new : Taken) → IsJudged parser rule.Document given.text parsed → TakesParse given parsed old new
-    → Takes parser given old new
-takes law parser given parsed old new judged (inl h) =
-    inl (record { document = document_of given parsed.tree; read = read law parser given parsed (document_of given parsed.tree) judged h.0 refl; taken = h.1 })
-takes law parser given parsed old new judged (inr h) =
-    inr (record { parsed = parsed; error = h.0; stopped = stopped parser rule.Document given.text parsed h.0 judged h.1; taken = h.2 })
+pub file_read : DocumentLaw → (parser : ParserState) (given : Given) (parsed : Parsed) (document : Document) (errors : Diagnostics)
+    → IsJudged parser rule.Document given.text parsed → IsFileOfParse given parsed document errors → IsFileRead parser given document errors
+file_read law parser given parsed document errors judged (inl h) =
+    inl (record { read = read law parser given parsed document judged h.0 h.1; told = h.2 })
+file_read law parser given parsed document errors judged (inr h) =
+    inr (record { parsed = parsed; error = h.0; stopped = stopped parser rule.Document given.text parsed h.0 judged h.1; none = h.2; told = h.3 })
 
-pub taken_so : {A E P Q : Type 0} (result : Result A E) → (P → Q) → OnOk result P → OnOk result Q
-taken_so (Ok x) f h = f h
-taken_so (Err e) f h = tt
+-- ---- sets of fields
+
+abbrev pub SelectionsLaw : Type 0
+SelectionsLaw = (text : List ℕ) (file : FileId) (limits : Limits) (parsed : Parsed) → IsParse rule.FieldSet text limits parsed → parsed.error ≡ None
+    → AreSelectionsOf text file (selected text file (plain parsed.tree).children ++ selections text file (plain parsed.tree).children)
+
+pub selections_read : SelectionsLaw → (parser : ParserState) (given : Given) (parsed : Parsed) (read : List Selection) (errors : Diagnostics)
+    → IsJudged parser rule.FieldSet given.text parsed → AreSelectionsOfParse given parsed read errors → AreSelectionsRead parser given read errors
+selections_read law parser given parsed read errors judged (inl h) =
+    let w = whole parser rule.FieldSet given.text parsed judged h.0 in
+    inl (record {
+      parsed = parsed;
+      whole = w;
+      mean = subst (λ (s : List Selection). AreSelectionsOf given.text given.file s) (sym (h.1 ∙ gathered given.text given.file (plain parsed.tree).children))
+          (law given.text given.file parser.limits parsed w.reading.parse h.0);
+      told = h.2;
+    })
+selections_read law parser given parsed read errors judged (inr h) =
+    inr (record { parsed = parsed; error = h.0; stopped = stopped parser rule.FieldSet given.text parsed h.0 judged h.1; none = h.2; told = h.3 })
+
+pub ok_so : {A E : Type 0} (P Q : A → Type 0) (result : Result A E) → ((x : A) → P x → Q x) → IfOk result P → IfOk result Q
+ok_so P Q (Ok x) f h = f x h
+ok_so P Q (Err e) f h = tt
+
+pub field_set_answer : (parser : ParserState) (given : Given) (schema : Schema) (ty : Named) (read : List Selection) (errors : Diagnostics) → AreSelectionsRead parser given read errors
+    → (result : Result FieldSet (Refused (WithErrors FieldSet))) → IsFaultsJudged (built schema ty read errors.sources) errors.sources (all_faults schema ty read errors) result
+    → IsFieldSetAnswer parser given schema ty result
+field_set_answer parser given schema ty read errors are (Ok set) judged = record { read = read; errors = errors; are_read = are; judged = judged }
+field_set_answer parser given schema ty read errors are (Err (Fault refusal)) judged = record { read = read; errors = errors; are_read = are; judged = judged }
+field_set_answer parser given schema ty read errors are (Err Memory) judged = tt

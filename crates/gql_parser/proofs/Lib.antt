@@ -1,4 +1,5 @@
 mod Answering
+mod Gathered
 mod Judging
 mod Ordered
 mod Shallow

@@ -3,4 +3,7 @@ pub mod Readings
 pub mod Diagnosed
 pub mod DocumentsRead
 pub mod TypesRead
+pub mod FileRead
 pub mod SchemasRead
+pub mod ExecutablesRead
+pub mod FieldSetsRead

@@ -5,7 +5,8 @@
 //! it tells how far it read.
 //!
 //! Work is done in phases, and the first that finds something ends it. First the text is read: one fault of the syntax, or
-//! one limit that is passed, is told. Then, where a schema is asked for, it is built, and every fault of the build is told.
+//! one limit that is passed, is told. Then, where a schema, an executable document or a set of fields is asked for, it is
+//! built, and every fault of the build is told. No rules of schemas or of documents are checked.
 //!
 //! ```
 //! let mut parser = Parser::new().token_limit(1_000);
@@ -16,7 +17,10 @@
 #![tactic(auto)]
 
 mod file;
+mod file_read;
 mod parse_ast;
+mod parse_executable;
+mod parse_field_set;
 mod parse_schema;
 mod parse_type;
 mod parser;

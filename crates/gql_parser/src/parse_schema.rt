@@ -5,20 +5,15 @@ ghost use Rattle.gql_cst_grammar.specs.declared.rule.Rule.TheVariants as rule;
 ghost use Rattle.gql_schema.specs.Builders.{taken as taken_by};
 ghost use Rattle.gql_parser.specs.Parsers.{given, given_next};
 ghost use Rattle.gql_parser.specs.Readings.{IsLeft};
-ghost use Rattle.gql_parser.specs.Diagnosed.{IsOrdered};
-ghost use Rattle.gql_parser.specs.SchemasRead.{IsSchemaAnswer, Takes, TakesParse, no_document as document_without, no_faults as no_faults_of};
+ghost use Rattle.gql_parser.specs.SchemasRead.{IsSchemaAnswer, Takes};
 
 use crate::file::next_file;
-use crate::parse_ast::document;
+use crate::file_read::FileRead;
 use crate::parser::Parser;
-use crate::stopped::list_of;
-use gql_ast::Document;
-use gql_ast_laws::laws;
-use gql_cst::Parsed;
-use gql_diag::{DiagnosticList, WithErrors};
+use gql_diag::WithErrors;
 use gql_schema::{Schema, SchemaBuilder};
-use gql_source::{FileId, FileIds, SourceMap};
-use jb_text::{Listed, Memory, Refused};
+use gql_source::{FileId, FileIds};
+use jb_text::{Memory, Refused};
 use std::alloc::Global;
 
 impl Parser {
@@ -47,7 +42,7 @@ impl Parser {
     {
         let file_id = next_file(ids);
         let mut builder = SchemaBuilder::new(alloc)?;
-        self.read_into(alloc, source_text, path, file_id, &mut builder)?;
+        self.read_into_schema(alloc, source_text, path, file_id, &mut builder)?;
         builder.build()
     }
 
@@ -75,11 +70,11 @@ impl Parser {
         ensures refused { OnErr result ((builder.new ≡ builder.old) ⊎ ((taken_by builder.new).refused ≡ true)) }
     {
         let file_id = next_file(ids);
-        self.read_into(alloc, source_text, path, file_id, builder)
+        self.read_into_schema(alloc, source_text, path, file_id, builder)
     }
 
     /// Adds the definitions of the file's text to a builder, or why there are none.
-    fn read_into(
+    fn read_into_schema(
         &mut self,
         alloc: Global,
         source_text: &str,
@@ -92,50 +87,7 @@ impl Parser {
         ensures open { OnOk result ((taken_by builder.old).refused ≡ false) }
         ensures refused { OnErr result ((builder.new ≡ builder.old) ⊎ ((taken_by builder.new).refused ≡ true)) }
     {
-        laws::parses_mean_their_text();
-        let parsed = self.read_document(alloc, source_text)?;
-        take_parse(alloc, file_id, path, source_text, parsed, builder)
-    }
-}
-
-/// The builder takes the document of what was read, if it was read to its end, and else what stopped the reading.
-fn take_parse(
-    alloc: Global,
-    file_id: FileId,
-    path: &str,
-    text: &str,
-    parsed: Parsed,
-    builder: &mut SchemaBuilder,
-) -> Result<(), Memory>
-    requires { IsOrdered parsed.error }
-    ensures taken { OnOk result (TakesParse (given file_id path.now text.now) parsed (taken_by builder.old) (taken_by builder.new)) }
-    ensures open { OnOk result ((taken_by builder.old).refused ≡ false) }
-    ensures refused { OnErr result ((builder.new ≡ builder.old) ⊎ ((taken_by builder.new).refused ≡ true)) }
-{
-    let Parsed { tree, error, .. } = parsed;
-    match error {
-        None => {
-            let read = document(alloc, file_id, path, text, &tree)?;
-            builder.take_ast(read, no_faults(alloc), true)
-        }
-        Some(error) => {
-            let errors = list_of(alloc, file_id, path, text, &error)?;
-            builder.take_ast(no_document(alloc), errors, true)
-        }
-    }
-}
-
-fn no_faults(alloc: Global) -> DiagnosticList
-    ensures { result ≡ no_faults_of }
-{
-    DiagnosticList::new(alloc, SourceMap::new(alloc))
-}
-
-fn no_document(alloc: Global) -> Document
-    ensures { result ≡ document_without }
-{
-    Document {
-        sources: SourceMap::new(alloc),
-        definitions: Listed::new(alloc),
+        let FileRead { document, errors } = self.read_file(alloc, source_text, path, file_id)?;
+        builder.take_ast(document, errors, true)
     }
 }

@@ -6,7 +6,7 @@ ghost use Rattle.gql_parser.specs.Parsers.{fresh};
 ghost use Rattle.gql_parser.specs.Readings.{IsJudged};
 ghost use Rattle.gql_parser.specs.Diagnosed.{IsOrdered};
 
-use gql_cst::{Limits, Parsed, parse_document, parse_type};
+use gql_cst::{Limits, Parsed, parse_document, parse_selection_set, parse_type};
 use gql_cst_laws::laws;
 use jb_text::Memory;
 use std::alloc::Global;
@@ -98,6 +98,20 @@ impl Parser {
     {
         laws::parses_are_trees();
         let parsed = parse_document(alloc, text, &self.limits)?;
+        self.recursion_reached = parsed.recursion_reached;
+        self.tokens_reached = parsed.tokens_reached;
+        Ok(parsed)
+    }
+
+    /// Reads a text in the same way as selections, with braces around them or without.
+    pub(crate) fn read_selection_set(&mut self, alloc: Global, text: &str) -> Result<Parsed, Memory>
+        ensures limits { self.new.limits ≡ self.old.limits }
+        ensures judged { IfOk result (IsJudged self.new rule.FieldSet text.now) }
+        ensures ordered { IfOk result (λ parsed. IsOrdered parsed.error) }
+        ensures unread { OnErr result (self.new ≡ self.old) }
+    {
+        laws::parses_are_trees();
+        let parsed = parse_selection_set(alloc, text, &self.limits)?;
         self.recursion_reached = parsed.recursion_reached;
         self.tokens_reached = parsed.tokens_reached;
         Ok(parsed)
