@@ -10,7 +10,7 @@ use crate::definition::Definition;
 use gql_ast_base::{Source, gather};
 use gql_cst::Tree;
 use gql_source::{FileId, SourceMap};
-use jb_text::{ByteString, Listed, Memory};
+use jb_text::{Listed, Memory};
 use std::alloc::Global;
 
 /// A document: its definitions, and the files that their locations speak of.
@@ -53,9 +53,8 @@ fn definitions(
     ensures { IfOk result (λ made. made ≡ spec.definitions (spec.text_of file_id sources.now) file_id (plain tree.now)) }
 {
     let file = sources.get(file_id).unwrap();
-    let text = ByteString::from_text(alloc, file.source_text())?;
     let list = gather(
-        &Source::sharing(alloc, &text, file_id),
+        &Source::sharing(alloc, file.shared_text(), file_id),
         tree.children().as_slice(),
     )?;
     Ok(list)

@@ -18,8 +18,9 @@ mod source_map;
 mod span;
 
 pub use file_id::{FileId, FileIds};
+pub use jb_text::Memory;
 pub use line_column::LineColumn;
 pub use line_cursor::LineCursor;
-pub use source_file::{Memory, SourceFile};
+pub use source_file::SourceFile;
 pub use source_map::SourceMap;
 pub use span::SourceSpan;

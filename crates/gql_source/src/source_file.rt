@@ -6,22 +6,28 @@ ghost use Rattle.gql_source.specs.Lines as lines;
 
 use crate::LineColumn;
 use crate::characters::{characters_before, counts_at_marks};
+use jb_text::{ByteString, Memory};
 use std::alloc::{AllocError, Global};
+use std::fmt::{self, Debug, Formatter, Write};
 use std::marker::Model;
 use std::ops::Range;
-
-/// Want of memory, the one error of the calls that allocate.
-pub type Memory = AllocError;
+use std::rc::Rc;
 
 /// A source file: a path and a text.
 ///
 /// A contract sees a record of their bytes, `path` and `source_text`. The starts of the lines are kept, and how many
 /// characters come before each of a row of marks, so looking up a place takes time in the logarithm of the number of
-/// lines alone, however long they are.
-#[derive(Debug, Drop)]
+/// lines alone, however long they are. Copies share what they hold.
+#[derive(Drop)]
 pub struct SourceFile {
+    shared: Rc<Contents>,
+}
+
+/// What the copies of a file share.
+#[derive(Drop)]
+struct Contents {
     path: String,
-    source_text: String,
+    source_text: ByteString,
     line_starts: Vec<usize>,
     counts: Vec<usize>,
 }
@@ -34,23 +40,45 @@ impl Model for SourceFile {
 
     ghost Value = { File };
 
-    ghost view = { λ file. record { path = string_bytes file.path; source_text = string_bytes file.source_text } };
+    ghost view = { λ file. record { path = string_bytes file.shared.value.path; source_text = file.shared.value.source_text } };
 
-    ghost invariant = { λ file. (file.line_starts.items ≡ lines.line_starts (string_bytes file.source_text) (length (string_bytes file.source_text)))
-        × (file.counts.items ≡ counts_at_marks (string_bytes file.source_text) (length (string_bytes file.source_text) / step)) };
+    ghost invariant = { λ file. (file.shared.value.line_starts.items ≡ lines.line_starts file.shared.value.source_text (length file.shared.value.source_text))
+        × (file.shared.value.counts.items ≡ counts_at_marks file.shared.value.source_text (length file.shared.value.source_text / step)) };
+}
+
+impl Debug for SourceFile {
+    fn fmt<W: Write>(&self, formatter: &mut Formatter<W>) -> fmt::Result {
+        formatter
+            .debug_struct("SourceFile")
+            .field("path", &self.path())
+            .field("source_text", &self.source_text())
+            .finish()
+    }
 }
 
 impl SourceFile {
-    /// A file with this path and this text.
+    /// A file with this path and a copy of this text.
     pub fn new(alloc: Global, path: &str, source_text: &str) -> Result<SourceFile, Memory>
         ensures { IfOk result (λ file. file ≡ record { path = path.now; source_text = source_text.now }) }
     {
-        Ok(SourceFile {
+        SourceFile::sharing(alloc, path, ByteString::from_text(alloc, source_text)?)
+    }
+
+    /// A file with this path and this text, which is shared and not copied.
+    pub fn sharing(alloc: Global, path: &str, source_text: ByteString) -> Result<SourceFile, Memory>
+        ensures { IfOk result (λ file. file ≡ record { path = path.now; source_text = source_text }) }
+    {
+        let bytes = source_text.as_str().as_bytes();
+        let contents = Contents {
             path: String::from_str(alloc, path)?,
-            source_text: String::from_str(alloc, source_text)?,
-            line_starts: line_starts(alloc, source_text.as_bytes())?,
-            counts: counts_at_marks(alloc, source_text.as_bytes())?,
-        })
+            line_starts: line_starts(alloc, bytes)?,
+            counts: counts_at_marks(alloc, bytes)?,
+            source_text,
+        };
+        match Rc::new(alloc, contents) {
+            Ok(shared) => Ok(SourceFile { shared }),
+            Err(_) => Err(AllocError),
+        }
     }
 
     /// The file's path.
@@ -58,7 +86,7 @@ impl SourceFile {
     pub fn path(&self) -> &str
         ensures { result.now ≡ self.now.path }
     {
-        self.path.as_str()
+        self.shared.path.as_str()
     }
 
     /// The file's text.
@@ -66,7 +94,15 @@ impl SourceFile {
     pub fn source_text(&self) -> &str
         ensures { result.now ≡ self.now.source_text }
     {
-        self.source_text.as_str()
+        self.shared.source_text.as_str()
+    }
+
+    /// The file's text, to be shared.
+    #[must_use]
+    pub fn shared_text(&self) -> &ByteString
+        ensures { result.now ≡ self.now.source_text }
+    {
+        &self.shared.as_ref().source_text
     }
 
     /// The line and the column of the character at `offset` bytes from the text's beginning, or of the
@@ -75,13 +111,15 @@ impl SourceFile {
     pub fn get_line_column(&self, offset: usize) -> Option<LineColumn>
         ensures { result ≡ lines.line_column_within self.now.source_text offset }
     {
-        if offset > self.source_text.len() {
+        let contents = self.shared.as_ref();
+        let bytes = contents.source_text.as_str().as_bytes();
+        if offset > bytes.len() {
             return None;
         }
         Some(line_column(
-            self.source_text.as_bytes(),
-            self.line_starts.as_slice(),
-            self.counts.as_slice(),
+            bytes,
+            contents.line_starts.as_slice(),
+            contents.counts.as_slice(),
             offset,
         ))
     }
@@ -96,11 +134,13 @@ impl SourceFile {
         Some(start..end)
     }
 
-    /// A copy of the file.
-    pub fn copy(&self, alloc: Global) -> Result<SourceFile, Memory>
+    /// A copy of the file, which shares its text. `Err` only where there are too many copies.
+    pub fn copy(&self, _alloc: Global) -> Result<SourceFile, Memory>
         ensures { IfOk result (λ file. file ≡ self.now) }
     {
-        SourceFile::new(alloc, self.path(), self.source_text())
+        Ok(SourceFile {
+            shared: self.shared.clone()?,
+        })
     }
 }
 
