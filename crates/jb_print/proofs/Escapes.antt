@@ -1,13 +1,13 @@
 -- What the printing of a text rests on: plain bytes stand for themselves, and the others have an escape.
-use Rattle.std.proofs.Common.{◌≡◌, ◌≢◌, ℕ, suc, ◌+◌, ◌-◌, ◌<◌, ◌≤◌, Bool, true, false, cond, List, [], ◌∷◌, ◌++◌, length, take, drop, get_or, None, refl, sym, ap, ◌∙◌, arith}
-use Rattle.std.specs.List.{flat_map, prefix_len, list_all}
+use Rattle.std.proofs.Common.{◌≡◌, ◌≢◌, ℕ, suc, ◌+◌, ◌<◌, Bool, true, false, cond, List, [], ◌∷◌, ◌++◌, length, take, drop, get_or, None, refl, ap, ◌∙◌, arith}
+use Rattle.std.specs.List.{flat_map, prefix_len}
 use Rattle.std.specs.Str.{IsUtf8, IsCharBoundary}
 use Rattle.std.proofs.lemmas.Bool.Decides.{nat_tests}
 use Rattle.std.proofs.lemmas.List.Sums.{prefix_len-le-length, prefix_len_stops}
 use Rattle.std.proofs.lemmas.Str.{IsCharBoundary-after_ascii}
-use Rattle.std.proofs.lemmas.List.{drop_more, drop_all, append-nil, length-take-le, length-drop, drop-drop, take-append-drop}
+use Rattle.std.proofs.lemmas.List.{drop_more, drop_all, append-nil}
 use Rattle.jb_print.specs.Quoted.{short_escape, escaped}
-use Rattle.jb_print.specs.Plain.{is_plain}
+use Rattle.jb_plain.specs.Plain.{is_plain}
 
 pub escaped-plain : (byte : ℕ) → is_plain byte ≡ true → escaped byte ≡ byte ∷ []
 unfolding escaped
@@ -58,20 +58,3 @@ module _ (text : List ℕ) (stop : ℕ) (at : stop ≡ prefix_len is_plain text)
   pub flat_map-special : stop ≢ length text → flat_map escaped text ≡ take stop text ++ (escaped (get_or text stop 0) ++ flat_map escaped (drop (stop + 1) text))
   flat_map-special ne =
       flat_map-stop ∙ ap (λ rest. take stop text ++ flat_map escaped rest) (drop_more text stop 0 (special-within ne))
-
-prefix_len-plain : (run rest : List ℕ) → list_all is_plain run ≡ true → prefix_len is_plain (run ++ rest) ≡ length run + prefix_len is_plain rest
-prefix_len-plain [] rest plain = omega arith
-prefix_len-plain (byte ∷ run) rest plain =
-    let first : is_plain byte ≡ true = grind (arith, nat_tests) in
-    let others : list_all is_plain run ≡ true = grind (arith, nat_tests) in
-    rw first (omega (arith, prefix_len-plain run rest others))
-
--- a run of plain bytes is passed over
-pub prefix_len-run : (bytes : List ℕ) (from to : ℕ) → from ≤ to → to ≤ length bytes → list_all is_plain (take (to - from) (drop from bytes)) ≡ true → prefix_len is_plain (drop from bytes) ≡ (to - from) + prefix_len is_plain (drop to bytes)
-prefix_len-run bytes from to order within plain =
-    let run = take (to - from) (drop from bytes) in
-    let size : length run ≡ to - from = length-take-le (to - from) (drop from bytes) (omega (arith, length-drop from bytes)) in
-    let behind : drop (to - from) (drop from bytes) ≡ drop to bytes = drop-drop (to - from) from bytes ∙ ap (λ i. drop i bytes) (omega arith) in
-    let whole : run ++ drop to bytes ≡ drop from bytes = ap (λ rest. run ++ rest) (sym behind) ∙ take-append-drop (to - from) (drop from bytes) in
-    let passed : prefix_len is_plain (drop from bytes) ≡ length run + prefix_len is_plain (drop to bytes) = ap (prefix_len is_plain) (sym whole) ∙ prefix_len-plain run (drop to bytes) plain in
-    omega (arith, passed, size)

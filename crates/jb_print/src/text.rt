@@ -1,16 +1,14 @@
 //! A text as a JSON string.
 
-ghost use Rattle.std.specs.Prelude.{◌≡◌, ◌∷◌, [], ◌++◌, ◌<◌, ◌≤◌, ◌+◌, drop, false, length, OnOk, string_bytes};
+ghost use Rattle.std.specs.Prelude.{◌≡◌, ◌∷◌, [], ◌++◌, ◌<◌, false, OnOk, string_bytes};
 ghost use Rattle.std.specs.Char.{digit_char};
-ghost use Rattle.std.specs.List.{prefix_len, flat_map, list_all};
+ghost use Rattle.std.specs.List.{prefix_len, flat_map};
 ghost use Rattle.std.specs.Option.{option_copied};
 ghost use Rattle.jb_print.specs.Quoted.{short_escape, escaped, quoted};
-ghost use Rattle.jb_print.specs.Plain.{is_plain};
+ghost use Rattle.jb_plain.specs.Plain.{is_plain};
 
+use jb_plain::plain_length;
 use jb_tree::Memory;
-
-/// How many bytes of a text are looked at in one step.
-const RUN: usize = 16;
 
 /// Appends the text in quotes, with its escapes.
 pub(crate) fn write_text(out: &mut String, text: &str) -> Result<(), Memory>
@@ -42,48 +40,7 @@ fn write_escaped(out: &mut String, text: &str) -> Result<(), Memory>
 fn plain_len(text: &str) -> usize
     ensures { result ≡ prefix_len is_plain text.now }
 {
-    let bytes = text.as_bytes();
-    for at in plain_runs(bytes)..bytes.len() {
-        if !is_plain(bytes[at]) {
-            return at;
-        }
-    }
-    bytes.len()
-}
-
-// The end of the last whole run of plain bytes from the start on, where a run is looked at in one step.
-fn plain_runs(bytes: &[u8]) -> usize
-    ensures within { result ≤ length bytes.now }
-    ensures plain { result + prefix_len is_plain (drop result bytes.now)
-        ≡ prefix_len is_plain bytes.now }
-{
-    let mut at = 0;
-    while bytes.len() - at >= RUN {
-        if !are_plain(&bytes[at..at + RUN]) {
-            return at;
-        }
-        at += RUN;
-    }
-    at
-}
-
-// It goes on behind a byte that is not plain, so that the bytes can be compared side by side.
-#[inline(always)]
-fn are_plain(bytes: &[u8]) -> bool
-    ensures { result ≡ list_all is_plain bytes.now }
-{
-    let mut plain = true;
-    for &byte in bytes {
-        plain &= is_plain(byte);
-    }
-    plain
-}
-
-#[inline(always)]
-fn is_plain(byte: u8) -> bool
-    ensures { result ≡ is_plain byte }
-{
-    (byte >= 0x20) & (byte != b'"') & (byte != b'\\')
+    plain_length(text.as_bytes())
 }
 
 fn write_escape(out: &mut String, byte: u8) -> Result<(), Memory>

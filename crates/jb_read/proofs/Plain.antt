@@ -1,10 +1,12 @@
 -- The plain part of a string.
-use Rattle.std.proofs.Common.{◌≡◌, ℕ, zero, suc, ◌+◌, ◌≤◌, Bool, true, false, cond, not, ltb, List, [], ◌∷◌, length, take, drop, Option, Some, None, Ok, Err, refl, sym, ap, ◌∙◌, arith}
-use Rattle.std.specs.Prelude.{unwrap_or, slice_get, position, is_none, ◌&&◌, ◌==◌}
-use Rattle.std.proofs.lemmas.Bool.{ltb-false, eqb-true, and_parts, false_from_ne_true}
+use Rattle.std.proofs.Common.{◌≡◌, ℕ, zero, suc, ◌+◌, ◌≤◌, true, false, not, List, [], ◌∷◌, length, take, drop, Option, Some, Ok, Err, refl, sym, ap, ◌∙◌, arith}
+use Rattle.std.specs.Prelude.{slice_get, is_none, ◌&&◌, ◌==◌}
+use Rattle.std.proofs.lemmas.Bool.{eqb-true, and_parts, false_from_ne_true}
 use Rattle.std.proofs.lemmas.List.{length-drop, length-take, drop-drop}
 use Rattle.std.specs.Str.Lossy.{utf8_valid_len, utf8_error_len}
-use Rattle.std.specs.List.{position_or_len}
+use Rattle.std.specs.List.{prefix_len}
+use Rattle.std.proofs.lemmas.Bool.Decides.{nat_tests}
+use Rattle.jb_plain.specs.Plain.{is_plain}
 use Rattle.std.proofs.lemmas.List.Sums.{prefix_len-le-length}
 use Rattle.std.specs.Str.{IsUtf8, is_utf8}
 use Rattle.std.proofs.lemmas.Str.{is_utf8-from_IsUtf8, IsUtf8-from_is_utf8}
@@ -15,14 +17,13 @@ use Rattle.jb_read.specs.Reading.{broken}
 use Rattle.jb_read.specs.Strings.{is_special, plain_length, plain_front, behind_plain, ill_formed_at, run_at, piece_at, piece_end, text_at}
 use Rattle.jb_read.proofs.Turns.{Goes, Goes-start}
 
-unwrap_cond : (b : Bool) (m n : ℕ) → (b ≡ false → n ≡ m) → unwrap_or (cond b (Some m) None) n ≡ m
-unwrap_cond true m n h = refl
-unwrap_cond false m n h = h refl
+-- a byte stands for itself exactly where it is no quote, no backslash and no control
+pub plain_prefix : (bytes : List ℕ) → prefix_len is_plain bytes ≡ plain_length bytes
+plain_prefix [] = refl
+plain_prefix (b ∷ bytes) = let same : is_plain b ≡ not (is_special b) = grind (arith, nat_tests) in rw (same, plain_prefix bytes) refl
 
-pub position_within : (test : ℕ → Bool) (xs : List ℕ) → unwrap_or (position test xs) (length xs) ≡ position_or_len test xs
-position_within test xs =
-    let within : position_or_len test xs ≤ length xs = prefix_len-le-length (λ x. not (test x)) xs in
-    unwrap_cond (ltb (position_or_len test xs) (length xs)) (position_or_len test xs) (length xs) (λ e. let past : length xs ≤ position_or_len test xs = ltb-false _ _ e in omega arith)
+pub plain_within : (bytes : List ℕ) → plain_length bytes ≤ length bytes
+plain_within bytes = prefix_len-le-length (λ x. not (is_special x)) bytes
 
 pub run_at_text : (at : List ℕ) → IsUtf8 (plain_front at) → run_at at ≡ Ok (plain_front at, behind_plain at)
 unfolding run_at

@@ -1,6 +1,6 @@
 //! Numbers (RFC 8259, section 6), whole ones alone.
 
-ghost use Rattle.std.specs.Prelude.{◌≡◌, ◌+◌, ◌-◌, ◌*◌, ◌≤◌, ◌<◌, ℕ, true, false, length, IsTrue, OnOk};
+ghost use Rattle.std.specs.Prelude.{◌≡◌, drop, ◌+◌, ◌-◌, ◌*◌, ◌≤◌, ◌<◌, ℕ, true, false, length, IsTrue, OnOk};
 ghost use Rattle.jb_read.specs.Bytes.{is_digit, begins};
 ghost use Rattle.jb_read.specs.Reading.{Tells};
 ghost use Rattle.jb_read.specs.Numbers.{digits_from, bounded_whole_at, within, number_of, is_mark, is_minus, number_at};
@@ -35,21 +35,33 @@ fn with_digit(value: Option<u64>, byte: u8) -> Option<u64>
     value?.checked_mul(10)?.checked_add(u64::from(byte - b'0'))
 }
 
-/// The number that the digits at the front spell behind its first digit, where 64 bits hold it.
+/// The number that the digits at the front spell behind its first digit, where 64 bits hold it, and how many there are.
 #[tactic(auto, using(crate::proofs::Front::digits_from_stop, crate::proofs::Front::digits_from_end))]
+fn spelled(bytes: &[u8], lead: u8) -> (Option<u64>, usize)
+    ensures value { result.0 ≡ within (digits_from lead bytes.now).0 }
+    ensures rest { drop result.1 bytes.now ≡ (digits_from lead bytes.now).1 }
+    ensures within { result.1 ≤ length bytes.now }
+{
+    let mut value = Some(u64::from(lead));
+    let mut count = 0;
+    for &byte in bytes {
+        if !is_digit(byte) {
+            break;
+        }
+        value = with_digit(value, byte);
+        count += 1;
+    }
+    (value, count)
+}
+
+/// The number that the digits at the front spell behind its first digit, where 64 bits hold it.
 fn read_digits(cursor: &mut Cursor<'_>, lead: u8) -> Option<u64>
     ensures value { result ≡ within (digits_from lead cursor.old).0 }
     ensures rest { cursor.new ≡ (digits_from lead cursor.old).1 }
     ensures no_more { length cursor.new ≤ length cursor.old }
 {
-    let mut value = Some(u64::from(lead));
-    while let Some(byte) = cursor.peek() {
-        if !is_digit(byte) {
-            break;
-        }
-        value = with_digit(value, byte);
-        cursor.skip(1);
-    }
+    let (value, count) = spelled(cursor.rest(), lead);
+    cursor.skip(count);
     value
 }
 

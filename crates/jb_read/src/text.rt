@@ -1,10 +1,10 @@
 //! Strings (RFC 8259, section 7).
 
-ghost use Rattle.std.specs.Prelude.{◌≡◌, ◌<◌, ◌≤◌, [], length, IfOk, OnOk, OnSome, Ok, MatchOption, is_none, position, ◌&&◌, ◌==◌};
+ghost use Rattle.std.specs.Prelude.{◌≡◌, ◌<◌, ◌≤◌, [], length, IfOk, OnOk, OnSome, Ok, MatchOption, is_none, ◌&&◌, ◌==◌};
 ghost use Rattle.std.specs.Str.{error_len};
 ghost use Rattle.std.specs.String.{string_bytes};
 ghost use Rattle.jb_read.specs.Reading.{Tells, Gives, GivesTurn, told_text};
-ghost use Rattle.jb_read.specs.Strings.{is_special, plain_length, run_at, piece_at, text_at};
+ghost use Rattle.jb_read.specs.Strings.{plain_length, run_at, piece_at, text_at};
 
 use crate::cursor::Cursor;
 use crate::escape::read_escape;
@@ -14,26 +14,13 @@ use std::alloc::{AllocError, Global};
 use std::str;
 use std::str::Utf8Error;
 
-/// A quote, a backslash or a control: a byte that does not stand for itself inside a string.
-fn is_special(byte: u8) -> bool
-    ensures { result ≡ is_special byte }
-{
-    byte == b'"' || byte == b'\\' || byte < b' '
-}
-
-fn first_special(bytes: &[u8]) -> Option<usize>
-    ensures { result ≡ position is_special bytes.now }
-{
-    bytes.iter().position(|byte| is_special(*byte))
-}
-
 /// How many bytes at the front stand for themselves.
-#[tactic(auto, using(crate::proofs::Plain::position_within))]
+#[tactic(auto, using(crate::proofs::Plain::plain_prefix, crate::proofs::Plain::plain_within))]
 fn plain_length(bytes: &[u8]) -> usize
     ensures value { result ≡ plain_length bytes.now }
     ensures within { result ≤ length bytes.now }
 {
-    first_special(bytes).unwrap_or(bytes.len())
+    jb_plain::plain_length(bytes)
 }
 
 /// Whether bytes that are no UTF-8 could have become a text by more bytes behind them.

@@ -1,6 +1,6 @@
 use Rattle.std.proofs.Common.{◌+◌, sym, ◌∙◌, arith}
-use Rattle.jb_print.proofs.Escapes.{prefix_len-run}
-use Rattle.jb_print.proofs.text.plain_runs.Goals as goal
+use Rattle.jb_plain.proofs.Runs.{prefix_len-run}
+use Rattle.jb_plain.proofs.plain.plain_runs.Goals as goal
 
 pub loop-at-preserved : goal.loop-at-preserved
 loop-at-preserved c =
