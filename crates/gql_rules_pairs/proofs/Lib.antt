@@ -1,0 +1,4 @@
+mod Growing
+mod Inserted
+mod Meetings
+mod SetFields

@@ -1,0 +1,4 @@
+pub mod Explored
+pub mod Exploring
+pub mod Pairs
+pub mod Steps
