@@ -1,0 +1,34 @@
+-- A variable stands where values of its type may: section 5.8.5 of GraphQL October 2021.
+use Rattle.std.specs.Prelude.{Bool, false, not, List, [], ◌∷◌, Option, Some, None, if◌then◌else◌}
+use Rattle.std.specs.Option.{option_and_then, option_map_or}
+use Rattle.gql_ast_operations.specs.declared.operation.VariableDefinition.{VariableDefinition}
+use Rattle.gql_ast_print.specs.TypeText.{type_text}
+use Rattle.gql_ast_values.specs.declared.type_ref.TypeRef.{TypeRef}
+use Rattle.gql_diag_messages.specs.declared.rule.Rule.TheVariants.{DisallowedVariableUsage}
+use Rattle.gql_diag_messages.specs.declared.diagnostic_data.DiagnosticData.{DiagnosticData}
+use Rattle.gql_rules_base.specs.Faults.{fault}
+use Rattle.gql_rules_variables.specs.TypesInto.{is_allowed}
+use Rattle.gql_rules_variables.specs.UndefinedVariable.{variable_called}
+use Rattle.gql_rules_variables.specs.Uses.{Place, Use}
+
+-- where no type is known, nothing is asked
+abbrev pub is_disallowed : Place → VariableDefinition → Bool
+is_disallowed place variable = option_map_or (λ ty. not (is_allowed variable place.has_default ty)) place.ty false
+
+abbrev pub misfit : Place → VariableDefinition → Option TypeRef
+misfit place variable = if is_disallowed place variable then Some variable.ty else None
+
+-- the type of the variable that is used, where an operation with these variables defines it and the use is not allowed
+abbrev pub disallowed_type : List VariableDefinition → Use → Option TypeRef
+disallowed_type variables used = option_and_then (misfit used.place) (variable_called variables used.name.text)
+
+-- a variable of the first type at a place of the second
+abbrev pub types_fault : Use → TypeRef → TypeRef → List DiagnosticData
+types_fault used variable place =
+    fault DisallowedVariableUsage (used.name.text ∷ type_text variable ∷ type_text place ∷ []) used.location None ∷ []
+
+abbrev pub disallowed_fault : Use → TypeRef → List DiagnosticData
+disallowed_fault used variable = option_map_or (types_fault used variable) used.place.ty []
+
+abbrev pub disallowed_usage : List VariableDefinition → Use → List DiagnosticData
+disallowed_usage variables used = option_map_or (disallowed_fault used) (disallowed_type variables used) []

@@ -1,0 +1,118 @@
+-- Where variables are used, and what is wanted there: section 5.8 of GraphQL October 2021.
+use Rattle.std.specs.Prelude.{ℕ, Bool, false, List, [], ◌∷◌, ◌++◌, Option, Some, None, is_some}
+use Rattle.std.specs.List.{flat_map}
+use Rattle.std.specs.Option.{option_and_then, option_map_or}
+use Rattle.gql_source.specs.Span.{Span}
+use Rattle.gql_ast_base.specs.Names.{Named}
+use Rattle.gql_ast_definitions.specs.declared.field_definition.InputValueDefinition.{InputValueDefinition}
+use Rattle.gql_ast_definitions.specs.declared.schema_definition.DirectiveDefinition.{DirectiveDefinition}
+use Rattle.gql_ast_values.specs.declared.directive.Argument.{Argument}
+use Rattle.gql_ast_values.specs.declared.directive.Directive.{Directive}
+use Rattle.gql_ast_values.specs.declared.type_ref.TypeRef.{TypeRef}
+use Rattle.gql_ast_values.specs.declared.value.Value.{Value, fold-Value}
+use Rattle.gql_ast_values.specs.declared.value.ValueKind.TheOpen.{ValueKind-F, Value-F}
+use Rattle.gql_document_types.specs.declared.fragment.Fragment.{Fragment}
+use Rattle.gql_document_types.specs.declared.operation.Operation.{Operation}
+use Rattle.gql_rules_base.specs.TypeShape.{named_type, item_type}
+use Rattle.gql_rules_nodes.specs.Nodes.{Node, operation, fragment, field, spread, inline_fragment, operation_nodes, fragment_nodes}
+use Rattle.gql_rules_values.specs.UndefinedInputValue.{input_name}
+use Rattle.gql_rules_values.specs.UniqueDirective.{directive_name}
+use Rattle.gql_schema_types.specs.Entries.{entry}
+use Rattle.gql_schema_types.specs.Types.{type_called}
+use Rattle.gql_schema_types.specs.declared.schema.Schema.{Schema}
+use Rattle.gql_schema_types.specs.declared.types.ExtendedType.{ExtendedType}
+use Rattle.gql_schema_types.specs.declared.types.ExtendedType.TheVariants as type
+
+-- what is wanted where a value stands: its type, if one is known, and whether an argument or input field with a default stands there
+pub record Place : Type 0 where
+  pub ty : Option TypeRef
+  pub has_default : Bool
+
+-- a use of a variable: the whole `$name` and its place in the text
+pub record Use : Type 0 where
+  pub name : Named
+  pub place : Place
+  pub location : Option Span
+
+-- an argument or an input field, if it is defined
+abbrev pub input_place : Option InputValueDefinition → Place
+input_place None = record { ty = None; has_default = false }
+input_place (Some definition) = record { ty = Some definition.ty; has_default = is_some definition.default_value }
+
+-- an item, where a list is wanted; it has no default
+abbrev pub item_place : Place → Place
+item_place place = record { ty = option_and_then item_type place.ty; has_default = false }
+
+-- a field of an input object type
+abbrev pub field_of : List ℕ → ExtendedType → Option InputValueDefinition
+field_of key (type.InputObject it) = entry input_name key it.fields
+field_of key _ = None
+
+-- for the place of a value, the uses in it
+abbrev pub ValueUses : Type 0
+ValueUses = Place → List Use
+
+-- for the location of a value too
+abbrev pub KindUses : Type 0
+KindUses = Option Span → Place → List Use
+
+module _ (types : List ExtendedType) where
+  abbrev pub member_definition : List ℕ → TypeRef → Option InputValueDefinition
+  member_definition key ty = option_and_then (field_of key) (type_called (named_type ty).text types)
+
+  -- what is wanted of a key's value, where an input object is wanted
+  abbrev pub member_place : Place → Named → Place
+  member_place place key = input_place (option_and_then (member_definition key.text) place.ty)
+
+  abbrev pub items_uses : Place → List ValueUses → List Use
+  items_uses place items = flat_map (λ uses. uses (item_place place)) items
+
+  abbrev pub members_uses : Place → List (Named × ValueUses) → List Use
+  members_uses place members = flat_map (λ member. member.1 (member_place place member.0)) members
+
+  abbrev pub kind_step : ValueKind-F KindUses ValueUses → KindUses
+  kind_step (ValueKind-F.Variable name) location place = record { name = name; place = place; location = location } ∷ []
+  kind_step (ValueKind-F.List items) location place = items_uses place items
+  kind_step (ValueKind-F.Object members) location place = members_uses place members
+  kind_step _ location place = []
+
+  abbrev pub value_step : Value-F KindUses ValueUses → ValueUses
+  value_step value place = value.kind value.location place
+
+  -- the uses in a value, those inside lists and input objects too
+  abbrev pub value_uses : Value → ValueUses
+  value_uses = fold-Value KindUses ValueUses kind_step value_step
+
+  -- those in arguments that have these definitions
+  abbrev pub argument_uses : List InputValueDefinition → Argument → List Use
+  argument_uses definitions argument = value_uses argument.value (input_place (entry input_name argument.name.text definitions))
+
+  abbrev pub arguments_uses : List InputValueDefinition → List Argument → List Use
+  arguments_uses definitions arguments = flat_map (argument_uses definitions) arguments
+
+-- the arguments of a directive that is defined
+abbrev pub directive_arguments : List ℕ → List DirectiveDefinition → List InputValueDefinition
+directive_arguments name definitions =
+    option_map_or (λ (definition : DirectiveDefinition). definition.arguments) (entry directive_name name definitions) []
+
+module _ (schema : Schema) where
+  abbrev pub directive_uses : Directive → List Use
+  directive_uses used = arguments_uses schema.types (directive_arguments used.name.text schema.directive_definitions) used.arguments
+
+  abbrev pub directives_uses : List Directive → List Use
+  directives_uses directives = flat_map directive_uses directives
+
+  -- the uses at a node of a document, apart from those of what is selected in it
+  abbrev pub node_uses : Node → List Use
+  node_uses (operation node) = directives_uses node.directives
+  node_uses (fragment node) = directives_uses node.directives
+  node_uses (field node) = arguments_uses schema.types node.definition.arguments node.arguments ++ directives_uses node.directives
+  node_uses (spread node) = directives_uses node.directives
+  node_uses (inline_fragment node) = directives_uses node.directives
+
+  -- those of an operation without the fragments that it spreads, and those of a fragment
+  abbrev pub operation_uses : Operation → List Use
+  operation_uses it = flat_map node_uses (operation_nodes it)
+
+  abbrev pub fragment_uses : Fragment → List Use
+  fragment_uses it = flat_map node_uses (fragment_nodes it)

@@ -1,0 +1,89 @@
+//! A variable stands where values of its type may (GraphQL October 2021, section 5.8.5).
+
+ghost use Rattle.std.specs.Prelude.{◌≡◌, ◌++◌, [], OnOk};
+ghost use Rattle.std.specs.Option.{option_copied, option_map_or};
+ghost use Rattle.gql_rules_variables.specs.DisallowedVariableUsage as spec;
+ghost use Rattle.gql_rules_variables.specs.Views as seen;
+
+use crate::types_into::is_allowed;
+use crate::uses::{Place, Use};
+use gql_ast_operations::VariableDefinition;
+use gql_ast_print::print_type;
+use gql_ast_values::TypeRef;
+use gql_diag_messages::{DiagnosticData, Rule};
+use gql_rules_base::list_fault;
+use jb_text::{Listed, Memory};
+use std::alloc::Global;
+
+/// The type of the variable, if it may not stand there.
+pub(crate) fn misfit<'d>(place: &Place<'_>, variable: &'d VariableDefinition) -> Option<&'d TypeRef>
+    ensures { option_copied result ≡ spec.misfit (seen.place_of place.now) variable.now }
+{
+    if is_disallowed(place, variable) {
+        Some(&variable.ty)
+    } else {
+        None
+    }
+}
+
+/// Whether the variable may not stand there. Where no type is known, nothing is asked.
+fn is_disallowed(place: &Place<'_>, variable: &VariableDefinition) -> bool
+    ensures { result ≡ spec.is_disallowed (seen.place_of place.now) variable.now }
+{
+    match place.ty {
+        Some(ty) => !is_allowed(variable, place.has_default, ty),
+        None => false,
+    }
+}
+
+/// Lists a use, if it is not allowed: then this is the type of the variable.
+pub(crate) fn list_disallowed_usage(
+    alloc: Global,
+    variable: Option<&TypeRef>,
+    used: &Use<'_>,
+    faults: &mut Listed<DiagnosticData>,
+) -> Result<(), Memory>
+    ensures { OnOk result (faults.new ≡ faults.old ++ option_map_or (spec.disallowed_fault (seen.use_of used.now)) (option_copied variable.entry) []) }
+{
+    match variable {
+        Some(variable) => list_at_place(alloc, variable, used, faults),
+        None => Ok(()),
+    }
+}
+
+/// Lists a use of a variable of this type where it is not allowed.
+fn list_at_place(
+    alloc: Global,
+    variable: &TypeRef,
+    used: &Use<'_>,
+    faults: &mut Listed<DiagnosticData>,
+) -> Result<(), Memory>
+    ensures { OnOk result (faults.new ≡ faults.old ++ spec.disallowed_fault (seen.use_of used.now) variable.now) }
+{
+    match used.place.ty {
+        Some(place) => list_types(alloc, variable, place, used, faults),
+        None => Ok(()),
+    }
+}
+
+/// Lists a use of a variable of the one type where the other is wanted.
+fn list_types(
+    alloc: Global,
+    variable: &TypeRef,
+    place: &TypeRef,
+    used: &Use<'_>,
+    faults: &mut Listed<DiagnosticData>,
+) -> Result<(), Memory>
+    ensures { OnOk result (faults.new ≡ faults.old ++ spec.types_fault (seen.use_of used.now) variable.now place.now) }
+{
+    let variable = print_type(alloc, variable)?;
+    let place = print_type(alloc, place)?;
+    list_fault(
+        alloc,
+        Rule::DisallowedVariableUsage,
+        &[used.name.as_str(), variable.as_str(), place.as_str()],
+        used.location,
+        None,
+        faults,
+    )
+}

@@ -1,0 +1,65 @@
+//! A variable is used (GraphQL October 2021, section 5.8.4).
+
+ghost use Rattle.std.specs.Prelude.{◌≡◌, ◌++◌, OnOk};
+ghost use Rattle.gql_rules_variables.specs.Operations.{definitions_of, not_noted};
+ghost use Rattle.gql_rules_variables.specs.UndefinedVariable.{first_variables};
+ghost use Rattle.gql_rules_variables.specs.UnusedVariable as spec;
+
+use crate::variables::{Variable, Variables};
+use gql_ast_operations::VariableDefinition;
+use gql_diag_messages::{DiagnosticData, Rule};
+use gql_rules_base::list_fault;
+use jb_map::KeyTable;
+use jb_text::{Listed, Memory};
+use std::alloc::Global;
+
+/// Lists the variables whose names are not among those that are used, of each name the first.
+pub(crate) fn list_unused_variables(
+    alloc: Global,
+    used: &KeyTable,
+    variables: &Variables<'_>,
+    faults: &mut Listed<DiagnosticData>,
+) -> Result<(), Memory>
+    ensures { OnOk result (faults.new ≡ faults.old ++ not_noted used.now (first_variables variables.now.definitions.now)) }
+{
+    list_each(alloc, used, variables.firsts(), faults)
+}
+
+/// Lists each of the variables whose name is not among those that are used.
+fn list_each(
+    alloc: Global,
+    used: &KeyTable,
+    variables: &[Variable<'_>],
+    faults: &mut Listed<DiagnosticData>,
+) -> Result<(), Memory>
+    ensures { OnOk result (faults.new ≡ faults.old ++ not_noted used.now (definitions_of variables.now)) }
+{
+    for variable in variables {
+        let is_used = used.find(variable.definition.name.as_str()).is_some();
+        list_unless_used(alloc, is_used, variable.definition, faults)?;
+    }
+    Ok(())
+}
+
+/// Lists a variable, unless it is used.
+fn list_unless_used(
+    alloc: Global,
+    is_used: bool,
+    variable: &VariableDefinition,
+    faults: &mut Listed<DiagnosticData>,
+) -> Result<(), Memory>
+    ensures { OnOk result (faults.new ≡ faults.old ++ spec.unless_used is_used variable.now) }
+{
+    if is_used {
+        Ok(())
+    } else {
+        list_fault(
+            alloc,
+            Rule::UnusedVariable,
+            &[variable.name.as_str()],
+            variable.location,
+            None,
+            faults,
+        )
+    }
+}

@@ -1,0 +1,152 @@
+//! The uses of variables in values, arguments and directives.
+
+ghost use Rattle.std.specs.Prelude.{◌≡◌, ◌++◌, map, OnOk};
+ghost use Rattle.std.specs.Option.{option_copied};
+ghost use Rattle.gql_schema_types.specs.Entries.{entry};
+ghost use Rattle.gql_rules_values.specs.UndefinedInputValue.{input_name};
+ghost use Rattle.gql_rules_variables.specs.Uses as spec;
+ghost use Rattle.gql_rules_variables.specs.Views as seen;
+
+use crate::uses::{Place, Use};
+use gql_ast_base::Name;
+use gql_ast_definitions::InputValueDefinition;
+use gql_ast_values::{Argument, Directive, Value, ValueKind};
+use gql_schema_types::{ExtendedType, Schema, Table};
+use jb_text::{Listed, Memory};
+
+/// Adds the uses in a value at a place, those inside it too.
+#[cycle(uses)]
+fn add_value<'d>(
+    types: &'d Table<ExtendedType>,
+    place: Place<'d>,
+    value: &'d Value,
+    uses: &mut Listed<Use<'d>>,
+) -> Result<(), Memory>
+    ensures { OnOk result (seen.uses_of uses.new ≡ seen.uses_of uses.old ++ spec.value_uses types.now value.now (seen.place_of place.entry)) }
+{
+    match &value.kind {
+        ValueKind::Variable(name) => uses.push(Use {
+            name,
+            place,
+            location: value.location,
+        }),
+        ValueKind::List(items) => add_items(types, &place, items, uses),
+        ValueKind::Object(members) => add_members(types, &place, members, uses),
+        ValueKind::Null => Ok(()),
+        ValueKind::Int(_) => Ok(()),
+        ValueKind::Float(_) => Ok(()),
+        ValueKind::String(_) => Ok(()),
+        ValueKind::Boolean(_) => Ok(()),
+        ValueKind::Enum(_) => Ok(()),
+    }
+}
+
+/// Adds the uses in the items of a list at a place.
+#[cycle(uses)]
+fn add_items<'d>(
+    types: &'d Table<ExtendedType>,
+    place: &Place<'d>,
+    items: &'d Listed<Value>,
+    uses: &mut Listed<Use<'d>>,
+) -> Result<(), Memory>
+    ensures { OnOk result (seen.uses_of uses.new
+        ≡ seen.uses_of uses.old ++ spec.items_uses types.now (seen.place_of place.now) (map (spec.value_uses types.now) items.now)) }
+{
+    for item in items.as_slice() {
+        add_value(types, place.item(), item, uses)?;
+    }
+    Ok(())
+}
+
+/// Adds the uses in the values of an object at a place.
+#[cycle(uses)]
+fn add_members<'d>(
+    types: &'d Table<ExtendedType>,
+    place: &Place<'d>,
+    members: &'d Listed<(Name, Value)>,
+    uses: &mut Listed<Use<'d>>,
+) -> Result<(), Memory>
+    ensures { OnOk result (seen.uses_of uses.new
+        ≡ seen.uses_of uses.old ++ spec.members_uses types.now (seen.place_of place.now) (map (λ member. (member.0, spec.value_uses types.now member.1)) members.now)) }
+{
+    for member in members.as_slice() {
+        add_value(types, place.member(types, &member.0), &member.1, uses)?;
+    }
+    Ok(())
+}
+
+/// Adds the uses in arguments that have these definitions.
+pub(crate) fn add_arguments<'d>(
+    types: &'d Table<ExtendedType>,
+    definitions: &'d [InputValueDefinition],
+    arguments: &'d Listed<Argument>,
+    uses: &mut Listed<Use<'d>>,
+) -> Result<(), Memory>
+    ensures { OnOk result (seen.uses_of uses.new ≡ seen.uses_of uses.old ++ spec.arguments_uses types.now definitions.now arguments.now) }
+{
+    for argument in arguments.as_slice() {
+        add_argument(types, definitions, argument, uses)?;
+    }
+    Ok(())
+}
+
+/// Adds the uses in an argument.
+fn add_argument<'d>(
+    types: &'d Table<ExtendedType>,
+    definitions: &'d [InputValueDefinition],
+    argument: &'d Argument,
+    uses: &mut Listed<Use<'d>>,
+) -> Result<(), Memory>
+    ensures { OnOk result (seen.uses_of uses.new ≡ seen.uses_of uses.old ++ spec.argument_uses types.now definitions.now argument.now) }
+{
+    let place = Place::of_input(defined(definitions, argument.name.as_str()));
+    add_value(types, place, &argument.value, uses)
+}
+
+/// Adds the uses in the arguments of directives.
+pub(crate) fn add_directives<'d>(
+    schema: &'d Schema,
+    directives: &'d Listed<Directive>,
+    uses: &mut Listed<Use<'d>>,
+) -> Result<(), Memory>
+    ensures { OnOk result (seen.uses_of uses.new ≡ seen.uses_of uses.old ++ spec.directives_uses schema.now directives.now) }
+{
+    for used in directives.as_slice() {
+        add_directive(schema, used, uses)?;
+    }
+    Ok(())
+}
+
+/// Adds the uses in the arguments of a directive.
+fn add_directive<'d>(
+    schema: &'d Schema,
+    used: &'d Directive,
+    uses: &mut Listed<Use<'d>>,
+) -> Result<(), Memory>
+    ensures { OnOk result (seen.uses_of uses.new ≡ seen.uses_of uses.old ++ spec.directive_uses schema.now used.now) }
+{
+    let definitions = directive_arguments(schema, used.name.as_str());
+    add_arguments(&schema.types, definitions, &used.arguments, uses)
+}
+
+/// The arguments of the directive of the name, if it is defined.
+fn directive_arguments<'d>(schema: &'d Schema, name: &str) -> &'d [InputValueDefinition]
+    ensures { result.now ≡ spec.directive_arguments name.now schema.now.directive_definitions }
+{
+    match schema.directive_definitions.get(name) {
+        Some(definition) => definition.arguments.as_slice(),
+        None => &[],
+    }
+}
+
+/// The definition of an argument: the first of its name.
+fn defined<'d>(
+    definitions: &'d [InputValueDefinition],
+    name: &str,
+) -> Option<&'d InputValueDefinition>
+    ensures { option_copied result ≡ entry input_name name.now definitions.now }
+{
+    definitions
+        .iter()
+        .find(|definition| name == definition.name.as_str())
+}
