@@ -1,0 +1,43 @@
+-- Which leaves a scalar type and an enum type take: sections 3.5 and 3.9 of GraphQL October 2021, result coercion.
+use Rattle.std.specs.Prelude.{ℕ, ℤ, pos, negsuc, ◌^◌, ◌-◌, nat_lt, Bool, true, false, ◌||◌, if◌then◌else◌, List, codes, is_some}
+use Rattle.std.specs.Option.{option_map_or}
+use Rattle.std.specs.Str.{bytes_eq}
+use Rattle.jb_tree.specs.declared.value.Value.{Value}
+use Rattle.jb_tree.specs.Value.{string_text, whole_number, truth_value}
+use Rattle.gql_ast_base.specs.Names.{Named}
+use Rattle.gql_ast_definitions.specs.declared.field_definition.EnumValueDefinition.{EnumValueDefinition}
+use Rattle.gql_schema_types.specs.Entries.{entry}
+
+-- 32 bits with a sign
+abbrev pub is_int : ℤ → Bool
+is_int (pos n) = nat_lt n (2 ^ 31)
+is_int (negsuc n) = nat_lt n (2 ^ 31)
+
+-- of a magnitude below 2 ^ 53 - 1
+abbrev pub is_float : ℤ → Bool
+is_float (pos n) = nat_lt n (2 ^ 53 - 1)
+is_float (negsuc n) = nat_lt n (2 ^ 53 - 2)
+
+-- 64 bits with a sign
+abbrev pub is_signed : ℤ → Bool
+is_signed (pos n) = nat_lt n (2 ^ 63)
+is_signed (negsuc n) = nat_lt n (2 ^ 63)
+
+abbrev pub number_is : (ℤ → Bool) → Value → Bool
+number_is test value = option_map_or test (whole_number value) false
+
+-- the built-in types but Int by name; any other takes anything
+abbrev pub takes : List ℕ → Value → Bool
+takes name value =
+    if bytes_eq name (codes "Float") then number_is is_float value
+    else (if bytes_eq name (codes "String") then is_some (string_text value)
+    else (if bytes_eq name (codes "Boolean") then is_some (truth_value value)
+    else (if bytes_eq name (codes "ID") then is_some (string_text value) || number_is is_signed value
+    else true)))
+
+abbrev pub value_name : EnumValueDefinition → Named
+value_name value = value.value
+
+-- the text of one of the values
+abbrev pub is_value : List EnumValueDefinition → Value → Bool
+is_value values value = option_map_or (λ name. is_some (entry value_name name values)) (string_text value) false

@@ -1,0 +1,3 @@
+pub mod Height
+pub mod Shapes
+pub mod Views

@@ -1,0 +1,38 @@
+-- Values of the data at one level of a type, and lists of them.
+use Rattle.std.proofs.Common.{◌≡◌, List, [], ◌∷◌, map, Option, Some, None, Result, refl, sym, ap, ◌∙◌}
+use Rattle.jb_tree.specs.declared.value.Value.{Value}
+use Rattle.gql_ast_base.specs.Names.{Named}
+use Rattle.gql_ast_values.specs.declared.type_ref.TypeRef.{TypeRef, out-TypeRef, fold_out-TypeRef}
+use Rattle.gql_ast_values.specs.declared.type_ref.TypeRef as ref
+use Rattle.gql_ast_values.specs.declared.type_ref.TypeRef.TheOpen.{TypeRef-F}
+use Rattle.gql_exec_complete.specs.Lists.{item_level}
+use Rattle.gql_exec_places.specs.Resolved.{Meaning, Meanings, answer_then}
+use Rattle.gql_exec_resolve.specs.Data.{Data}
+use Rattle.gql_exec_resolve.specs.DataMeaning.{failure_text, unless_failed, shaped_items, shape_level, shaped, unfailed_level, unfailed_at, unfailed}
+use Rattle.gql_exec_resolve.specs.Meaning.{item_by, meanings_by, itself}
+use Rattle.gql_exec_resolve.specs.declared.resolve_error.FieldError.{FieldError}
+use Rattle.gql_exec_resolve.specs.declared.resolved_value.ResolvedValue.{ResolvedValue}
+
+module _ (composite : Option Named) where
+  at_level : (k : TypeRef-F TypeRef) (value : Value)
+      → unfailed_level composite (ref.map-TypeRef TypeRef (Value → Meaning Data) (shaped composite) k) value ≡ unfailed_at composite (item_level k) value
+  at_level (TypeRef-F.Named name) value = refl
+  at_level (TypeRef-F.NonNullNamed name) value = refl
+  at_level (TypeRef-F.List item) value = refl
+  at_level (TypeRef-F.NonNullList item) value = refl
+
+  pub shaped-is : (ty : TypeRef) (value : Value) → shaped composite ty value ≡ unless_failed (failure_text value) (unfailed composite ty value)
+  shaped-is ty value =
+      ap (λ (f : Value → Meaning Data). f value) (fold_out-TypeRef (Value → Meaning Data) (shape_level composite) ty)
+      ∙ ap (unless_failed (failure_text value)) (at_level (out-TypeRef ty) value)
+
+-- a list whose items mean what the values are shaped to
+pub items-are : (shape : Value → Meaning Data) (items : List (Result (ResolvedValue Data) FieldError)) (values : List Value)
+    → map (item_by itself) items ≡ map shape values → meanings_by itself items ≡ shaped_items shape values
+items-are shape [] [] same = refl
+items-are shape [] (v ∷ vs) same = cc
+items-are shape (r ∷ rs) [] same = cc
+items-are shape (r ∷ rs) (v ∷ vs) same =
+    let first : item_by itself r ≡ shape v = cc in
+    let rest : map (item_by itself) rs ≡ map shape vs = cc in
+    ap (λ m. answer_then m (meanings_by itself rs)) first ∙ ap (answer_then (shape v)) (items-are shape rs vs rest)

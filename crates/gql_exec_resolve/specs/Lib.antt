@@ -1,0 +1,7 @@
+pub mod Meaning
+pub mod ResolveInfo
+pub mod UnknownField
+pub mod Data
+pub mod DataName
+pub mod DataMeaning
+pub mod DataShape

@@ -1,0 +1,48 @@
+-- What a resolver is told, whatever the private fields are.
+use Rattle.std.specs.Prelude.{◌≡◌, ℕ, List}
+use Rattle.std.specs.Borrow.{Bor}
+use Rattle.jb_tree.specs.declared.value.Value.{Value}
+use Rattle.gql_ast_definitions.specs.declared.field_definition.FieldDefinition.{FieldDefinition}
+use Rattle.gql_document_types.specs.declared.document.ExecutableDocument.{ExecutableDocument}
+use Rattle.gql_document_types.specs.declared.selection.Field.{Field}
+use Rattle.gql_schema_types.specs.declared.implementers.Implementers.{Implementers}
+use Rattle.gql_schema_types.specs.declared.schema.Schema.{Schema}
+use Rattle.gql_schema_types.specs.declared.types.ObjectType.{ObjectType}
+use Rattle.gql_exec_resolve.specs.Meaning.{Members}
+use Rattle.gql_exec_resolve.specs.declared.resolve_info.RequestInfo.{RequestInfo}
+use Rattle.gql_exec_resolve.specs.declared.resolve_info.ResolveInfo.{ResolveInfo}
+
+abbrev pub schema_of : ResolveInfo → Schema
+schema_of info = info.request.now.schema.now
+
+abbrev pub implementers_of : ResolveInfo → List (List ℕ × Implementers)
+implementers_of info = info.request.now.implementers_map.now
+
+abbrev pub document_of : ResolveInfo → ExecutableDocument
+document_of info = info.request.now.document.now
+
+abbrev pub object_type_of : ResolveInfo → ObjectType
+object_type_of info = info.object_type.now
+
+abbrev pub field_name_of : ResolveInfo → List ℕ
+field_name_of info = info.field.now.name.text
+
+abbrev pub field_definition_of : ResolveInfo → FieldDefinition
+field_definition_of info = info.field.now.definition
+
+abbrev pub field_selections_of : ResolveInfo → List (Bor Field)
+field_selections_of info = info.fields.now
+
+abbrev pub arguments_of : ResolveInfo → Members
+arguments_of info = info.arguments.now
+
+-- it tells these
+pub record IsInfo (info : ResolveInfo) (request : RequestInfo) (T : ObjectType) (field : Field) (fields : List (Bor Field)) (arguments : Members) : Type 0 where
+  pub schema : schema_of info ≡ request.schema.now
+  pub implementers : implementers_of info ≡ request.implementers_map.now
+  pub document : document_of info ≡ request.document.now
+  pub object_type : object_type_of info ≡ T
+  pub field_name : field_name_of info ≡ field.name.text
+  pub definition : field_definition_of info ≡ field.definition
+  pub selections : field_selections_of info ≡ fields
+  pub values : arguments_of info ≡ arguments

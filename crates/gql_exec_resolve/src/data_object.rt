@@ -1,0 +1,157 @@
+//! Objects of plain JSON data as resolvers.
+
+ghost use Rattle.std.specs.Prelude.{◌≡◌};
+ghost use Rattle.gql_exec_resolve.specs.DataMeaning as spec;
+ghost use Rattle.gql_exec_resolve.specs.Meaning.{Answers, itself};
+ghost use Rattle.std.specs.Option.{option_copied};
+
+use crate::data_shape::DataShape;
+use crate::resolve_error::ResolveError;
+use crate::resolve_info::ResolveInfo;
+use crate::resolved_value::ResolvedValue;
+use crate::resolver::ObjectValue;
+use gql_ast_base::Name;
+use gql_ast_definitions::FieldDefinition;
+use gql_document_types::innermost;
+use gql_schema_types::{ExtendedType, Schema};
+use jb_tree::{Map, Value};
+use std::alloc::Global;
+use std::marker::Model;
+
+/// An object of plain JSON data as a resolver: each field is the member of its name, null where it is absent, shaped by the
+/// field's type on the object type.
+///
+/// An object with a text member `__error` is a failure with that text. At the type of a list an array is a list of its
+/// items, shaped in turn. At an object, an interface or a union type an object is an object of the type that its text
+/// member `__typename` names, else of the field's named type. All else is a leaf.
+#[derive(Drop)]
+pub struct DataObject<'d> {
+    type_name: ObjectName<'d>,
+    members: &'d Map,
+}
+
+/// The name of an object's type: told by its data, or that of the type of the field that it stands at, whose text is
+/// shared and not copied.
+#[derive(Drop)]
+pub(crate) enum ObjectName<'d> {
+    Root,
+    Told(&'d str),
+    Taken(Name),
+}
+
+impl<'d> Model for DataObject<'d> {
+    ghost use Rattle.gql_exec_resolve.specs.Data.{Data};
+    ghost use Rattle.gql_exec_resolve.specs.DataName.{name_of};
+    ghost use Rattle.jb_tree.specs.contracts.value.Value as json;
+    ghost use Rattle.std.specs.Coded.{codes};
+
+    ghost Value = { Data };
+
+    ghost coded = { Prim.hlevel (codes, json.the_row.coded) };
+
+    ghost view = { λ o. record { type_name = name_of o.type_name; members = o.members.now } };
+}
+
+impl<'d> DataObject<'d> {
+    ghost use Rattle.std.specs.Prelude.{◌≡◌, []};
+    ghost use Rattle.gql_exec_resolve.specs.DataName.{name_of};
+
+    /// The root of the data, whose type name is empty.
+    #[must_use]
+    pub fn root(members: &'d Map) -> DataObject<'d>
+        ensures { result ≡ record { type_name = []; members = members.now } }
+    {
+        DataObject {
+            type_name: ObjectName::Root,
+            members,
+        }
+    }
+
+    /// The object with these members, of a type of this name.
+    pub(crate) fn named(type_name: ObjectName<'d>, members: &'d Map) -> DataObject<'d>
+        ensures { result ≡ record { type_name = name_of type_name.entry; members = members.now } }
+    {
+        DataObject { type_name, members }
+    }
+}
+
+impl<'d> ObjectValue for DataObject<'d> {
+    ghost use Rattle.gql_exec_resolve.specs.Data.{Data};
+    ghost use Rattle.gql_exec_resolve.specs.DataMeaning.{data_meaning};
+    ghost use Rattle.gql_exec_resolve.specs.Meaning.{itself};
+
+    ghost Seen = { Data };
+
+    ghost seen = { itself };
+
+    ghost type_of = { λ o. o.type_name };
+
+    ghost resolves = { data_meaning };
+
+    fn type_name(&self) -> &str {
+        match &self.type_name {
+            ObjectName::Root => "",
+            ObjectName::Told(name) => name,
+            ObjectName::Taken(name) => name.as_str(),
+        }
+    }
+
+    fn resolve_field(
+        &self,
+        alloc: Global,
+        info: &ResolveInfo<'_>,
+    ) -> Result<ResolvedValue<DataObject<'d>>, ResolveError> {
+        let schema = info.schema().as_ref();
+        let definition = schema.type_field(info.object_type().name.as_str(), info.field_name());
+        match self.members.get(info.field_name()) {
+            Some(value) => value_of(alloc, schema, definition, value),
+            None => Ok(ResolvedValue::Leaf(Value::Null)),
+        }
+    }
+}
+
+/// A value of the data at a field with this definition.
+fn value_of<'d>(
+    alloc: Global,
+    schema: &Schema,
+    definition: Option<&FieldDefinition>,
+    value: &'d Value,
+) -> Result<ResolvedValue<DataObject<'d>>, ResolveError>
+    ensures { Answers itself result (spec.value_of schema.now (option_copied definition.entry) value.now) }
+{
+    match definition {
+        Some(definition) => {
+            let composite = composite_name(schema, innermost(&definition.ty));
+            let shape = DataShape { alloc, composite };
+            shape.shaped(&definition.ty, value)
+        }
+        None => {
+            let shape = DataShape {
+                alloc,
+                composite: None,
+            };
+            shape.untyped(value)
+        }
+    }
+}
+
+/// The name, where it is that of an object, an interface or a union type.
+fn composite_name<'t>(schema: &Schema, name: &'t Name) -> Option<&'t Name>
+    ensures { option_copied result ≡ spec.composite_name schema.now name.now }
+{
+    if is_composite(schema.types.get(name.as_str())) {
+        Some(name)
+    } else {
+        None
+    }
+}
+
+/// Whether this is an object, an interface or a union type.
+fn is_composite(ty: Option<&ExtendedType>) -> bool
+    ensures { result ≡ spec.is_composite_type (option_copied ty.entry) }
+{
+    match ty {
+        Some(ty) => ty.is_composite(),
+        None => false,
+    }
+}

@@ -1,0 +1,41 @@
+//! Laws of the world of a document.
+
+ghost use Rattle.std.specs.Prelude.{◌≡◌, ℕ, List};
+ghost use Rattle.gql_document_types.specs.declared.selection.Selection.{Selection};
+ghost use Rattle.gql_exec_groups.specs.Groups.{FieldGroup, SameGroups, applying};
+ghost use Rattle.gql_exec_groups.specs.Ranks.{AreRanked};
+ghost use Rattle.gql_exec_groups.specs.Same.{SameFirst};
+ghost use Rattle.gql_exec_places.specs.Depth.{Suffices};
+ghost use Rattle.gql_exec_places.specs.Execute.{execute};
+ghost use Rattle.gql_exec_places.specs.Trail.{Trail};
+ghost use Rattle.gql_exec_places.specs.World.{DistinctKeys, IsLawful};
+ghost use Rattle.gql_exec_world.specs.Group.{groups_from};
+ghost use Rattle.gql_exec_world.specs.Nesting.{nesting, AllBelow};
+ghost use Rattle.gql_exec_world.specs.Request.{Request};
+ghost use Rattle.gql_exec_world.specs.RequestWorld.{plain_world, setting_on};
+ghost use Rattle.gql_exec_world.specs.Runs.{RunsAs};
+ghost use Rattle.gql_schema_types.specs.declared.types.ObjectType.{ObjectType};
+
+/// The world of a document keeps what the laws of execution ask of a world.
+pub fn worlds_are_lawful<X>()
+    ensures { (r : Request X) → IsLawful (plain_world r) }
+{}
+
+/// Groups that are the same once repeated fields are left out are executed alike (GraphQL October 2021, section 6.3.2).
+pub fn repeats_change_nothing<X>()
+    ensures runs { (r : Request X) (U : ObjectType) (gs : List FieldGroup) (sets : List (List Selection))
+        → SameGroups gs (applying (setting_on r U) sets) → (depth : ℕ) → Suffices (plain_world r) depth U sets
+        → RunsAs (plain_world r) depth U sets (groups_from gs) }
+    ensures keys { (r : Request X) (U : ObjectType) (gs : List FieldGroup) (sets : List (List Selection))
+        → SameGroups gs (applying (setting_on r U) sets) → DistinctKeys (plain_world r) (groups_from gs) }
+    ensures sets { (r : Request X) (depth : ℕ) (U : ObjectType) (x : X) (outer : Trail) (sets others : List (List Selection))
+        → SameFirst sets others → execute (plain_world r) depth U x outer sets ≡ execute (plain_world r) depth U x outer others }
+{}
+
+/// Where no fragment leads back to itself, what is selected below a group goes less deep, and each group's field is defined.
+pub fn groups_go_less_deep<X>()
+    ensures below { (r : Request X) → ((rank : ℕ → ℕ) × AreRanked r.fragments rank) → (U : ObjectType) (gs : List FieldGroup) (sets : List (List Selection))
+        → SameGroups gs (applying (setting_on r U) sets) → AllBelow r.schema U r.fragments (nesting r.fragments sets) gs }
+    ensures enough { (r : Request X) → ((rank : ℕ → ℕ) × AreRanked r.fragments rank) → (U : ObjectType) (sets : List (List Selection))
+        → Suffices (plain_world r) (nesting r.fragments sets) U sets }
+{}
