@@ -11,7 +11,8 @@ def faults():
     for crate in crates():
         for file in files_of(crate, "src", ".rt"):
             text = file.read_text()
-            yield from (f"{shown(file)}: no clause says what `{name}` gives" for name in unsaid(text))
+            said = [] if crate.name.startswith("tests_") else unsaid(text)
+            yield from (f"{shown(file)}: no clause says what `{name}` gives" for name in said)
             yield from (f"{shown(file)}: no documentation of `{name}`" for name in undocumented(text))
 
 
