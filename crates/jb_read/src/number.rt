@@ -1,6 +1,6 @@
 //! Numbers (RFC 8259, section 6), whole ones alone.
 
-ghost use Rattle.std.specs.Prelude.{◌≡◌, drop, ◌+◌, ◌-◌, ◌*◌, ◌≤◌, ◌<◌, ℕ, true, false, length, IsTrue, OnOk};
+ghost use Rattle.std.specs.Prelude.{◌≡◌, drop, ◌+◌, ◌-◌, ◌*◌, ◌≤◌, ◌<◌, ◌^◌, ℕ, true, false, length, IsTrue, OnOk};
 ghost use Rattle.jb_read.specs.Bytes.{is_digit, begins};
 ghost use Rattle.jb_read.specs.Reading.{Tells};
 ghost use Rattle.jb_read.specs.Numbers.{digits_from, bounded_whole_at, within, number_of, is_mark, is_minus, number_at};
@@ -35,14 +35,36 @@ fn with_digit(value: Option<u64>, byte: u8) -> Option<u64>
     value?.checked_mul(10)?.checked_add(u64::from(byte - b'0'))
 }
 
-/// The number that the digits at the front spell behind its first digit, where 64 bits hold it, and how many there are.
-#[tactic(auto, using(crate::proofs::Front::digits_from_stop, crate::proofs::Front::digits_from_end))]
-fn spelled(bytes: &[u8], lead: u8) -> (Option<u64>, usize)
-    ensures value { result.0 ≡ within (digits_from lead bytes.now).0 }
-    ensures rest { drop result.1 bytes.now ≡ (digits_from lead bytes.now).1 }
+/// The greatest number behind which 64 bits hold any digit.
+const SAFE: u64 = 1_844_674_407_370_955_160;
+
+/// The number that the digits at the front spell behind its first digit, as far as 64 bits surely hold it, and how many of
+/// them there are.
+fn spelled_safely(bytes: &[u8], lead: u8) -> (u64, usize)
+    ensures value { digits_from result.0 (drop result.1 bytes.now) ≡ digits_from lead bytes.now }
+    ensures bound { result.0 < 2 ^ 64 }
     ensures within { result.1 ≤ length bytes.now }
 {
-    let mut value = Some(u64::from(lead));
+    let mut value = u64::from(lead);
+    let mut count = 0;
+    for &byte in bytes {
+        if !is_digit(byte) || value > SAFE {
+            break;
+        }
+        value = value * 10 + u64::from(byte - b'0');
+        count += 1;
+    }
+    (value, count)
+}
+
+/// The number that the digits at the front spell behind these, where 64 bits hold it, and how many there are.
+#[tactic(auto, using(crate::proofs::Front::digits_from_stop, crate::proofs::Front::digits_from_end))]
+fn spelled_on(bytes: &[u8], number: u64) -> (Option<u64>, usize)
+    ensures value { result.0 ≡ within (digits_from number bytes.now).0 }
+    ensures rest { drop result.1 bytes.now ≡ (digits_from number bytes.now).1 }
+    ensures within { result.1 ≤ length bytes.now }
+{
+    let mut value = Some(number);
     let mut count = 0;
     for &byte in bytes {
         if !is_digit(byte) {
@@ -60,8 +82,10 @@ fn read_digits(cursor: &mut Cursor<'_>, lead: u8) -> Option<u64>
     ensures rest { cursor.new ≡ (digits_from lead cursor.old).1 }
     ensures no_more { length cursor.new ≤ length cursor.old }
 {
-    let (value, count) = spelled(cursor.rest(), lead);
+    let (number, count) = spelled_safely(cursor.rest(), lead);
     cursor.skip(count);
+    let (value, more) = spelled_on(cursor.rest(), number);
+    cursor.skip(more);
     value
 }
 
