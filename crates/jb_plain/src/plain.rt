@@ -9,6 +9,7 @@ const RUN: usize = 16;
 
 /// How many bytes stand before the first one that does not stand for itself in a JSON string: all of them, where each does.
 #[must_use]
+#[inline]
 pub fn plain_length(bytes: &[u8]) -> usize
     ensures { result ≡ prefix_len is_plain bytes.now }
 {
