@@ -1,6 +1,6 @@
 -- What a JSON value asks, where it is a request, and else why it is none.
 use Rattle.std.specs.Prelude.{◌≡◌, ℕ, Bool, false, if◌then◌else◌, List, [], ◌++◌, Option, Some}
-use Rattle.std.specs.Prelude.{None, unwrap_or, Result, Ok, Err, codes, ◌||◌, not, is_some, nat_eq, length}
+use Rattle.std.specs.Prelude.{None, unwrap_or, Result, Ok, Err, codes}
 use Rattle.std.specs.Borrow.{Bor}
 use Rattle.std.specs.Option.{option_map, option_copied}
 use Rattle.std.specs.Str.{bytes_eq}
@@ -12,6 +12,7 @@ use Rattle.gql_engine.specs.declared.request.Member.TheVariants.{Schema, Query, 
 use Rattle.gql_engine.specs.declared.request.RequestFault.{RequestFault}
 use Rattle.gql_engine.specs.declared.request.RequestFault.TheVariants.{NotObject, Missing, WrongKind}
 use Rattle.gql_engine.specs.declared.request.Request.{Request}
+use Rattle.gql_engine.specs.Wanted.{Members, Wanted}
 
 abbrev pub member_name : Member → List ℕ
 member_name Schema = codes "schema"
@@ -20,9 +21,6 @@ member_name OperationName = codes "operationName"
 member_name Variables = codes "variables"
 member_name Introspection = codes "introspection"
 member_name Data = codes "data"
-
-abbrev pub Members : Type 0
-Members = List (List ℕ × Value)
 
 -- what a request asks
 pub record Asked : Type 0 where
@@ -33,9 +31,14 @@ pub record Asked : Type 0 where
   pub introspection : Bool
   pub root : Option Members
 
--- the request gives what can't be answered yet: an operation name, variables or introspection
-abbrev pub has_options : Asked → Bool
-has_options request = is_some request.operation_name || (not (nat_eq (length (unwrap_or request.variables [])) 0) || request.introspection)
+-- what the request wants: it has no variables unless it gives some
+abbrev pub wanted_of : Asked → Wanted
+wanted_of request = record {
+  schema = request.schema;
+  query = request.query;
+  operation_name = request.operation_name;
+  variables = unwrap_or request.variables [];
+}
 
 -- a value of the kind that the member must have
 abbrev pub of_kind : {A : Type 0} → Member → Option A → Result A RequestFault

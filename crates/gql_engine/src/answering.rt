@@ -1,90 +1,49 @@
 //! Answering: a schema, a query and a resolver in, a response out.
 
-ghost use Rattle.std.specs.Prelude.{◌≡◌, ◌≢◌, ◌⊎◌, ◌||◌, not, nat_eq, is_some, Err, IfOk, IfErr, OnOk, length};
-ghost use Rattle.gql_engine.specs.Answered.{Answered};
-ghost use Rattle.gql_engine.specs.declared.answering.AnswerError.{AnswerError as Refusal};
-ghost use Rattle.gql_engine.specs.declared.answering.AnswerError.TheVariants as refusal;
-ghost use Rattle.gql_engine.specs.AnswerError.{Asks, AsksNoOptions, AsksPlainly, HasCause, IsObjectText, IsOfTexts, IsRefusedText, unbuilt_message};
-ghost use Rattle.gql_engine.specs.Request.{Members};
+ghost use Rattle.std.specs.Prelude.{◌≡◌, ◌≢◌, ◌⊎◌, Err, IfOk, IfErr};
+ghost use Rattle.gql_engine.specs.declared.answer_error.AnswerError.{AnswerError as Refused};
+ghost use Rattle.gql_engine.specs.declared.answer_error.AnswerError.TheVariants as refusal;
+ghost use Rattle.jb_read.specs.Spelling.{JsonText};
+ghost use Rattle.gql_engine.specs.AnswerError.{HasCause, IsUnread, IsValid, call_of};
+ghost use Rattle.gql_engine.specs.Answering.{Answers};
+ghost use Rattle.gql_engine.specs.Responding.{IsAnswer};
+ghost use Rattle.gql_engine.specs.Wanted.{wanted_by};
 
-use crate::texts;
+use crate::answer_error::{AnswerError, UnbuiltPart, VariablesFault};
+use crate::responding::respond;
 use crate::uncounted::answer_uncounted;
+use crate::wanted::Wanted;
 use bytes::Bytes;
-use gql_ast_laws::laws;
-use gql_exec::{ObjectValue, Steps, execute};
-use gql_plain::NotPlain;
-use jb_read::{ReadFault, from_bytes_whole};
-use jb_tree::{Memory, Refused};
+use gql_exec_resolve::ObjectValue;
+use gql_exec_steps::Steps;
+use jb_read::from_bytes_whole;
+use jb_tree::{Refused, Value};
 use std::alloc::Global;
 use std::sync::ledger::Ledger;
 
-/// A part of a request that can't be answered yet.
-#[derive(Clone, Copy, Debug, PartialEq, Eq)]
-pub enum UnbuiltPart {
-    /// An operation name, introspection or variables.
-    Options,
-    /// A schema text that is no plain one.
-    Schema,
-    /// A query text that is no plain one of its schema.
-    Query,
-}
-
-impl UnbuiltPart {
-    /// The text of the refusal.
-    pub fn message(self) -> &'static str
-        ensures { result.now ≡ unbuilt_message self }
-    {
-        match self {
-            UnbuiltPart::Options => "unbuilt: options",
-            UnbuiltPart::Schema => "unbuilt: schema",
-            UnbuiltPart::Query => "unbuilt: query",
-        }
-    }
-}
-
-/// Why a text is no object of variables.
-#[derive(Clone, Copy, Debug, PartialEq, Eq)]
-pub enum VariablesFault {
-    /// It is no JSON text.
-    Read(ReadFault),
-    /// It is a JSON text of another value.
-    NotObject,
-}
-
-/// Why a request is not answered. The first that applies, in this order, is told.
-#[derive(Clone, Copy, Debug, PartialEq, Eq)]
-pub enum AnswerError {
-    Variables(VariablesFault),
-    Unbuilt { part: UnbuiltPart },
-    Memory,
-}
-
-impl From<Memory> for AnswerError {
-    ghost use Rattle.std.specs.Prelude.{◌≡◌};
-    ghost use Rattle.gql_engine.specs.declared.answering.AnswerError.TheVariants as refusal;
-
-    ghost from_gives = { λ _ error. error ≡ refusal.Memory };
-
-    fn from(_want: Memory) -> AnswerError {
-        AnswerError::Memory
-    }
-}
-
-/// Answers a query over a schema, whose root is resolved by `root`: the bytes of the response (GraphQL October 2021,
-/// section 7).
+/// Answers an operation of a query over a schema, whose root is resolved by `root`: the bytes of the response (GraphQL
+/// October 2021, sections 6 and 7).
 ///
-/// `variables` is a JSON text. Where both texts are plain (see `gql_plain`) and nested at most 500 deep, and nothing
-/// else is asked, the response is given, unless memory fails. The paths of its errors are those of its data, their
-/// locations those of the query's text. `steps` counts looks at selections; this far nothing is counted.
+/// `variables` is a JSON text. The operation is the one of the name, or the only one. Both texts may be nested at most 500
+/// deep. The paths of the response's errors are those of its data, their locations those of the query's text. `steps` counts
+/// looks at selections; this far nothing is counted.
 ///
 /// # Errors
 ///
-/// - [`AnswerError::Variables`] exactly where the variables are no JSON text, with its first fault, or one of another
-///   value than an object.
-/// - [`AnswerError::Unbuilt`] else exactly where an operation name is given, introspection is asked for or there are
-///   variables ([`UnbuiltPart::Options`]), else exactly where the schema's text means no plain schema
-///   ([`UnbuiltPart::Schema`]), else exactly where the query's text asks nothing plain of it ([`UnbuiltPart::Query`]).
-/// - [`AnswerError::Memory`] for want of memory, also told by the resolver.
+/// The first of these that applies, and exactly where it does:
+///
+/// - [`AnswerError::Variables`] where the variables are no JSON text, with its first fault, or one of another value than an
+///   object.
+/// - [`AnswerError::Unbuilt`] where introspection is asked for.
+/// - [`AnswerError::Schema`] where the schema's text means no schema (sections 2 and 3), with what is wrong with it.
+/// - [`AnswerError::Document`] where the query's text means no document against it (sections 2 and 5), with what is wrong
+///   with it.
+/// - [`AnswerError::Request`] of kind [`Operation`](crate::RequestKind::Operation) where there is no operation of the name,
+///   or no name and not exactly one operation (section 6.1).
+/// - [`AnswerError::Request`] of kind [`Variable`](crate::RequestKind::Variable) where a variable is not coerced, with the
+///   fault of the first (section 6.1.2).
+///
+/// [`AnswerError::Memory`] comes for want of memory, also told by the resolver.
 pub fn answer<O: ObjectValue, L: Ledger>(
     alloc: Global,
     schema: &str,
@@ -95,17 +54,17 @@ pub fn answer<O: ObjectValue, L: Ledger>(
     root: &O,
     steps: &mut Steps<L>,
 ) -> Result<Bytes, AnswerError>
-    ensures asked { OnOk result (AsksNoOptions operation_name.entry variables.now introspection) }
-    ensures answered { IfOk result (Answered O.type_of O.resolves root.now schema.now query.now) }
+    ensures answered { IfOk result (Answers O.type_of O.resolves (O.seen root.now)
+        (call_of schema.now query.now operation_name.entry variables.now introspection)) }
 
     // Each refusal has its cause, and where a cause holds its refusal comes, unless memory fails.
-    ensures refused { IfErr result (HasCause schema.now query.now operation_name.entry variables.now introspection) }
-    ensures exact { (error : Refusal) → error ≢ refusal.Memory
-        → HasCause schema.now query.now operation_name.entry variables.now introspection error
+    ensures refused { IfErr result (HasCause (call_of schema.now query.now operation_name.entry variables.now introspection)) }
+    ensures exact { (error : Refused) → error ≢ refusal.Memory
+        → HasCause (call_of schema.now query.now operation_name.entry variables.now introspection) error
         → (result ≡ Err error) ⊎ (result ≡ Err refusal.Memory) }
 
-    // A plain request is answered, unless memory fails.
-    ensures plain { AsksPlainly schema.now query.now operation_name.entry variables.now introspection
+    // A valid request is answered, unless memory fails.
+    ensures valid { IsValid (call_of schema.now query.now operation_name.entry variables.now introspection)
         → IfErr result (λ error. error ≡ refusal.Memory) }
     ensures uncounted { steps.new ≡ steps.old }
 {
@@ -130,96 +89,54 @@ pub(crate) fn answer_or_refuse<O: ObjectValue>(
     introspection: bool,
     root: &O,
 ) -> Result<Bytes, AnswerError>
-    ensures asked { OnOk result (AsksNoOptions operation_name.entry variables.now introspection) }
-    ensures answered { IfOk result (Answered O.type_of O.resolves root.now schema.now query.now) }
-    ensures refused { IfErr result (HasCause schema.now query.now operation_name.entry variables.now introspection) }
+    ensures answered { IfOk result (Answers O.type_of O.resolves (O.seen root.now)
+        (call_of schema.now query.now operation_name.entry variables.now introspection)) }
+    ensures refused { IfErr result (HasCause (call_of schema.now query.now operation_name.entry variables.now introspection)) }
 {
-    let asks = asks_options(alloc, operation_name, variables, introspection)?;
-    if asks {
-        return Err(AnswerError::Unbuilt {
-            part: UnbuiltPart::Options,
-        });
+    let value = read_variables(alloc, variables)?;
+    match value.as_object() {
+        Some(variables) => {
+            let wanted = Wanted {
+                schema,
+                query,
+                operation_name,
+                variables,
+            };
+            answer_wanted(alloc, &wanted, introspection, root)
+        }
+        None => Err(AnswerError::Variables(VariablesFault::NotObject)),
     }
-    match respond(alloc, schema, query, root) {
-        Ok(bytes) => Ok(bytes),
-        Err(Refused::Fault(part)) => Err(AnswerError::Unbuilt { part }),
-        Err(Refused::Memory) => Err(AnswerError::Memory),
-    }
 }
 
-/// Whether an operation name is given, there are variables, or introspection is asked for.
-fn asks_options(
-    alloc: Global,
-    operation_name: Option<&str>,
-    variables: &Bytes,
-    introspection: bool,
-) -> Result<bool, AnswerError>
-    ensures asked { IfOk result (Asks operation_name.entry variables.now introspection) }
-    ensures refused { IfErr result (IsRefusedText variables.now) }
-{
-    let count = count_variables(alloc, variables)?;
-    Ok(are_options(operation_name, count, introspection))
-}
-
-/// Whether one of these is an option.
-pub(crate) fn are_options(
-    operation_name: Option<&str>,
-    variables: usize,
-    introspection: bool,
-) -> bool
-    ensures { result ≡ (is_some operation_name.entry || (not (nat_eq variables 0) || introspection)) }
-{
-    operation_name.is_some() || variables != 0 || introspection
-}
-
-/// How many variables there are, where their text is one of an object.
-fn count_variables(alloc: Global, variables: &Bytes) -> Result<usize, AnswerError>
-    ensures counted { IfOk result (λ count. (members : Members) × IsObjectText variables.now members × (count ≡ length members)) }
-    ensures refused { IfErr result (IsRefusedText variables.now) }
+/// The value that the text of the variables spells.
+fn read_variables(alloc: Global, variables: &Bytes) -> Result<Value, AnswerError>
+    ensures read { IfOk result (JsonText variables.now) }
+    ensures refused { IfErr result (IsUnread variables.now) }
 {
     match from_bytes_whole(alloc, variables) {
-        Ok(value) => match value.as_object() {
-            Some(members) => Ok(members.len()),
-            None => Err(AnswerError::Variables(VariablesFault::NotObject)),
-        },
+        Ok(value) => Ok(value),
         Err(Refused::Fault(fault)) => Err(AnswerError::Variables(VariablesFault::Read(fault))),
         Err(Refused::Memory) => Err(AnswerError::Memory),
     }
 }
 
-/// The response to a plain query over a plain schema.
-///
-/// # Errors
-///
-/// The part that is no plain text, or want of memory.
-pub(crate) fn respond<O: ObjectValue>(
+/// The response to what is wanted, unless introspection is asked for.
+fn answer_wanted<O: ObjectValue>(
     alloc: Global,
-    schema: &str,
-    query: &str,
+    wanted: &Wanted<'_>,
+    introspection: bool,
     root: &O,
-) -> Result<Bytes, Refused<UnbuiltPart>>
-    ensures answered { IfOk result (Answered O.type_of O.resolves root.now schema.now query.now) }
-    ensures unbuilt { IfErr result (IsOfTexts schema.now query.now) }
+) -> Result<Bytes, AnswerError>
+    ensures { IsAnswer O.type_of O.resolves (O.seen root.now) (wanted_by wanted.now) introspection result }
 {
-    laws::texts_have_one_document();
-    let schema = match texts::schema(alloc, schema) {
-        Ok(schema) => schema,
-        Err(Refused::Fault(NotPlain)) => return Err(Refused::Fault(UnbuiltPart::Schema)),
-        Err(Refused::Memory) => return Err(Refused::Memory),
-    };
-    let root_type = schema.get_object(texts::ROOT_TYPE).unwrap();
-    let query = match texts::query(alloc, &schema, root_type, query) {
-        Ok(query) => query,
-        Err(Refused::Fault(NotPlain)) => return Err(Refused::Fault(UnbuiltPart::Query)),
-        Err(Refused::Memory) => return Err(Refused::Memory),
-    };
-    let response = execute(
-        alloc,
-        &schema,
-        &query.sources,
-        root_type,
-        &query.selections,
-        root,
-    )?;
-    Ok(response.to_bytes(alloc)?)
+    if introspection {
+        return Err(AnswerError::Unbuilt {
+            part: UnbuiltPart::Options,
+        });
+    }
+    match respond(alloc, wanted, root) {
+        Ok(bytes) => Ok(bytes),
+        Err(Refused::Fault(refusal)) => Err(refusal.into_error(alloc)?),
+        Err(Refused::Memory) => Err(AnswerError::Memory),
+    }
 }

@@ -1,7 +1,7 @@
 //! The program: its words, its input and its output.
 
 ghost use Rattle.std.specs.Prelude.{◌≡◌, ◌≢◌, ◌≤◌, ◌⊎◌, ◌↔◌, IsTrue};
-ghost use Rattle.gql_engine.specs.Program.{AsksAnswer, IsLong, IsPlainInput, usage};
+ghost use Rattle.gql_engine.specs.Program.{AsksAnswer, IsLong, IsValidInput, usage};
 ghost use Rattle.gql_engine.specs.Reply.{Answers, Refuses};
 ghost use Rattle.jb_io.specs.Sink.{Takes, TakesFront};
 ghost use Rattle.jb_io.specs.Source.{GivesAtMost, GivesMore};
@@ -9,7 +9,7 @@ ghost use Rattle.jb_io.specs.Stream.{HasFailed};
 ghost use Rattle.jb_serve.specs.Run.{BreaksOff, Serves};
 
 use crate::task::task_asked;
-use gql_exec::Steps;
+use gql_exec_steps::Steps;
 use jb_io::{Sink, Source, SureSink, SureSource};
 use jb_read::laws;
 use jb_serve::serve;
@@ -57,8 +57,8 @@ pub fn run<S: Source, K: Sink, L: Ledger>(
     ensures broken_off { result ≡ SINK_FAILED → AsksAnswer words.now → BreaksOff Answers Refuses
         (S.left source.old) (S.left source.new) (K.taken sink.old) (K.taken sink.new) }
 
-    // A plain request is answered, unless memory, the source or the sink fails.
-    ensures plain { AsksAnswer words.now → IsPlainInput (S.left source.old)
+    // A valid request is answered, unless memory, the source or the sink fails.
+    ensures valid { AsksAnswer words.now → IsValidInput (S.left source.old)
         → (result ≡ ANSWERED) ⊎ ((result ≡ NO_MEMORY) ⊎ ((result ≡ SOURCE_FAILED) ⊎ (result ≡ SINK_FAILED))) }
     ensures uncounted { steps.new ≡ steps.old }
 {
@@ -90,8 +90,8 @@ pub fn run_in_memory<L: Ledger>(
     ensures too_long { AsksAnswer words.now → IsLong (⟦<SureSource as Source>⟧.left source.old)
         → (result ≡ TOO_LONG) ⊎ (result ≡ NO_MEMORY) }
 
-    // A plain request is answered, unless memory fails.
-    ensures plain { AsksAnswer words.now → IsPlainInput (⟦<SureSource as Source>⟧.left source.old)
+    // A valid request is answered, unless memory fails.
+    ensures valid { AsksAnswer words.now → IsValidInput (⟦<SureSource as Source>⟧.left source.old)
         → (result ≡ ANSWERED) ⊎ (result ≡ NO_MEMORY) }
     ensures uncounted { steps.new ≡ steps.old }
 {

@@ -1,20 +1,20 @@
 //! The reply to the bytes of a request: a response, or why it is refused.
 
-ghost use Rattle.std.specs.Prelude.{◌≡◌, false, IfErr, IfOk};
-ghost use Rattle.jb_print.specs.Compact.{compact};
-ghost use Rattle.gql_engine.specs.Decision.{Decides};
-ghost use Rattle.gql_engine.specs.Reply.{AnswersAsked, IsRefusedFor, read_message as read_message_of, refusal_value};
-ghost use Rattle.gql_engine.specs.Request.{asked_in, has_options as has_options_of};
+ghost use Rattle.std.specs.Prelude.{◌≡◌, IfOk};
+ghost use Rattle.gql_engine.specs.Reply.{IsRefusedWith, IsReplyTo, IsReplyToAsked, read_message as read_message_of};
+ghost use Rattle.gql_engine.specs.Request.{asked_in};
 
-use crate::answering::{UnbuiltPart, are_options, respond};
-use crate::data_object::DataObject;
+use crate::answer_error::UnbuiltPart;
 use crate::request::{Request, decode};
+use crate::responding::respond;
 use crate::task::Task;
+use crate::wanted::Wanted;
 use bytes::Bytes;
-use jb_print::append_string;
+use gql_exec_resolve::DataObject;
+use gql_refusal::refusal_of_message;
 use jb_read::{ReadFault, from_bytes_whole};
 use jb_serve::{Command, Reply};
-use jb_tree::{Map, Memory, Refused, Text};
+use jb_tree::{Map, Memory, Refused, Text, Value};
 use std::alloc::{AllocError, Global};
 
 impl Command for Task {
@@ -26,65 +26,52 @@ impl Command for Task {
 
     fn reply(&self, alloc: Global, bytes: &Bytes) -> Result<Reply, Memory> {
         let Task::Answer = self;
-        match decide(alloc, bytes)? {
-            Decision::Answered(text) => Ok(Reply::Answer(text)),
-            Decision::Refused(message) => Ok(Reply::Refusal(refusal(alloc, message.as_str())?)),
-        }
-    }
-}
-
-/// What becomes of a request: the text of its response, or the message of its refusal.
-#[derive(Drop)]
-pub(crate) enum Decision {
-    Answered(Bytes),
-    Refused(Text),
-}
-
-fn decide(alloc: Global, bytes: &Bytes) -> Result<Decision, Memory>
-    ensures { IfOk result (Decides bytes.now) }
-{
-    let value = match from_bytes_whole(alloc, bytes) {
-        Ok(value) => value,
-        Err(Refused::Fault(fault)) => {
-            return Ok(Decision::Refused(read_message(alloc, fault)?));
-        }
-        Err(Refused::Memory) => return Err(AllocError),
-    };
-    match decode(&value) {
-        Ok(request) => match answered(alloc, &request) {
-            Ok(text) => Ok(Decision::Answered(text)),
-            Err(Refused::Fault(part)) => {
-                Ok(Decision::Refused(Text::from_str(alloc, part.message())?))
-            }
+        match from_bytes_whole(alloc, bytes) {
+            Ok(value) => reply_to_value(alloc, &value),
+            Err(Refused::Fault(fault)) => refused(alloc, &read_message(alloc, fault)?),
             Err(Refused::Memory) => Err(AllocError),
-        },
-        Err(fault) => Ok(Decision::Refused(fault.message(alloc)?)),
+        }
     }
 }
 
-/// The text of a request's response.
-fn answered(alloc: Global, request: &Request<'_>) -> Result<Bytes, Refused<UnbuiltPart>>
-    ensures plain { IfOk result (λ _. has_options_of (asked_in request.now) ≡ false) }
-    ensures answered { IfOk result (AnswersAsked (asked_in request.now)) }
-    ensures refused { IfErr result (IsRefusedFor (asked_in request.now)) }
+/// The reply to a JSON value.
+fn reply_to_value(alloc: Global, value: &Value) -> Result<Reply, Memory>
+    ensures { IfOk result (IsReplyTo value.now) }
 {
-    if has_options(request) {
-        return Err(Refused::Fault(UnbuiltPart::Options));
+    match decode(value) {
+        Ok(request) => reply_to_request(alloc, &request),
+        Err(fault) => refused(alloc, &fault.message(alloc)?),
+    }
+}
+
+/// The reply to a request.
+fn reply_to_request(alloc: Global, request: &Request<'_>) -> Result<Reply, Memory>
+    ensures { IfOk result (IsReplyToAsked (asked_in request.now)) }
+{
+    if request.introspection {
+        let message = Text::from_str(alloc, UnbuiltPart::Options.message())?;
+        return refused(alloc, &message);
     }
     let no_members = Map::new(alloc);
+    let wanted = Wanted {
+        schema: request.schema,
+        query: request.query,
+        operation_name: request.operation_name,
+        variables: request.variables.unwrap_or(&no_members),
+    };
     let root = DataObject::root(request.root.unwrap_or(&no_members));
-    respond(alloc, request.schema, request.query, &root)
+    match respond(alloc, &wanted, &root) {
+        Ok(text) => Ok(Reply::Answer(text)),
+        Err(Refused::Fault(refusal)) => Ok(Reply::Refusal(refusal.into_text(alloc)?)),
+        Err(Refused::Memory) => Err(AllocError),
+    }
 }
 
-/// Whether the request gives what can't be answered yet.
-fn has_options(request: &Request<'_>) -> bool
-    ensures { result ≡ has_options_of (asked_in request.now) }
+/// The refusal with this message.
+fn refused(alloc: Global, message: &Text) -> Result<Reply, Memory>
+    ensures { IfOk result (IsRefusedWith message.now) }
 {
-    let variables = match request.variables {
-        Some(variables) => variables.len(),
-        None => 0,
-    };
-    are_options(request.operation_name, variables, request.introspection)
+    Ok(Reply::Refusal(refusal_of_message(alloc, message.as_str())?))
 }
 
 /// The message of a text that is no JSON.
@@ -94,15 +81,4 @@ fn read_message(alloc: Global, fault: ReadFault) -> Result<Text, Memory>
     let kind = fault.kind.name();
     let place = fault.place;
     Ok(Text::from_string(format!(in alloc; "request: {kind} at byte {place}")?))
-}
-
-/// The text of a refusal with this one message.
-fn refusal(alloc: Global, message: &str) -> Result<Bytes, Memory>
-    ensures { IfOk result (λ text. text ≡ compact (refusal_value message.now)) }
-{
-    let mut out = String::new(alloc);
-    out.push_str("{\"errors\":[{\"message\":")?;
-    append_string(&mut out, message)?;
-    out.push_str("}]}")?;
-    Ok(Bytes::from_vec(out.into_bytes())?)
 }

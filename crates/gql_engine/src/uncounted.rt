@@ -1,10 +1,14 @@
 //! Answering for callers who count no steps.
 
+ghost use Rattle.gql_engine.specs.AnswerError.{call_of};
 ghost use Rattle.gql_engine.specs.Answering.{GivesAnswer};
 
-use crate::answering::{AnswerError, answer_or_refuse};
+use crate::answer_error::AnswerError;
+use crate::answering::answer_or_refuse;
 use bytes::Bytes;
-use gql_exec::ObjectValue;
+use gql_document_text::laws as document_laws;
+use gql_exec_resolve::ObjectValue;
+use gql_schema_text::laws as schema_laws;
 use jb_read::laws;
 use std::alloc::Global;
 
@@ -22,10 +26,12 @@ pub fn answer_uncounted<O: ObjectValue>(
     introspection: bool,
     root: &O,
 ) -> Result<Bytes, AnswerError>
-    ensures { GivesAnswer O.type_of O.resolves root.now schema.now query.now
-        operation_name.entry variables.now introspection result }
+    ensures { GivesAnswer O.type_of O.resolves (O.seen root.now)
+        (call_of schema.now query.now operation_name.entry variables.now introspection) result }
 {
     laws::each_text_has_one_answer();
+    schema_laws::texts_have_one_schema();
+    document_laws::texts_have_one_document();
     answer_or_refuse(
         alloc,
         schema,

@@ -4,11 +4,13 @@ ghost use Rattle.std.specs.Prelude.{◌≡◌, ◌++◌, [], ◌∷◌, true, po
 ghost use Rattle.jb_tree.specs.declared.value.Value.TheVariants as json;
 ghost use Rattle.jb_print.specs.Compact.{compact};
 ghost use Rattle.jb_print.specs.Pieces.{member_piece, pieces_text};
-ghost use Rattle.gql_response.specs.Response.{error_value, list_member, location_value};
-ghost use Rattle.gql_refusal.specs.Refusal.{error_of, error_with};
+ghost use Rattle.gql_diag.specs.RequestFault.{request_error};
+ghost use Rattle.gql_response.specs.ErrorAt.{place_in};
+ghost use Rattle.gql_response.specs.Response.{error_value, list_member, location_value, object_member};
+ghost use Rattle.gql_refusal.specs.Refusal.{error_marked, error_of, extensions_marked};
 
-use gql_diag::DiagnosticData;
-use gql_source::{LineColumn, SourceMap};
+use gql_diag::{DiagnosticData, RequestError};
+use gql_source::{LineColumn, SourceMap, SourceSpan};
 use jb_print::{append_string, append_value};
 use jb_text::{Memory, Number};
 use jb_tree::Value;
@@ -24,27 +26,57 @@ pub(crate) fn append_diagnostic(
     ensures { OnOk result (string_bytes out.new ≡ string_bytes out.old ++ compact (error_value (error_of sources.now item.now))) }
 {
     let message = item.details.message(alloc)?;
-    append_error(out, message.as_str(), place_of(sources, item))
+    let place = place_in(item.location, sources);
+    append_error(out, message.as_str(), place, false)
 }
 
-/// The line and column of a diagnostic, where its place is found in the files.
-fn place_of(sources: &SourceMap, item: &DiagnosticData) -> Option<LineColumn>
-    ensures { option_to_list result ≡ (error_of sources.now item.now).locations }
+/// Appends the error of a refused request. `Err` only for want of memory.
+pub(crate) fn append_request(
+    out: &mut String,
+    sources: &SourceMap,
+    error: &RequestError,
+) -> Result<(), Memory>
+    ensures { OnOk result (string_bytes out.new ≡ string_bytes out.old ++ compact (error_value (request_error error.now sources.now))) }
 {
-    match item.location {
+    let place = place_in(error.location, sources);
+    append_error(out, error.message(), place, error.is_suspected_validation_bug)
+}
+
+/// The line and column of the start of a location, where they are found in the files.
+fn place_in(location: Option<SourceSpan>, sources: &SourceMap) -> Option<LineColumn>
+    ensures { result ≡ place_in location sources.now }
+{
+    match location {
         Some(location) => location.line_column(sources),
         None => None,
     }
 }
 
-/// Appends an error with a message, and with a place if there is one.
-fn append_error(out: &mut String, message: &str, place: Option<LineColumn>) -> Result<(), Memory>
-    ensures { OnOk result (string_bytes out.new ≡ string_bytes out.old ++ compact (error_value (error_with message.now (option_to_list place)))) }
+/// Appends an error with a message, with a place if there is one, and marked as a fault of validation or not.
+fn append_error(
+    out: &mut String,
+    message: &str,
+    place: Option<LineColumn>,
+    marked: bool,
+) -> Result<(), Memory>
+    ensures { OnOk result (string_bytes out.new ≡ string_bytes out.old ++ compact (error_value (error_marked message.now (option_to_list place) marked))) }
 {
     out.push_str("{\"message\":")?;
     append_string(out, message)?;
     append_places(out, place)?;
+    append_mark(out, marked)?;
     out.push_str("}")?;
+    Ok(())
+}
+
+/// Appends the member of an error that marks it as a fault of validation, where it is one.
+fn append_mark(out: &mut String, marked: bool) -> Result<(), Memory>
+    ensures { OnOk result (string_bytes out.new ≡ string_bytes out.old
+        ++ pieces_text true (map member_piece (object_member (codes "extensions") (extensions_marked marked)))) }
+{
+    if marked {
+        out.push_str(",\"extensions\":{\"APOLLO_SUSPECTED_VALIDATION_BUG\":true}")?;
+    }
     Ok(())
 }
 

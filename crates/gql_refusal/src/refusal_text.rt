@@ -4,12 +4,13 @@ ghost use Rattle.std.specs.Prelude.{◌≡◌, ◌++◌, [], ◌∷◌, map, IfO
 ghost use Rattle.jb_tree.specs.declared.value.Value.TheVariants as json;
 ghost use Rattle.jb_print.specs.Compact.{compact};
 ghost use Rattle.jb_print.specs.Pieces.{comma_after};
+ghost use Rattle.gql_diag.specs.RequestFault.{request_error};
 ghost use Rattle.gql_response.specs.Response.{error_value};
 ghost use Rattle.gql_refusal.specs.Refusal.{error_of, errors_of, message_error, refusal_value};
 
-use crate::error_text::append_diagnostic;
+use crate::error_text::{append_diagnostic, append_request};
 use bytes::Bytes;
-use gql_diag::{DiagnosticData, DiagnosticList};
+use gql_diag::{DiagnosticData, DiagnosticList, RequestError};
 use gql_source::SourceMap;
 use jb_print::append_string;
 use jb_text::Memory;
@@ -23,6 +24,22 @@ pub fn refusal_of_message(alloc: Global, message: &str) -> Result<Bytes, Memory>
     out.push_str("{\"errors\":[{\"message\":")?;
     append_string(&mut out, message)?;
     out.push_str("}]}")?;
+    Ok(Bytes::from_vec(out.into_bytes())?)
+}
+
+/// The text of a refusal with the one error of a request, whose place is looked up in the files. `Err` only for want of
+/// memory.
+pub fn refusal_of_request(
+    alloc: Global,
+    error: &RequestError,
+    sources: &SourceMap,
+) -> Result<Bytes, Memory>
+    ensures { IfOk result (λ text. text ≡ compact (refusal_value (request_error error.now sources.now ∷ []))) }
+{
+    let mut out = String::new(alloc);
+    out.push_str("{\"errors\":[")?;
+    append_request(&mut out, sources, error)?;
+    out.push_str("]}")?;
     Ok(Bytes::from_vec(out.into_bytes())?)
 }
 

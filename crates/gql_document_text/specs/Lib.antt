@@ -1,0 +1,3 @@
+pub mod DocumentText
+pub mod DocumentFaults
+pub mod Answers

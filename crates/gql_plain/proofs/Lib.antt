@@ -1,4 +1,0 @@
-pub mod Followed
-pub mod Rows
-pub mod Refusals
-pub mod Listing
