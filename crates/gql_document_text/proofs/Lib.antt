@@ -1,1 +1,8 @@
+mod OneDocument
+mod OneError
+mod OneTelling
 mod Phases
+mod Running
+mod Sets
+mod Telling
+mod Tied

@@ -1,5 +1,5 @@
 -- What the phases of reading a document's text come to.
-use Rattle.std.proofs.Common.{◌≡◌, ◌≢◌, ◌⊎◌, inl, inr, ℕ, ◌+◌, ◌≤◌, List, [], ◌∷◌, ◌++◌, length, fold, Result, Ok, Err, IsErrAnd, true, refl, sym, ◌∙◌, ap, subst, arith, codes}
+use Rattle.std.proofs.Common.{◌≡◌, ◌≢◌, ◌⊎◌, inl, inr, ℕ, List, [], ◌∷◌, ◌++◌, length, get_or, zero, suc, ◌<◌, Result, Ok, Err, IsErrAnd, true, refl, sym, ◌∙◌, ap, subst, arith, codes}
 use Rattle.std.specs.List.{All}
 use Rattle.std.specs.List.Sorted.{IsPermutation}
 use Rattle.std.proofs.lemmas.List.Sorted.{IsPermutation-sym, length_permutation, All-permutation}
@@ -106,7 +106,7 @@ is_built schema text parser document limits b = by_reading b.takes.read
 one_item : {X : Type 0} (x : X) (ys : List X) → IsPermutation (x ∷ []) ys → ys ≡ x ∷ []
 one_item {X} x ys p = by_items ys (length_permutation (x ∷ []) ys p) (All-permutation (λ (y : X). y ≡ x) (x ∷ []) ys p (λ k d inside. only k d inside))
   where
-    only : (k : ℕ) (d : X) → k < 1 → slice_index_or (x ∷ []) k d ≡ x
+    only : (k : ℕ) (d : X) → k < 1 → get_or (x ∷ []) k d ≡ x
     only zero d inside = refl
     only (suc k) d inside = absurd (omega (arith, inside))
 
@@ -148,7 +148,14 @@ is_refused schema text parser refusal limits b = by_reading b.takes.read
 
 -- ---- the faults that a list has
 
-empty_back : {X : Type 0} (xs ys : List X) → IsPermutation xs ys → ys ≡ [] → xs ≡ []
+pub front_none : {X : Type 0} (xs ys : List X) → xs ++ ys ≡ [] → xs ≡ []
+front_none [] ys none = refl
+front_none (x ∷ xs) ys none = absurd (omega (arith, ap length none))
+
+pub back_none : {X : Type 0} (xs ys : List X) → xs ++ ys ≡ [] → ys ≡ []
+back_none xs ys none = sym (ap (λ l. l ++ ys) (front_none xs ys none)) ∙ none
+
+pub empty_back : {X : Type 0} (xs ys : List X) → IsPermutation xs ys → ys ≡ [] → xs ≡ []
 empty_back [] ys p e = refl
 empty_back (x ∷ xs) ys p e = absurd (omega (arith, length_permutation (x ∷ xs) ys p, ap length e))
 

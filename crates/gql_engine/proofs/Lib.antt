@@ -1,3 +1,7 @@
+mod Results
+mod Steps
+mod Causes
+mod Runs
+mod Responses
+mod Replies
 mod Promise
-mod Shallow
-mod Unread

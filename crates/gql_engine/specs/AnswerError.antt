@@ -5,6 +5,7 @@ use Rattle.jb_tree.specs.declared.value.Value.{Value}
 use Rattle.jb_tree.specs.Value.{object_members}
 use Rattle.jb_read.specs.Spelling.{JsonText}
 use Rattle.jb_read.specs.Faults.{JsonFault}
+use Rattle.gql_document_text.specs.SameFaults.{TellTheSame}
 use Rattle.gql_document_types.specs.ChosenOperation.{text_of}
 use Rattle.gql_engine.specs.Meant.{Ready}
 use Rattle.gql_engine.specs.Unanswered.{IsNoSchema, IsNoDocument, IsUnchosen, IsUncoerced}
@@ -75,6 +76,13 @@ HasCause call (Document list) = Asks call (λ wanted. IsNoDocument wanted list)
 HasCause call (Request Operation error) = Asks call (λ wanted. IsUnchosen wanted error)
 HasCause call (Request Variable error) = Asks call (λ wanted. IsUncoerced wanted error)
 HasCause call Memory = Unit {0}
+
+-- the refusal that comes where the first one has its cause: that one, or want of memory. Of a document, what is wrong is told in
+-- this or in that list of the same diagnostics
+abbrev pub ComesFor : AnswerError → AnswerError → Type 0
+ComesFor error Memory = Unit {0}
+ComesFor (Document list) (Document told) = TellTheSame list told
+ComesFor error told = error ≡ told
 
 -- a valid request: there is no cause of a refusal
 abbrev pub IsValid : Call → Type 0

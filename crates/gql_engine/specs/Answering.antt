@@ -1,9 +1,9 @@
 -- What a call for an answer gives.
-use Rattle.std.specs.Prelude.{◌≡◌, ◌≢◌, ◌⊎◌, ℕ, List, Result, Err, IfOk, IfErr}
+use Rattle.std.specs.Prelude.{◌≡◌, ◌≢◌, ℕ, List, Result, IfOk, IfErr, IsErrAnd}
 use Rattle.gql_exec_request.specs.Executing.{Resolving}
 use Rattle.gql_engine.specs.declared.answer_error.AnswerError.{AnswerError}
 use Rattle.gql_engine.specs.declared.answer_error.AnswerError.TheVariants.{Memory}
-use Rattle.gql_engine.specs.AnswerError.{Asks, Call, HasCause, IsValid}
+use Rattle.gql_engine.specs.AnswerError.{Asks, Call, ComesFor, HasCause, IsValid}
 use Rattle.gql_engine.specs.Answered.{Answered}
 
 -- the bytes are a response to what the call wants
@@ -15,5 +15,5 @@ pub record GivesAnswer {X : Type 0} (type_of : X → List ℕ) (resolves : Resol
     (result : Result (List ℕ) AnswerError) : Type 0 where
   pub answered : IfOk result (Answers type_of resolves root call)
   pub refused : IfErr result (HasCause call)
-  pub exact : (error : AnswerError) → error ≢ Memory → HasCause call error → (result ≡ Err error) ⊎ (result ≡ Err Memory)
+  pub exact : (error : AnswerError) → error ≢ Memory → HasCause call error → IsErrAnd result (ComesFor error)
   pub valid : IsValid call → IfErr result (λ error. error ≡ Memory)

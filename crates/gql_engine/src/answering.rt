@@ -1,10 +1,10 @@
 //! Answering: a schema, a query and a resolver in, a response out.
 
-ghost use Rattle.std.specs.Prelude.{◌≡◌, ◌≢◌, ◌⊎◌, Err, IfOk, IfErr};
+ghost use Rattle.std.specs.Prelude.{◌≡◌, ◌≢◌, IfOk, IfErr, IsErrAnd};
 ghost use Rattle.gql_engine.specs.declared.answer_error.AnswerError.{AnswerError as Refused};
 ghost use Rattle.gql_engine.specs.declared.answer_error.AnswerError.TheVariants as refusal;
 ghost use Rattle.jb_read.specs.Spelling.{JsonText};
-ghost use Rattle.gql_engine.specs.AnswerError.{HasCause, IsUnread, IsValid, call_of};
+ghost use Rattle.gql_engine.specs.AnswerError.{ComesFor, HasCause, IsUnread, IsValid, call_of};
 ghost use Rattle.gql_engine.specs.Answering.{Answers};
 ghost use Rattle.gql_engine.specs.Responding.{IsAnswer};
 ghost use Rattle.gql_engine.specs.Wanted.{wanted_by};
@@ -61,7 +61,7 @@ pub fn answer<O: ObjectValue, L: Ledger>(
     ensures refused { IfErr result (HasCause (call_of schema.now query.now operation_name.entry variables.now introspection)) }
     ensures exact { (error : Refused) → error ≢ refusal.Memory
         → HasCause (call_of schema.now query.now operation_name.entry variables.now introspection) error
-        → (result ≡ Err error) ⊎ (result ≡ Err refusal.Memory) }
+        → IsErrAnd result (ComesFor error) }
 
     // A valid request is answered, unless memory fails.
     ensures valid { IsValid (call_of schema.now query.now operation_name.entry variables.now introspection)

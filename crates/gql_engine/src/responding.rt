@@ -1,13 +1,13 @@
 //! The response to what is wanted, step by step: the schema, the document, the operation, its variables, the execution.
 
-ghost use Rattle.std.specs.Prelude.{◌≡◌, Some, ℕ, IfOk};
+ghost use Rattle.std.specs.Prelude.{◌≡◌, true, Some, is_some, ℕ, IfOk};
 ghost use Rattle.gql_document_text.specs.DocumentText.{DocumentText};
 ghost use Rattle.gql_document_types.specs.ChosenOperation.{chosen, text_of};
 ghost use Rattle.gql_document_types.specs.Spreads.{spread_graph};
 ghost use Rattle.gql_rules_graph.specs.Cycles.{IsOnCycle};
 ghost use Rattle.gql_schema_text.specs.SchemaText.{SchemaText};
-ghost use Rattle.gql_schema_types.specs.declared.types.ObjectType.{ObjectType as RootType};
-ghost use Rattle.gql_engine.specs.Answered.{IsExecutionOf, IsRoot};
+ghost use Rattle.gql_schema_types.specs.Schemas.{object_of};
+ghost use Rattle.gql_engine.specs.Answered.{IsExecutionOf};
 ghost use Rattle.gql_engine.specs.Responding.{IsResponse};
 ghost use Rattle.gql_engine.specs.Wanted.{wanted_by};
 
@@ -16,12 +16,13 @@ use crate::refusal::{Refusal, of_step};
 use crate::wanted::Wanted;
 use bytes::Bytes;
 use gql_diag::{JsonMap, Valid};
-use gql_document_text::document_of_text;
+use gql_document_text::{document_of_text, laws as document_laws};
 use gql_document_types::{ExecutableDocument, Operation};
 use gql_exec_request::Execution;
 use gql_exec_resolve::ObjectValue;
 use gql_exec_variables::coerce_variable_values;
 use gql_schema_text::schema_of_text;
+use gql_schema_text_laws::laws as schema_laws;
 use gql_schema_types::Schema;
 use jb_tree::{Memory, Refused};
 use std::alloc::{AllocError, Global};
@@ -95,6 +96,8 @@ fn perform<O: ObjectValue>(
     requires chosen { chosen (text_of wanted.now.operation_name) document.now.operations ≡ Some operation.now }
     ensures { IsResponse O.type_of O.resolves (O.seen root.now) (wanted_by wanted.now) result }
 {
+    document_laws::valid_documents_run();
+    schema_laws::roots_are_object_types();
     let sources = &document.as_ref().sources;
     match coerce_variable_values(alloc, schema, operation, wanted.variables) {
         Ok(values) => Ok(execute(alloc, schema, document, operation, &values, root)?),
@@ -112,7 +115,7 @@ fn execute<O: ObjectValue>(
     root: &O,
 ) -> Result<Bytes, Memory>
     requires acyclic { (v : ℕ) → IsOnCycle (spread_graph document.now.fragments) v → ⊥ }
-    requires root { (root_type : RootType) × IsRoot schema.now operation.now root_type }
+    requires root { is_some (object_of schema.now operation.now.selection_set.ty.text) ≡ true }
     ensures { IfOk result (IsExecutionOf O.type_of O.resolves (O.seen root.now) schema.now document.now operation.now values.now) }
 {
     let execution = Execution::new(schema, document)
@@ -120,6 +123,7 @@ fn execute<O: ObjectValue>(
         .coerced_variable_values(values);
     match execution.execute_sync(alloc, root) {
         Ok(response) => response.to_bytes(alloc),
-        Err(_) => Err(AllocError),
+        Err(Refused::Fault(_)) => unreachable!(),
+        Err(Refused::Memory) => Err(AllocError),
     }
 }

@@ -31,7 +31,7 @@ pub fn answer_uncounted<O: ObjectValue>(
 {
     laws::each_text_has_one_answer();
     schema_laws::texts_have_one_schema();
-    document_laws::texts_have_one_document();
+    document_laws::texts_have_one_document_each();
     answer_or_refuse(
         alloc,
         schema,

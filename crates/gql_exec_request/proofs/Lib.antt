@@ -1,3 +1,5 @@
+pub mod Answering
+pub mod Asked
 pub mod Collecting
 pub mod Completing
 pub mod Groups

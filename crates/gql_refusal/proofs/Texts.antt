@@ -1,5 +1,5 @@
 -- The compact texts of what refusals are made of.
-use Rattle.std.proofs.Common.{rules, ◌≡◌, ◌++◌, ◌∷◌, [], true, false, pos, map, codes, refl, ◌∙◌, sym, ap, append_assoc, ℕ, List}
+use Rattle.std.proofs.Common.{rules, ◌≡◌, Bool, ◌++◌, ◌∷◌, [], true, false, pos, map, codes, refl, ◌∙◌, sym, ap, append_assoc, ℕ, List}
 use Rattle.std.proofs.lemmas.List.{append-nil}
 use Rattle.jb_tree.specs.declared.value.Value.{Value, the_lemmas}
 use Rattle.jb_tree.specs.declared.value.Value.TheVariants as json
@@ -7,8 +7,9 @@ use Rattle.jb_print.specs.Compact.{compact}
 use Rattle.jb_print.specs.Pieces.{member_piece, pieces_text}
 use Rattle.jb_print.specs.Quoted.{quoted, escaped}
 use Rattle.jb_print.proofs.Compacts.{compact-Array, compact-Object}
-use Rattle.gql_refusal.specs.Refusal.{error_with, message_error, refusal_value}
-use Rattle.gql_response.specs.Response.{error_members, error_value, list_member, location_value}
+use Rattle.gql_refusal.specs.Refusal.{error_marked, extensions_marked, message_error, refusal_value}
+use Rattle.gql_response.specs.Response.{Member, error_members, error_value, list_member, location_value, object_member}
+use Rattle.gql_response.specs.declared.graphql_error.GraphQLError.{GraphQLError}
 use Rattle.gql_source.specs.declared.line_column.LineColumn.{LineColumn}
 
 string_text : (message : List ℕ) → compact (json.String message) ≡ quoted message
@@ -36,16 +37,43 @@ list_text errors = member_text (codes "errors") (json.Array errors) ∙ simp app
 abbrev pub places : List LineColumn → List (List ℕ × Value)
 places found = list_member (codes "locations") (map location_value found)
 
-pub error_text : (message : List ℕ) (found : List LineColumn) (old : List ℕ)
-    → (((old ++ codes "{\"message\":") ++ quoted message) ++ pieces_text true (map member_piece (places found))) ++ codes "}"
-    ≡ old ++ compact (error_value (error_with message found))
+-- the member that marks an error as a fault of validation
+abbrev pub mark : Bool → List Member
+mark marked = object_member (codes "extensions") (extensions_marked marked)
+
+later_members : (xs ys : List Member) → pieces_text true (map member_piece (xs ++ ys)) ≡ pieces_text true (map member_piece xs) ++ pieces_text true (map member_piece ys)
+later_members [] ys = refl
+later_members (x ∷ xs) ys = ap (λ rest. codes "," ++ (member_piece x ++ rest)) (later_members xs ys) ∙ simp append_assoc
+
+pub error_text : (message : List ℕ) (found : List LineColumn) (marked : Bool) (old : List ℕ)
+    → ((((old ++ codes "{\"message\":") ++ quoted message) ++ pieces_text true (map member_piece (places found))) ++ pieces_text true (map member_piece (mark marked))) ++ codes "}"
+    ≡ old ++ compact (error_value (error_marked message found marked))
 unfolding escaped
-error_text message found old =
+error_text message found marked old =
     sym (ap (λ text. old ++ text) (
-    compact-Object (error_members (error_with message found))
-    ∙ ap (λ ms. codes "{" ++ (pieces_text false (map member_piece ((codes "message", json.String message) ∷ ms)) ++ codes "}")) (append-nil (places found))
-    ∙ ap (λ text. codes "{" ++ (((quoted (codes "message") ++ codes ":" ++ text) ++ pieces_text true (map member_piece (places found))) ++ codes "}")) (string_text message))
+    compact-Object (error_members (error_marked message found marked))
+    ∙ ap (λ text. codes "{" ++ ((member_piece (codes "message", json.String message) ++ text) ++ codes "}")) (later_members (places found) (mark marked))
+    ∙ ap (λ text. codes "{" ++ (((quoted (codes "message") ++ codes ":" ++ text) ++ (pieces_text true (map member_piece (places found)) ++ pieces_text true (map member_piece (mark marked)))) ++ codes "}")) (string_text message))
     ∙ simp append_assoc refl)
+
+true_text : compact (json.Bool true) ≡ codes "true"
+true_text = search (rules, the_lemmas)
+
+pub mark_text : codes ",\"extensions\":{\"APOLLO_SUSPECTED_VALIDATION_BUG\":true}" ≡ pieces_text true (map member_piece (mark true))
+unfolding escaped
+mark_text =
+    sym (ap (λ text. codes "," ++ ((quoted (codes "extensions") ++ codes ":" ++ text) ++ []))
+    (member_text (codes "APOLLO_SUSPECTED_VALIDATION_BUG") (json.Bool true)
+    ∙ ap (λ text. codes "{" ++ (quoted (codes "APOLLO_SUSPECTED_VALIDATION_BUG") ++ codes ":" ++ text) ++ codes "}") true_text))
+
+one_closing : (text : List ℕ) → (text ++ codes "]") ++ codes "}" ≡ text ++ codes "]}"
+one_closing text = simp append_assoc
+
+pub one_error_text : (error : GraphQLError) → compact (refusal_value (error ∷ [])) ≡ (codes "{\"errors\":[" ++ compact (error_value error)) ++ codes "]}"
+one_error_text error =
+    list_text (error_value error ∷ [])
+    ∙ ap (λ text. (codes "{\"errors\":" ++ text) ++ codes "}") (item_text (error_value error))
+    ∙ ap (λ text. codes "{\"errors\":[" ++ text) (one_closing (compact (error_value error)))
 
 two_members : (first between second last : List ℕ) → (first ++ (between ++ (second ++ []))) ++ last ≡ first ++ (between ++ (second ++ last))
 two_members first between second last = simp (append_assoc, append-nil)

@@ -1,0 +1,141 @@
+-- What is answered to what is wanted, step by step.
+use Rattle.std.proofs.Common.{◌≡◌, ℕ, Bool, true, false, List, Option, Some, None, Result, Ok, Err, IfOk, IfErr, codes, refl, sym, ap, subst}
+use Rattle.jb_text.specs.declared.refused.Refused.{Refused}
+use Rattle.jb_text.specs.declared.refused.Refused.TheVariants.{Fault, Memory}
+use Rattle.jb_print.specs.Compact.{compact}
+use Rattle.gql_coerce.specs.Outcome.{Outcome, told_as as outcome_told}
+use Rattle.gql_coerce.specs.Variables.{coerced_variables}
+use Rattle.gql_coerce.specs.declared.fault.CoercionFault.{CoercionFault}
+use Rattle.gql_diag.specs.RequestFault.{request_error}
+use Rattle.gql_diag.specs.declared.request_error.RequestError.{RequestError}
+use Rattle.gql_document_types.specs.ChosenOperation.{chosen, refusal, why_none, IsChosen as IsChosenAnswer}
+use Rattle.gql_document_types.specs.declared.document.ExecutableDocument.{ExecutableDocument}
+use Rattle.gql_document_types.specs.declared.operation.Operation.{Operation}
+use Rattle.gql_exec_request.specs.Execution.{IsAnswer as IsExecutionAnswer, Prepared, on_root, undefined_root}
+use Rattle.gql_exec_request.specs.Executing.{Resolving, request_by}
+use Rattle.gql_exec_request.specs.declared.execution.Given.TheVariants.{Coerced}
+use Rattle.gql_exec_variables.specs.RequestErrors.{request_error as fault_told}
+use Rattle.gql_exec_world.specs.Response.{IsExecuted, IsExplained}
+use Rattle.gql_response.specs.Response.{response_value}
+use Rattle.gql_response.specs.declared.execution_response.ExecutionResponse.{ExecutionResponse}
+use Rattle.gql_response.specs.declared.graphql_error.GraphQLError.{GraphQLError}
+use Rattle.gql_schema_types.specs.Schemas.{object_of}
+use Rattle.gql_schema_types.specs.declared.schema.Schema.{Schema}
+use Rattle.gql_schema_types.specs.declared.types.ObjectType.{ObjectType}
+use Rattle.std.specs.Borrow.{Bor}
+use Rattle.gql_engine.specs.declared.answer_error.AnswerError.{AnswerError}
+use Rattle.gql_engine.specs.declared.answer_error.AnswerError.TheVariants as error
+use Rattle.gql_engine.specs.declared.answer_error.RequestKind.TheVariants as kind
+use Rattle.gql_engine.specs.declared.answer_error.UnbuiltPart.TheVariants.{Options}
+use Rattle.gql_engine.specs.declared.answer_error.VariablesFault.TheVariants.{Read, NotObject}
+use Rattle.gql_engine.specs.declared.refusal.Refusal.{Refusal}
+use Rattle.gql_engine.specs.declared.refusal.Refusal.TheVariants as refused
+use Rattle.gql_engine.specs.AnswerError.{Asks, Call, HasCause, IsObjectText, IsUnread, wanted_with}
+use Rattle.gql_engine.specs.Answered.{Answered, IsExecutionOf}
+use Rattle.gql_engine.specs.Answering.{Answers}
+use Rattle.gql_engine.specs.Meant.{IsChosen, Meant, Ready}
+use Rattle.gql_engine.specs.Responding.{HasCauseOf, IsAnswer, IsCause, IsOfStep, IsResponse, told, told_as}
+use Rattle.gql_engine.specs.Unanswered.{Unanswered, no_schema, no_document, no_operation, no_variables}
+use Rattle.gql_engine.specs.Wanted.{Members, Wanted}
+use Rattle.gql_engine.proofs.Results.{same_ok, same_err, ok_or_err}
+
+-- ---- the execution
+
+module _ {X : Type 0} (types : X → List ℕ) (resolves : Resolving X) (root : X) where
+  -- the response to what was prepared is that of the operation on its root type
+  pub executed_on : (S : Schema) (Q : ExecutableDocument) (o : Operation) (values : Bor Members) (found : Option ObjectType) (response : ExecutionResponse) (bytes : List ℕ)
+      → object_of S o.selection_set.ty.text ≡ found → IsExecutionAnswer S Q types resolves root (on_root S (Coerced values) o found) (Ok response)
+      → bytes ≡ compact (response_value response) → IsExecutionOf types resolves root S Q o values.now bytes
+  executed_on S Q o values None response bytes is h written = absurd (ok_or_err (on_root S (Coerced values) o None) h.0 undefined_root h.1 refl)
+  executed_on S Q o values (Some T) response bytes is h written =
+      let made : Prepared = record { operation = o; root = T; variables = values.now } in
+      let same : h.0 ≡ made = same_ok (on_root S (Coerced values) o (Some T)) h.0 made h.1 refl in
+      record {
+        root_type = T;
+        is_root = is;
+        response = response;
+        executed = subst (λ (p : Prepared). IsExecuted (request_by S Q p.variables types resolves) p.root root p.operation.selection_set.selections response) same h.2;
+        explained = subst (λ (p : Prepared). IsExplained (request_by S Q p.variables types resolves) p.root root p.operation.selection_set.selections response) same h.3;
+        written = written;
+      }
+
+-- ---- the steps before it
+
+pub was_coerced : {A E : Type 0} (tell : CoercionFault → E) (made : Outcome A) (a : A) → outcome_told tell made ≡ Ok a → made ≡ Ok a
+was_coerced {A = A} tell (Ok b) a h = ap (λ (x : A). Ok x) (same_ok (outcome_told tell (Ok b)) b a refl h)
+was_coerced tell (Err fault) a h = absurd (ok_or_err (outcome_told tell (Err fault)) a (tell fault) h refl)
+
+module _ {X : Type 0} (types : X → List ℕ) (resolves : Resolving X) (root : X) (w : Wanted) where
+  -- the document has no such operation
+  pub unchosen : (meant : Meant w) (why : Refused RequestError) (answer : Refused Refusal) → IsChosenAnswer w.operation_name meant.document.operations (Err why)
+      → IsOfStep kind.Operation meant.document.sources why answer → IsResponse types resolves root w (Err answer)
+  unchosen meant (Fault e) (Fault r) h k =
+      subst (IsCause w) (sym k) (record { meant = meant; none = h.0; told = ap (λ (x : RequestError). request_error x meant.document.sources) h.1 })
+  unchosen meant Memory (Fault r) h k = absurd k
+  unchosen meant (Fault e) Memory h k = tt
+  unchosen meant Memory Memory h k = tt
+
+  -- a variable of the operation is not coerced
+  pub uncoerced : (meant : Meant w) (o : Operation) → IsChosen w meant o → (made : Outcome Members)
+      → coerced_variables meant.schema.types o.variables w.variables ≡ made → (e : RequestError) (r : Refusal)
+      → outcome_told fault_told made ≡ Err e → r ≡ refused.Request kind.Variable e meant.document.sources → IsCause w r
+  uncoerced meant o chosen (Ok values) is e r h k = absurd (ok_or_err (outcome_told fault_told (Ok values)) values e refl h)
+  uncoerced meant o chosen (Err fault) is e r h k =
+      subst (IsCause w) (sym k) (record {
+        meant = meant;
+        operation = o;
+        is_chosen = chosen;
+        fault = fault;
+        fails = is;
+        told = ap (λ (x : RequestError). request_error x meant.document.sources) (same_err (outcome_told fault_told (Err fault)) e (fault_told fault) h refl);
+      })
+
+-- ---- the call
+
+-- the cause of a refusal, as callers are told it
+pub cause_told : (w : Wanted) (introspection : Bool) → introspection ≡ false → (r : Refusal) → IsCause w r → HasCauseOf w introspection (told_as r)
+cause_told w i off (refused.Schema list) h = (off, h)
+cause_told w i off (refused.Document list) h = (off, h)
+cause_told w i off (refused.Request step e sources) h = (off, h)
+
+pub unread : (call : Call) (e : AnswerError) → IsUnread call.variables e → HasCause call e
+unread call (error.Variables (Read fault)) h = h
+unread call (error.Variables NotObject) h = absurd h
+unread call (error.Unbuilt part) h = absurd h
+unread call (error.Schema list) h = absurd h
+unread call (error.Document list) h = absurd h
+unread call (error.Request step e) h = absurd h
+unread call error.Memory h = tt
+
+module _ {X : Type 0} (types : X → List ℕ) (resolves : Resolving X) (root : X) (call : Call) (members : Members) (object : IsObjectText call.variables members) where
+  pub answered_by : (result : Result (List ℕ) AnswerError) → IsAnswer types resolves root (wanted_with call members) call.introspection result
+      → IfOk result (Answers types resolves root call)
+  answered_by (Ok bytes) h = record { members = members; object = object; asked = h.0; holds = h.1 }
+  answered_by (Err e) h = tt
+
+  has_cause : (e : AnswerError) → HasCauseOf (wanted_with call members) call.introspection e → HasCause call e
+  has_cause (error.Variables fault) h = absurd h
+  has_cause (error.Unbuilt Options) h = record { members = members; object = object; asked = h }
+  has_cause (error.Schema list) h = record { members = members; object = object; asked = h.0; holds = h.1 }
+  has_cause (error.Document list) h = record { members = members; object = object; asked = h.0; holds = h.1 }
+  has_cause (error.Request kind.Operation e) h = record { members = members; object = object; asked = h.0; holds = h.1 }
+  has_cause (error.Request kind.Variable e) h = record { members = members; object = object; asked = h.0; holds = h.1 }
+  has_cause error.Memory h = tt
+
+  pub refused_by : (result : Result (List ℕ) AnswerError) → IsAnswer types resolves root (wanted_with call members) call.introspection result
+      → IfErr result (HasCause call)
+  refused_by (Ok bytes) h = tt
+  refused_by (Err e) h = has_cause e h
+
+-- what is answered is valid
+pub valid_by : {X : Type 0} (types : X → List ℕ) (resolves : Resolving X) (root : X) (call : Call) (result : Result (List ℕ) AnswerError)
+    → IfOk result (Answers types resolves root call) → IfOk result (λ _. Asks call Ready)
+valid_by types resolves root call (Ok bytes) h = record { members = h.members; object = h.object; asked = h.asked; holds = h.holds.ready }
+valid_by types resolves root call (Err e) h = tt
+
+-- the cause of a refusal, with the errors that tell it
+pub unanswered_by : (w : Wanted) (r : Refusal) → IsCause w r → Unanswered w (told r)
+unanswered_by w (refused.Schema list) h = no_schema list h
+unanswered_by w (refused.Document list) h = no_document list h
+unanswered_by w (refused.Request kind.Operation e sources) h = no_operation (request_error e sources) h
+unanswered_by w (refused.Request kind.Variable e sources) h = no_variables (request_error e sources) h

@@ -1,0 +1,4 @@
+mod Entries
+mod Kept
+mod Scalars
+mod Roots

@@ -1,0 +1,2 @@
+-- What schemas that texts mean have in common.
+pub mod Roots
