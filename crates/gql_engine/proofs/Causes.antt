@@ -175,7 +175,7 @@ module _ (laws : Laws) (call : Call) where
   one_object xs ys h k = same_members laws call.variables xs ys h.0 k.0
 
   true_or_false : call.introspection ≡ true → call.introspection ≡ false → ⊥
-  true_or_false yes no = cc (yes, no)
+  true_or_false on off = cc (on, off)
 
   calls_apart : (xs : Members) (e : AnswerError) → Plain xs → FailsCall e → ⊥
   calls_apart xs e h (inl k) = laws.no_value call.variables h.0.value k.0 h.0.read k.1

@@ -18,7 +18,7 @@ use Rattle.gql_engine.proofs.Results.{same_ok, ok_or_err}
 -- ---- of the bytes of a request
 
 true_or_false : (request : Asked) → request.introspection ≡ true → request.introspection ≡ false → ⊥
-true_or_false request yes no = cc (yes, no)
+true_or_false request on off = cc (on, off)
 
 no_cause_in : Laws → (request : Asked) {errors : List GraphQLError} → request.introspection ≡ false → Ready (wanted_of request) → CauseIn request errors → ⊥
 no_cause_in laws request off ready (not_built on) = true_or_false request on off
