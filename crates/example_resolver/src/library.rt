@@ -14,11 +14,16 @@ pub enum Library {
 
 impl ObjectValue for Library {
     ghost use Rattle.example_resolver.specs.Library.{type_of, field_of};
+    ghost use Rattle.gql_engine.specs.Resolving.{itself};
+
+    ghost Seen = { Library };
+
+    ghost seen = { itself };
 
     // What the two functions below are proved to give.
     ghost type_of = { type_of };
 
-    ghost resolves = { λ _ _ name object. field_of object name };
+    ghost resolves = { λ _ _ object name _. field_of object name };
 
     fn type_name(&self) -> &str {
         match self {

@@ -3,8 +3,7 @@
 ghost use Rattle.std.specs.Prelude.{◌≡◌, ◌<◌};
 
 use bytes::Bytes;
-use gql_engine::{AnswerError, Steps, answer, run, run_in_memory};
-use gql_exec::ObjectValue;
+use gql_engine::{AnswerError, ObjectValue, Steps, answer, run, run_in_memory};
 use jb_io::{Sink, Source, SureSink, SureSource};
 use jb_text::Memory;
 use std::alloc::Global;

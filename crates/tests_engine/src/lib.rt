@@ -1,4 +1,4 @@
-//! Tests of execution, of plain documents, of answers and of the program over streams that fail.
+//! Tests of answers and of the program over streams that fail.
 //!
 //! They stand apart because a crate with tests is proved once with them and once without. Each module has the tests of
 //! one subject, over what the crates give to everyone.
@@ -7,11 +7,7 @@
 #[cfg(test)]
 mod devices;
 #[cfg(test)]
-mod execution;
-#[cfg(test)]
 mod fixtures;
-#[cfg(test)]
-mod plain;
 #[cfg(test)]
 mod program;
 #[cfg(test)]

@@ -1,7 +1,7 @@
 //! Worked requests, from bytes to bytes.
 use crate::fixtures::{Question, answered as answer_of, status_in_memory, words_of};
 use bytes::Bytes;
-use gql_engine::{AnswerError, DataObject, UnbuiltPart, VariablesFault};
+use gql_engine::{AnswerError, DataObject, RequestKind, Text, VariablesFault};
 use jb_io::{SureSink, SureSource, from_bytes_whole};
 use jb_tree::Value;
 use std::alloc::Global;
@@ -40,8 +40,8 @@ const REQUESTS: &[(&str, u8, &str)] = &[
     ),
     (
         r#"{"schema":"type Query { a: A b: Int } type A { x: Int }","query":"{ a: b }","data":{"a":{"x":"no"}}}"#,
-        1,
-        r#"{"errors":[{"message":"unbuilt: query"}]}"#,
+        0,
+        r#"{"data":{"a":null}}"#,
     ),
     (
         r#"{"schema":"#,
@@ -89,9 +89,9 @@ const REQUESTS: &[(&str, u8, &str)] = &[
         r#"{"errors":[{"message":"unbuilt: options"}]}"#,
     ),
     (
-        r#"{"schema":"type A { x: Int }","query":"{ x }"}"#,
+        r#"{"schema":"","query":"{ x }"}"#,
         1,
-        r#"{"errors":[{"message":"unbuilt: schema"}]}"#,
+        r#"{"errors":[{"message":"syntax error: Unexpected <EOF>.","locations":[{"line":1,"column":1}]}]}"#,
     ),
     (
         r#"{"schema":"type Query {\n  # a number\n  i: Int,\n  s: String\n}","query":"{\r\n  s, # text\n  i\n}","data":{"i":"x"}}"#,
@@ -99,19 +99,29 @@ const REQUESTS: &[(&str, u8, &str)] = &[
         r#"{"errors":[{"message":"resolver returned \"x\", expected Int","locations":[{"line":3,"column":3}],"path":["i"]}],"data":{"s":null,"i":null}}"#,
     ),
     (
-        r#"{"schema":"type Query { i: Int }","query":"{ i "}"#,
+        r#"{"schema":"type Query { name: String topProducts: Product } type Product { inStock: Boolean }","query":"{ noName topProducts { price } }"}"#,
         1,
-        r#"{"errors":[{"message":"unbuilt: query"}]}"#,
+        r#"{"errors":[{"message":"type `Query` does not have a field `noName`","locations":[{"line":1,"column":3}]},{"message":"type `Product` does not have a field `price`","locations":[{"line":1,"column":24}]}]}"#,
     ),
     (
-        r#"{"schema":"\"all\" type Query { i: Int }","query":"{ i }"}"#,
+        r#"{"schema":"type Query { f: Int }","query":"query A { f } query B { f }"}"#,
         1,
-        r#"{"errors":[{"message":"unbuilt: schema"}]}"#,
+        r#"{"errors":[{"message":"document has 2 operations and no name was given"}]}"#,
     ),
     (
-        r#"{"schema":"type Query { a: Int b: Int }","query":"{ a b a }"}"#,
+        r#"{"schema":"type Query { f(a: Int): Int }","query":"query($v: Int!) { f(a: $v) }"}"#,
         1,
-        r#"{"errors":[{"message":"unbuilt: query"}]}"#,
+        r#"{"errors":[{"message":"missing value for non-null variable 'v'","locations":[{"line":1,"column":7}]}]}"#,
+    ),
+    (
+        r#"{"schema":"type Query { f: [Int] }","query":"{ f }","data":{"f":[42,{"__error":"!"}]}}"#,
+        0,
+        r#"{"errors":[{"message":"resolver error: !","locations":[{"line":1,"column":3}],"path":["f",1]}],"data":{"f":null}}"#,
+    ),
+    (
+        r#"{"schema":"type Query { field1: String field2: [Int] }","query":"query($skp: Boolean!) { field1 @skip(if: $skp) field2 }","variables":{"skp":false},"data":{"field1":"string","field2":[7,42,0,0]}}"#,
+        0,
+        r#"{"data":{"field1":"string","field2":[7,42,0,0]}}"#,
     ),
 ];
 
@@ -177,11 +187,27 @@ fn refusal(
     answered(alloc, operation_name, variables)?.err()
 }
 
+/// Whether the variables are refused as none of an object.
+fn is_no_object(alloc: Global, variables: &'static [u8]) -> bool {
+    let list = VariablesFault::NotObject;
+    matches!(refusal(alloc, None, variables), Some(AnswerError::Variables(fault)) if fault == list)
+}
+
+/// What is said of an operation that is not there.
+fn unchosen(alloc: Global, name: &str) -> Option<Text> {
+    match refusal(alloc, Some(name), b"{}")? {
+        AnswerError::Request {
+            kind: RequestKind::Operation,
+            error,
+        } => Some(error.message),
+        _ => None,
+    }
+}
+
 #[test]
-fn options_that_do_not_fit_are_refused(rt: HostRuntime) {
-    let list = AnswerError::Variables(VariablesFault::NotObject);
-    assert_eq!(rt; refusal(rt.alloc(), None, b"[]"), Some(list));
-    let part = UnbuiltPart::Options;
-    let named = AnswerError::Unbuilt { part };
-    assert_eq!(rt; refusal(rt.alloc(), Some("A"), b"{}"), Some(named));
+fn what_does_not_fit_is_refused(rt: HostRuntime) -> Result<(), Fail> {
+    assert!(rt; is_no_object(rt.alloc(), b"[]"));
+    let message = unchosen(rt.alloc(), "A").ok_or("no refusal")?;
+    assert_eq!(rt; message.as_str(), "operation `A` is not defined");
+    Ok(())
 }
