@@ -50,7 +50,8 @@ pub data CauseIn (request : Asked) : List GraphQLError → Type 0 where
 -- why the bytes are refused, with the errors of each cause
 pub data Cause (bytes : List ℕ) : List GraphQLError → Type 0 where
   no_text : (fault : ReadFault) → JsonFault bytes fault → Cause bytes (message_error (read_message fault) ∷ [])
-  no_request : (value : Value) (fault : RequestFault) → JsonText bytes value → asked value ≡ Err fault → Cause bytes (message_error (fault_message fault) ∷ [])
+  no_request : (value : Value) (fault : RequestFault) → JsonText bytes value → asked value ≡ Err fault
+      → Cause bytes (message_error (fault_message fault) ∷ [])
   refused : (value : Value) (request : Asked) (errors : List GraphQLError) → JsonText bytes value → asked value ≡ Ok request
       → CauseIn request errors → Cause bytes errors
 
@@ -77,7 +78,8 @@ IsReplyTo value reply = (bytes : List ℕ) → JsonText bytes value → IsReply 
 
 -- a reply to whatever bytes spell this request
 abbrev pub IsReplyToAsked : Asked → Reply → Type 0
-IsReplyToAsked request reply = (bytes : List ℕ) (value : Value) → JsonText bytes value → asked value ≡ Ok request → IsReply Answers Refuses bytes reply
+IsReplyToAsked request reply =
+    (bytes : List ℕ) (value : Value) → JsonText bytes value → asked value ≡ Ok request → IsReply Answers Refuses bytes reply
 
 -- the refusal with one message
 abbrev pub IsRefusedWith : List ℕ → Reply → Type 0
