@@ -30,7 +30,7 @@ use Rattle.gql_engine.specs.Meant.{Ready}
 use Rattle.gql_engine.specs.Unanswered.{Unanswered, no_schema, no_document, no_operation, no_variables}
 use Rattle.gql_engine.specs.Wanted.{Members, Wanted}
 use Rattle.gql_engine.proofs.Results.{same_some, some_or_none, same_err, ok_or_err}
-use Rattle.gql_engine.proofs.Steps.{First, one_error, none_fails}
+use Rattle.gql_engine.proofs.InTurn.{First, one_error, none_fails}
 
 -- what a text means is one thing, and what is wrong with it is told in one way
 pub record Laws : Type 0 where

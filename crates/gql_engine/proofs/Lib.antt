@@ -1,5 +1,5 @@
 mod Results
-mod Steps
+mod InTurn
 mod Causes
 mod Runs
 mod Responses

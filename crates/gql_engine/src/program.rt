@@ -9,7 +9,9 @@ ghost use Rattle.jb_io.specs.Stream.{HasFailed};
 ghost use Rattle.jb_serve.specs.Run.{BreaksOff, Serves};
 
 use crate::task::task_asked;
+use gql_document_text::laws as document_laws;
 use gql_exec_steps::Steps;
+use gql_schema_text::laws as schema_laws;
 use jb_io::{Sink, Source, SureSink, SureSource};
 use jb_read::laws;
 use jb_serve::serve;
@@ -63,6 +65,8 @@ pub fn run<S: Source, K: Sink, L: Ledger>(
     ensures uncounted { steps.new ≡ steps.old }
 {
     laws::each_text_has_one_answer();
+    schema_laws::texts_have_one_schema();
+    document_laws::texts_have_one_document_each();
     serve(alloc, task_asked(words), USAGE, source, sink)
 }
 

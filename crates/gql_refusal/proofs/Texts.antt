@@ -45,16 +45,21 @@ later_members : (xs ys : List Member) → pieces_text true (map member_piece (xs
 later_members [] ys = refl
 later_members (x ∷ xs) ys = ap (λ rest. codes "," ++ (member_piece x ++ rest)) (later_members xs ys) ∙ simp append_assoc
 
+-- an object whose first member is there, as it is written step by step
+around : (old opening key text first second : List ℕ)
+    → ((((old ++ (opening ++ key)) ++ text) ++ first) ++ second) ++ codes "}" ≡ old ++ (opening ++ (((key ++ text) ++ (first ++ second)) ++ codes "}"))
+around old opening key text first second = simp append_assoc
+
 pub error_text : (message : List ℕ) (found : List LineColumn) (marked : Bool) (old : List ℕ)
     → ((((old ++ codes "{\"message\":") ++ quoted message) ++ pieces_text true (map member_piece (places found))) ++ pieces_text true (map member_piece (mark marked))) ++ codes "}"
     ≡ old ++ compact (error_value (error_marked message found marked))
 unfolding escaped
 error_text message found marked old =
-    sym (ap (λ text. old ++ text) (
+    around old (codes "{") (codes "\"message\":") (quoted message) (pieces_text true (map member_piece (places found))) (pieces_text true (map member_piece (mark marked)))
+    ∙ sym (ap (λ text. old ++ text) (
     compact-Object (error_members (error_marked message found marked))
     ∙ ap (λ text. codes "{" ++ ((member_piece (codes "message", json.String message) ++ text) ++ codes "}")) (later_members (places found) (mark marked))
-    ∙ ap (λ text. codes "{" ++ (((quoted (codes "message") ++ codes ":" ++ text) ++ (pieces_text true (map member_piece (places found)) ++ pieces_text true (map member_piece (mark marked)))) ++ codes "}")) (string_text message))
-    ∙ simp append_assoc refl)
+    ∙ ap (λ text. codes "{" ++ (((quoted (codes "message") ++ codes ":" ++ text) ++ (pieces_text true (map member_piece (places found)) ++ pieces_text true (map member_piece (mark marked)))) ++ codes "}")) (string_text message)))
 
 true_text : compact (json.Bool true) ≡ codes "true"
 true_text = search (rules, the_lemmas)

@@ -4,7 +4,7 @@ ghost use Rattle.std.specs.Prelude.{◌≡◌, ◌++◌, [], ◌∷◌, true, po
 ghost use Rattle.jb_tree.specs.declared.value.Value.TheVariants as json;
 ghost use Rattle.jb_print.specs.Compact.{compact};
 ghost use Rattle.jb_print.specs.Pieces.{member_piece, pieces_text};
-ghost use Rattle.gql_diag.specs.RequestFault.{request_error};
+ghost use Rattle.gql_diag.specs.RequestFault.{request_error, suspected_bug};
 ghost use Rattle.gql_response.specs.ErrorAt.{place_in};
 ghost use Rattle.gql_response.specs.Response.{error_value, list_member, location_value, object_member};
 ghost use Rattle.gql_refusal.specs.Refusal.{error_marked, error_of, extensions_marked};
@@ -75,8 +75,17 @@ fn append_mark(out: &mut String, marked: bool) -> Result<(), Memory>
         ++ pieces_text true (map member_piece (object_member (codes "extensions") (extensions_marked marked)))) }
 {
     if marked {
-        out.push_str(",\"extensions\":{\"APOLLO_SUSPECTED_VALIDATION_BUG\":true}")?;
+        append_suspected(out)
+    } else {
+        Ok(())
     }
+}
+
+fn append_suspected(out: &mut String) -> Result<(), Memory>
+    ensures { OnOk result (string_bytes out.new ≡ string_bytes out.old
+        ++ pieces_text true (map member_piece (object_member (codes "extensions") suspected_bug))) }
+{
+    out.push_str(",\"extensions\":{\"APOLLO_SUSPECTED_VALIDATION_BUG\":true}")?;
     Ok(())
 }
 

@@ -1,20 +1,28 @@
--- Where a cause holds its refusal comes, and what is asked plainly has no cause of one.
-use Rattle.gql_engine.proofs.Promise.{exact_result, plain_result, plainly}
+-- Where a cause holds its refusal comes, and what is valid has no cause of one.
+use Rattle.gql_engine.specs.AnswerError.{call_of}
+use Rattle.gql_engine.proofs.Causes.{Laws, exact_result, valid_result}
+use Rattle.gql_engine.proofs.Responses.{valid_by}
 use Rattle.gql_engine.proofs.uncounted.answer_uncounted.Goals as goal
 
 pub returns : goal.returns
 returns g c =
-    let one = c.each_text_has_one_answer.ensures.value in
-    let one_fault = c.each_text_has_one_answer.ensures.fault in
-    let not_both = c.each_text_has_one_answer.ensures.not_both in
+    let laws : Laws = record {
+      one_value = c.each_text_has_one_answer.ensures.value;
+      no_value = c.each_text_has_one_answer.ensures.not_both;
+      one_fault = c.each_text_has_one_answer.ensures.fault;
+      one_schema = c.texts_have_one_schema.ensures.schema;
+      no_schema = c.texts_have_one_schema.ensures.no_faults;
+      one_list = c.texts_have_one_schema.ensures.faults;
+      one_document = c.texts_have_one_document_each.ensures.document;
+      no_document = c.texts_have_one_document_each.ensures.no_faults;
+      same_list = c.texts_have_one_document_each.ensures.faults;
+    } in
+    let call = call_of c.args.schema.now c.args.query.now c.args.operation_name c.args.variables.now c.args.introspection in
     record {
-      asked = c.answer_or_refuse.ensures.asked;
       answered = c.answer_or_refuse.ensures.answered;
       refused = c.answer_or_refuse.ensures.refused;
-      exact = λ error told h. exact_result one one_fault not_both c.args.schema.now c.args.query.now c.args.operation_name c.args.variables.now c.args.introspection
-          c.answer_or_refuse.result
-          (plainly one one_fault not_both c.args.schema.now c.args.query.now c.args.operation_name c.args.variables.now c.args.introspection
-          c.answer_or_refuse.result _ (λ a h. h.texts) c.answer_or_refuse.ensures.asked c.answer_or_refuse.ensures.answered)
-          c.answer_or_refuse.ensures.refused error told h;
-      plain = λ p. plain_result one one_fault not_both _ _ _ _ _ c.answer_or_refuse.result c.answer_or_refuse.ensures.refused p;
+      exact = exact_result laws call c.answer_or_refuse.result
+          (valid_by g.O.ObjectValue.type_of g.O.ObjectValue.resolves (g.O.ObjectValue.seen c.args.root.now) call c.answer_or_refuse.result c.answer_or_refuse.ensures.answered)
+          c.answer_or_refuse.ensures.refused;
+      valid = valid_result laws call c.answer_or_refuse.result c.answer_or_refuse.ensures.refused;
     }
