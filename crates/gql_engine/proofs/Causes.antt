@@ -132,8 +132,15 @@ module _ (w : Wanted) where
         (inr (h.meant.schema, h.meant.is_schema, inr (h.meant.document, h.meant.is_document, inl (h.none, ap (λ (x : GraphQLError). error.Request kind.Operation x) h.told))))
     none_unanswered r (no_variables told h) =
         none_of_ready r (error.Request kind.Variable told)
-        (inr (h.meant.schema, h.meant.is_schema, inr (h.meant.document, h.meant.is_document,
-        inr (h.operation, h.is_chosen, (h.fault, h.fails, ap (λ (x : GraphQLError). error.Request kind.Variable x) h.told)))))
+        (inr (
+          h.meant.schema,
+          h.meant.is_schema,
+          inr (
+            h.meant.document,
+            h.meant.is_document,
+            inr (h.operation, h.is_chosen, (h.fault, h.fails, ap (λ (x : GraphQLError). error.Request kind.Variable x) h.told)),
+          ),
+        ))
 
 -- ---- the steps of a call
 
@@ -206,11 +213,33 @@ module _ (laws : Laws) (call : Call) where
   steps (error.Schema list) told h = inr (h.members, (h.object, h.asked), inl (list, h.holds, refl))
   steps (error.Document list) told h = inr (h.members, (h.object, h.asked), inr (h.holds.schema, h.holds.is_schema, inl (list, h.holds.faults, refl)))
   steps (error.Request kind.Operation x) told h =
-      inr (h.members, (h.object, h.asked), inr (h.holds.meant.schema, h.holds.meant.is_schema, inr (h.holds.meant.document, h.holds.meant.is_document,
-      inl (h.holds.none, ap (λ (y : GraphQLError). error.Request kind.Operation y) h.holds.told))))
+      inr (
+        h.members,
+        (h.object, h.asked),
+        inr (
+          h.holds.meant.schema,
+          h.holds.meant.is_schema,
+          inr (
+            h.holds.meant.document,
+            h.holds.meant.is_document,
+            inl (h.holds.none, ap (λ (y : GraphQLError). error.Request kind.Operation y) h.holds.told),
+          ),
+        ),
+      )
   steps (error.Request kind.Variable x) told h =
-      inr (h.members, (h.object, h.asked), inr (h.holds.meant.schema, h.holds.meant.is_schema, inr (h.holds.meant.document, h.holds.meant.is_document,
-      inr (h.holds.operation, h.holds.is_chosen, (h.holds.fault, h.holds.fails, ap (λ (y : GraphQLError). error.Request kind.Variable y) h.holds.told)))))
+      inr (
+        h.members,
+        (h.object, h.asked),
+        inr (
+          h.holds.meant.schema,
+          h.holds.meant.is_schema,
+          inr (
+            h.holds.meant.document,
+            h.holds.meant.is_document,
+            inr (h.holds.operation, h.holds.is_chosen, (h.holds.fault, h.holds.fails, ap (λ (y : GraphQLError). error.Request kind.Variable y) h.holds.told)),
+          ),
+        ),
+      )
   steps error.Memory told h = absurd (told refl)
 
   -- two causes are one, and none is want of memory

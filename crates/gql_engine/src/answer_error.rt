@@ -50,7 +50,9 @@ pub enum AnswerError {
     /// The text of the variables is none of an object.
     Variables(VariablesFault),
     /// A part is asked for that can't be answered yet.
-    Unbuilt { part: UnbuiltPart },
+    Unbuilt {
+        part: UnbuiltPart,
+    },
     /// What is wrong with the schema's text.
     Schema(DiagnosticList),
     /// What is wrong with the query's text against the schema.

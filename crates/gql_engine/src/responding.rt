@@ -76,7 +76,10 @@ fn respond_to<O: ObjectValue>(
     ensures { IsResponse O.type_of O.resolves (O.seen root.now) (wanted_by wanted.now) result }
 {
     let sources = &document.as_ref().sources;
-    match document.as_ref().operations_get(alloc, wanted.operation_name) {
+    match document
+        .as_ref()
+        .operations_get(alloc, wanted.operation_name)
+    {
         Ok(operation) => perform(alloc, wanted, schema, document, operation, root),
         Err(refused) => Err(of_step(alloc, RequestKind::Operation, refused, sources)),
     }

@@ -39,7 +39,12 @@ pub(crate) fn append_request(
     ensures { OnOk result (string_bytes out.new ≡ string_bytes out.old ++ compact (error_value (request_error error.now sources.now))) }
 {
     let place = place_in(error.location, sources);
-    append_error(out, error.message(), place, error.is_suspected_validation_bug)
+    append_error(
+        out,
+        error.message(),
+        place,
+        error.is_suspected_validation_bug,
+    )
 }
 
 /// The line and column of the start of a location, where they are found in the files.
