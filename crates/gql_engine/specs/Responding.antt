@@ -26,7 +26,7 @@ IsRefusedAt wanted Variable error = IsUncoerced wanted error
 abbrev pub IsCause : Wanted → Refusal → Type 0
 IsCause wanted (Schema list) = IsNoSchema wanted list
 IsCause wanted (Document list) = IsNoDocument wanted list
-IsCause wanted (Request kind error sources) = IsRefusedAt wanted kind (request_error error sources)
+IsCause wanted (Request kind why sources) = IsRefusedAt wanted kind (request_error why sources)
 
 -- the response, or the cause of a refusal
 abbrev pub IsResponse : {X : Type 0} → (X → List ℕ) → Resolving X → X → Wanted → Result (List ℕ) (Refused Refusal) → Type 0
@@ -38,17 +38,17 @@ IsResponse type_of resolves root wanted (Err Memory) = Unit {0}
 abbrev pub told : Refusal → List GraphQLError
 told (Schema list) = errors_of list
 told (Document list) = errors_of list
-told (Request kind error sources) = request_error error sources ∷ []
+told (Request kind why sources) = request_error why sources ∷ []
 
 -- the refusal as callers are told it
 abbrev pub told_as : Refusal → AnswerError
 told_as (Schema list) = error.Schema list
 told_as (Document list) = error.Document list
-told_as (Request kind error sources) = error.Request kind (request_error error sources)
+told_as (Request kind why sources) = error.Request kind (request_error why sources)
 
 -- the same refusal, of this step
 abbrev pub IsOfStep : RequestKind → Files → Refused RequestError → Refused Refusal → Type 0
-IsOfStep kind sources (Fault error) (Fault refusal) = refusal ≡ Request kind error sources
+IsOfStep kind sources (Fault why) (Fault refusal) = refusal ≡ Request kind why sources
 IsOfStep kind sources Memory (Fault refusal) = ⊥
 IsOfStep kind sources refused Memory = Unit {0}
 

@@ -1,7 +1,7 @@
 //! Answering: a schema, a query and a resolver in, a response out.
 
 ghost use Rattle.std.specs.Prelude.{◌≡◌, ◌≢◌, IfOk, IfErr, IsErrAnd};
-ghost use Rattle.gql_engine.specs.declared.answer_error.AnswerError.{AnswerError as Refused};
+ghost use Rattle.gql_engine.specs.declared.answer_error.AnswerError.{AnswerError as Refusal};
 ghost use Rattle.gql_engine.specs.declared.answer_error.AnswerError.TheVariants as refusal;
 ghost use Rattle.jb_read.specs.Spelling.{JsonText};
 ghost use Rattle.gql_engine.specs.AnswerError.{ComesFor, HasCause, IsUnread, IsValid, call_of};
@@ -59,7 +59,7 @@ pub fn answer<O: ObjectValue, L: Ledger>(
 
     // Each refusal has its cause, and where a cause holds its refusal comes, unless memory fails.
     ensures refused { IfErr result (HasCause (call_of schema.now query.now operation_name.entry variables.now introspection)) }
-    ensures exact { (error : Refused) → error ≢ refusal.Memory
+    ensures exact { (error : Refusal) → error ≢ refusal.Memory
         → HasCause (call_of schema.now query.now operation_name.entry variables.now introspection) error
         → IsErrAnd result (ComesFor error) }
 
