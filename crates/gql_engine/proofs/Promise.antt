@@ -63,8 +63,8 @@ left_over (suc (suc (suc (suc (suc (suc (suc n))))))) most a b c = absurd (omega
 pub answered_or_cut : Laws → (old new : Option (List ℕ)) (taken taken' : Option Told) (asks : Option Task) (status : ℕ) → status ≤ 6
     → (status ≡ 2 → asks ≡ None) → (status ≡ 1 → IsSomeAnd asks (λ _. Serves Refuses old new taken taken')) → (status ≡ 6 → GivesMore old new)
     → asks ≡ Some Answer → IsValidInput old → (status ≡ 0) ⊎ ((status ≡ 3) ⊎ ((status ≡ 4) ⊎ (status ≡ 5)))
-answered_or_cut laws old new taken taken' asks status most misused refused long is p =
+answered_or_cut laws old new taken taken' asks status most misused told long is p =
     left_over status most
-    (λ e. let s = subst (λ (a : Option Task). IsSomeAnd a (λ _. Serves Refuses old new taken taken')) is (refused e) in not_refused laws old new s.bytes s.text p s.read s.means)
+    (λ e. let s = subst (λ (a : Option Task). IsSomeAnd a (λ _. Serves Refuses old new taken taken')) is (told e) in not_refused laws old new s.bytes s.text p s.read s.means)
     (λ e. let n = misused e in cc (n, is))
     (λ e. not_more old new p (long e))

@@ -11,8 +11,9 @@ use Rattle.gql_diag.specs.declared.request_error.RequestError.{RequestError}
 use Rattle.gql_document_types.specs.ChosenOperation.{chosen, refusal, why_none, IsChosen as IsChosenAnswer}
 use Rattle.gql_document_types.specs.declared.document.ExecutableDocument.{ExecutableDocument}
 use Rattle.gql_document_types.specs.declared.operation.Operation.{Operation}
-use Rattle.gql_exec_request.specs.Execution.{IsAnswer as IsExecutionAnswer, Prepared, on_root, undefined_root}
+use Rattle.gql_exec_request.specs.Execution.{Answers as ExecutionAnswers, IsAnswer as IsExecutionAnswer, Prepared, on_root, started, undefined_root, with_operation, with_values}
 use Rattle.gql_exec_request.specs.Executing.{Resolving, request_by}
+use Rattle.gql_exec_request.specs.declared.execution.Execution.{Execution}
 use Rattle.gql_exec_request.specs.declared.execution.Given.TheVariants.{Coerced}
 use Rattle.gql_exec_variables.specs.RequestErrors.{request_error as fault_told}
 use Rattle.gql_exec_world.specs.Response.{IsExecuted, IsExplained}
@@ -58,6 +59,16 @@ module _ {X : Type 0} (types : X → List ℕ) (resolves : Resolving X) (root : 
         explained = subst (λ (p : Prepared). IsExplained (request_by S Q p.variables types resolves) p.root root p.operation.selection_set.selections response) same h.3;
         written = written;
       }
+
+  -- and so are the bytes that print it
+  pub executed_bytes : {E : Type 0} (schema : Bor Schema) (document : Bor ExecutableDocument) (operation : Bor Operation) (values : Bor Members) (execution : Execution)
+      → execution ≡ with_values (with_operation (started schema document) operation) (Coerced values) → (response : ExecutionResponse) (result : Result (List ℕ) E)
+      → ExecutionAnswers execution types resolves root (Ok response) → IfOk result (λ bytes. bytes ≡ compact (response_value response))
+      → IfOk result (IsExecutionOf types resolves root schema.now document.now operation.now values.now)
+  executed_bytes schema document operation values execution is response (Ok bytes) h written =
+      executed_on schema.now document.now operation.now values (object_of schema.now operation.now.selection_set.ty.text) response bytes refl
+      (subst (λ (e : Execution). ExecutionAnswers e types resolves root (Ok response)) is h) written
+  executed_bytes schema document operation values execution is response (Err e) h written = tt
 
 -- ---- the steps before it
 

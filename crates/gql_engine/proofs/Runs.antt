@@ -1,7 +1,7 @@
 -- A chosen operation of a document that a text means begins at an object type, and so its execution is refused for nothing.
 use Rattle.std.proofs.Common.{◌≡◌, ℕ, Bool, true, false, cond, List, [], ◌∷◌, Option, Some, None, is_some, Ok, Err, refl, subst}
 use Rattle.std.specs.List.{All, find}
-use Rattle.std.proofs.lemmas.List.{All-head, All-tail}
+use Rattle.std.proofs.lemmas.List.Elements.{All-head, All-tail}
 use Rattle.std.specs.Borrow.{Bor}
 use Rattle.gql_diag.specs.declared.request_error.RequestError.{RequestError}
 use Rattle.gql_document_text.specs.Running.{AreOnRoots, IsOnRoot}
