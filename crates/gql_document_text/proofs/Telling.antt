@@ -1,5 +1,5 @@
 -- What the rules on spreads, on fragments and on variables tell is one list.
-use Rattle.std.proofs.Common.{◌≡◌, ◌==◌, ◌<◌, ℕ, ◌+◌, suc, Bool, true, false, cond, if◌then◌else◌, List, [], ◌∷◌, ◌++◌, length, map, filter, flat_map, Option, Some, None, slice_get, All, refl, sym, ◌∙◌, ap, ap₂, subst, arith}
+use Rattle.std.proofs.Common.{◌≡◌, ℕ, ◌+◌, suc, Bool, true, false, cond, if◌then◌else◌, List, [], ◌∷◌, ◌++◌, length, map, filter, flat_map, Option, Some, None, slice_get, All, refl, sym, ◌∙◌, ap, ap₂, subst, arith}
 use Rattle.std.proofs.lemmas.Bool.Decides.{nat_tests}
 use Rattle.std.proofs.lemmas.List.Elements.{All-head, All-tail}
 use Rattle.std.proofs.lemmas.Option.{slice_get_within}
@@ -118,8 +118,7 @@ all_same fragments (x ∷ xs) [] e h k = let f : x.operation ∷ map its_operati
 all_same fragments (x ∷ xs) (y ∷ ys) e h k =
     let f : x.operation ∷ map its_operation xs ≡ y.operation ∷ map its_operation ys = e in
     let first : x.operation ≡ y.operation = cc in
-    let rest : map its_operation xs ≡ map its_operation ys = cc in
-    (
+    let rest : map its_operation xs ≡ map its_operation ys = cc in (
       same_reach fragments x y first (All-head (IsReach fragments) x xs h) (All-head (IsReach fragments) y ys k),
       all_same fragments xs ys rest (All-tail (IsReach fragments) x xs h) (All-tail (IsReach fragments) y ys k),
     )

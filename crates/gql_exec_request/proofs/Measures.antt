@@ -1,11 +1,10 @@
 -- By what the cycle of execution ends: how deep selections go, and how many lists are inside one another in types.
-use Rattle.std.proofs.Common.{arith, ◌≡◌, ℕ, zero, suc, ◌+◌, ◌*◌, ◌<◌, ◌≤◌, Bool, true, false, List, [], ◌∷◌, map, length, get_or, drop, Option, Some, None, is_some, refl, sym, ap, ◌∙◌, subst, add-one}
+use Rattle.std.proofs.Common.{arith, ◌≡◌, ℕ, zero, suc, ◌+◌, ◌*◌, ◌<◌, ◌≤◌, true, false, List, [], ◌∷◌, length, get_or, drop, Option, Some, None, is_some, refl, sym, ap, ◌∙◌, subst, add-one}
 use Rattle.std.specs.Option.{unwrap_or}
 use Rattle.std.proofs.Math.Nat.{mul-le-mul_left}
 use Rattle.std.proofs.Math.Seq.{drop-cons}
 use Rattle.gql_ast_definitions.specs.declared.field_definition.FieldDefinition.{FieldDefinition}
 use Rattle.gql_document_types.specs.declared.fragment.Fragment.{Fragment}
-use Rattle.gql_document_types.specs.declared.selection.Field.{Field}
 use Rattle.gql_document_types.specs.declared.selection.Selection.{Selection}
 use Rattle.gql_schema_types.specs.Schemas.{field_of}
 use Rattle.gql_schema_types.specs.declared.schema.Schema.{Schema}
@@ -34,6 +33,10 @@ pub below-less : (room n m extra : ℕ) → n < m → extra < room → room * n 
 below-less room n m extra less small =
     let more : room * (n + 1) ≤ room * m = mul-le-mul_left room (omega (arith, less)) in
     omega (arith, more, small)
+
+-- what is selected is the same
+pub same-less : (e : Executing) (some sets : List (List Selection)) (a b : ℕ) → some ≡ sets → a < b → measure e some a < measure e sets b
+same-less e some sets a b is less = omega (arith, ap (λ s. room e * nesting (fragments_in e) s) is, less)
 
 -- a field that is defined is no higher than the schema
 pub definition-top : (schema : Schema) (T f : List ℕ) (other : FieldDefinition) → is_some (field_of schema T f) ≡ true

@@ -1,0 +1,11 @@
+use Rattle.std.proofs.Common.{ap}
+use Rattle.gql_diag.specs.List.{Diagnostics}
+use Rattle.gql_schema_text.proofs.Phases.{none_broken, some_broken}
+use Rattle.gql_schema_text.proofs.reading.ruled.Goals as goal
+
+pub returns-then-is_empty : goal.returns-then-is_empty
+returns-then-is_empty c = (
+    none_broken c.args.schema c.new.result.items c.validate_schema.new.errors.items (ap (λ (d : Diagnostics). d.items) c.new.ensures)
+    c.in_ok-validate_schema.ensures.faults ?,
+    c.in_ok-validate_schema.ensures.schema,
+)
