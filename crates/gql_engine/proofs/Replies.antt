@@ -71,8 +71,8 @@ given_or : (given : Option (Bor Members)) (none found : Bor Members) → found �
 given_or (Some members) none found is empty = ap (λ (b : Bor Members). b.now) is
 given_or None none found is empty = ap (λ (b : Bor Members). b.now) is ∙ empty
 
-module _ (request : Request) (none variables members : Bor Members) (empty : none.now ≡ []) (variables_are : variables ≡ unwrap_or request.variables none)
-    (members_are : members ≡ unwrap_or request.root none) (root : Data) (root_is : root ≡ record { type_name = []; members = members.now }) where
+module _ (request : Request) (none other variables members : Bor Members) (empty : none.now ≡ []) (other_empty : other.now ≡ [])
+    (variables_are : variables ≡ unwrap_or request.variables none) (members_are : members ≡ unwrap_or request.root other) (root : Data) (root_is : root ≡ record { type_name = []; members = members.now }) where
   abbrev given : WantedHere
   given = record { schema = request.schema; query = request.query; operation_name = request.operation_name; variables = variables }
 
@@ -83,7 +83,7 @@ module _ (request : Request) (none variables members : Bor Members) (empty : non
       (given_or request.variables none variables variables_are empty)
 
   begins_at : root ≡ root_of (asked_in request)
-  begins_at = root_is ∙ ap (λ (found : Members). record { type_name = []; members = found }) (given_or request.root none members members_are empty)
+  begins_at = root_is ∙ ap (λ (found : Members). record { type_name = []; members = found }) (given_or request.root other members members_are other_empty)
 
   pub answered_by : (bytes text : List ℕ) (value : Value) → JsonText bytes value → asked value ≡ Ok (asked_in request) → request.introspection ≡ false
       → Answered (λ (object : Data). object.type_name) data_meaning root (wanted_by given) text → Answers bytes text

@@ -9,11 +9,11 @@ returns-then-request c =
 
 pub returns-in-Ok : goal.returns-in-Ok
 returns-in-Ok c = λ bytes value read asks.
-    answered_by c.args.request.now _ c.unwrap_or.result c.unwrap_or-2.result c.new-no_members.ensures c.unwrap_or.ensures c.unwrap_or-2.ensures c.root-root.result
+    answered_by c.args.request.now _ _ c.unwrap_or.result c.unwrap_or-2.result c.new-no_members.ensures c.new-no_members.ensures c.unwrap_or.ensures c.unwrap_or-2.ensures c.root-root.result
     c.root-root.ensures bytes c.in-Ok.text value read asks c.if-request.false c.in-Ok.ensures
 
 pub returns-in-Err-Fault : goal.returns-in-Err-Fault
 returns-in-Err-Fault c = λ bytes value read asks.
-    refused_by c.args.request.now _ c.unwrap_or.result c.unwrap_or-2.result c.new-no_members.ensures c.unwrap_or.ensures c.unwrap_or-2.ensures c.root-root.result
+    refused_by c.args.request.now _ _ c.unwrap_or.result c.unwrap_or-2.result c.new-no_members.ensures c.new-no_members.ensures c.unwrap_or.ensures c.unwrap_or-2.ensures c.root-root.result
     c.root-root.ensures bytes c.in_ok-into_text-in-Err-Fault.field-0 value read asks c.if-request.false c.in-Err-Fault.refusal
     (rw c.in-Err-Fault.field-0-is at c.in-Err-Fault.ensures) c.in_ok-into_text-in-Err-Fault.ensures
