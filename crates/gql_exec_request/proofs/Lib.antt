@@ -1,0 +1,13 @@
+pub mod Collecting
+pub mod Completing
+pub mod Groups
+pub mod Heights
+pub mod Items
+pub mod Keys
+pub mod Measures
+pub mod Places
+pub mod Responses
+pub mod Steps
+pub mod Values
+pub mod Views
+pub mod Ways

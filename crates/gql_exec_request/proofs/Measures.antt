@@ -1,0 +1,55 @@
+-- By what the cycle of execution ends: how deep selections go, and how many lists are inside one another in types.
+use Rattle.std.proofs.Common.{arith, ◌≡◌, ℕ, zero, suc, ◌+◌, ◌*◌, ◌<◌, ◌≤◌, Bool, true, false, List, [], ◌∷◌, map, length, get_or, drop, Option, Some, None, is_some, refl, sym, ap, ◌∙◌, subst, add-one}
+use Rattle.std.specs.Option.{unwrap_or}
+use Rattle.std.proofs.Math.Nat.{mul-le-mul_left}
+use Rattle.std.proofs.Math.Seq.{drop-cons}
+use Rattle.gql_ast_definitions.specs.declared.field_definition.FieldDefinition.{FieldDefinition}
+use Rattle.gql_document_types.specs.declared.fragment.Fragment.{Fragment}
+use Rattle.gql_document_types.specs.declared.selection.Field.{Field}
+use Rattle.gql_document_types.specs.declared.selection.Selection.{Selection}
+use Rattle.gql_schema_types.specs.Schemas.{field_of}
+use Rattle.gql_schema_types.specs.declared.schema.Schema.{Schema}
+use Rattle.gql_schema_types.specs.declared.types.ObjectType.{ObjectType}
+use Rattle.gql_exec_groups.specs.Grouping.{groups_seen, group_seen}
+use Rattle.gql_exec_groups.specs.declared.group.Group.{Group as FieldsOfKey}
+use Rattle.gql_exec_resolve.proofs.Height.{height}
+use Rattle.gql_exec_world.specs.Nesting.{nesting, IsBelow, AllBelow}
+use Rattle.gql_exec_request.proofs.Heights.{top, field-top}
+use Rattle.gql_exec_request.specs.declared.executing.Executing.{Executing}
+
+abbrev pub schema_in : Executing → Schema
+schema_in executing = executing.request.schema.now
+
+abbrev pub fragments_in : Executing → List Fragment
+fragments_in executing = executing.request.document.now.fragments
+
+abbrev pub room : Executing → ℕ
+room executing = 4 * top (schema_in executing) + 8
+
+abbrev pub measure : Executing → List (List Selection) → ℕ → ℕ
+measure executing sets extra = room executing * nesting (fragments_in executing) sets + extra
+
+-- what is selected below a group is less by a whole room
+pub below-less : (room n m extra : ℕ) → n < m → extra < room → room * n + extra < room * m + 0
+below-less room n m extra less small =
+    let more : room * (n + 1) ≤ room * m = mul-le-mul_left room (omega (arith, less)) in
+    omega (arith, more, small)
+
+-- a field that is defined is no higher than the schema
+pub definition-top : (schema : Schema) (T f : List ℕ) (other : FieldDefinition) → is_some (field_of schema T f) ≡ true
+    → height (unwrap_or (field_of schema T f) other).ty ≤ top schema
+definition-top schema T f other defined = by (field_of schema T f) refl defined
+  where
+    by : (o : Option FieldDefinition) → field_of schema T f ≡ o → is_some o ≡ true → height (unwrap_or o other).ty ≤ top schema
+    by None is e = absurd (let g : false ≡ true = e in cc)
+    by (Some d) is e = field-top schema T f d is
+
+pub drop-item : {A : Type 0} (xs : List A) (i : ℕ) (x : A) → i < length xs → x ≡ get_or xs i x → drop i xs ≡ x ∷ drop (i + 1) xs
+drop-item xs i x within is = rw (add-one i) (drop-cons xs i x within ∙ ap (λ y. y ∷ drop (suc i) xs) (sym is))
+
+-- each group of those that go less deep
+pub below-at : (schema : Schema) (U : ObjectType) (fragments : List Fragment) (n : ℕ) (groups : List FieldsOfKey) (i : ℕ) (g : FieldsOfKey)
+    → i < length groups → g ≡ get_or groups i g → AllBelow schema U fragments n (groups_seen groups) → IsBelow schema U fragments n (group_seen g)
+below-at schema U fragments n [] i g within is all = absurd (omega (arith, within))
+below-at schema U fragments n (x ∷ xs) zero g within is all = subst (λ y. IsBelow schema U fragments n (group_seen y)) (sym is) all.0
+below-at schema U fragments n (x ∷ xs) (suc i) g within is all = below-at schema U fragments n xs i g (omega (arith, within)) is all.1

@@ -1,0 +1,5 @@
+pub mod Trails
+pub mod Executing
+pub mod Asking
+pub mod Executed
+pub mod Execution

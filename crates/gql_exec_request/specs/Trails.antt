@@ -1,0 +1,64 @@
+-- Places as the code has them.
+use Rattle.std.specs.Prelude.{ℕ, List, [], ◌∷◌, ◌++◌, Option, Some, None}
+use Rattle.jb_tree.specs.declared.value.Value.{Value}
+use Rattle.gql_source.specs.File.{Files}
+use Rattle.gql_ast_values.specs.declared.type_ref.TypeRef.{TypeRef}
+use Rattle.gql_diag.specs.RequestFault.{request_error}
+use Rattle.gql_diag.specs.declared.request_error.RequestError.{RequestError}
+use Rattle.gql_response.specs.declared.graphql_error.GraphQLError.{GraphQLError}
+use Rattle.gql_response.specs.declared.path.ResponseDataPathSegment.TheVariants.{Field, ListIndex}
+use Rattle.gql_exec_groups.specs.Walk.{fields_of}
+use Rattle.gql_exec_groups.specs.declared.group.Group.{Group as FieldsOfKey}
+use Rattle.gql_exec_places.specs.Execute.{null_or_pass}
+use Rattle.gql_exec_places.specs.Spot.{Spot}
+use Rattle.gql_exec_places.specs.Trail.{Segment, Trail, path_of}
+use Rattle.gql_exec_places.specs.Types.{is_strict}
+use Rattle.gql_exec_world.specs.Group.{Group, pieces_of}
+use Rattle.gql_exec_request.specs.declared.completed.Completed.{Completed}
+use Rattle.gql_exec_request.specs.declared.completed.Completed.TheVariants as completed
+use Rattle.gql_exec_request.specs.declared.path.Path.{Path, fold-Path}
+use Rattle.gql_exec_request.specs.declared.path.Path.TheOpen.{Path-F, Root, Below}
+use Rattle.gql_exec_request.specs.declared.path.Step.{Step}
+use Rattle.gql_exec_request.specs.declared.path.Step.TheVariants.{Key, Item}
+use Rattle.gql_exec_request.specs.declared.place.Place.{Place}
+
+abbrev pub segment_of : Step → Segment
+segment_of (Key name) = Field name.now
+segment_of (Item index) = ListIndex index
+
+-- a way from the root as a place with those around it
+abbrev pub trail_step : Path-F Trail → Trail
+trail_step Root = []
+trail_step (Below parent step ty) = (segment_of step, ty.now) ∷ parent.now
+
+abbrev pub trail_of : Path → Trail
+trail_of = fold-Path Trail trail_step
+
+abbrev pub group_of : FieldsOfKey → Group
+group_of group = record { first = group.first.now; pieces = pieces_of (fields_of group.fields) }
+
+abbrev pub spot_of : Place → Spot Group
+spot_of place =
+    record { around = trail_of place.around.now; step = segment_of place.step; type = place.ty.now; group = group_of place.group.now }
+
+-- the place of an item of the list that is around it
+abbrev pub item_at : Path → ℕ → TypeRef → FieldsOfKey → Spot Group
+item_at around index ty group = record { around = trail_of around; step = ListIndex index; type = ty; group = group_of group }
+
+-- the steps from the root to a place
+abbrev pub place_path : Place → List Segment
+place_path place = path_of (trail_of place.around.now) ++ segment_of place.step ∷ []
+
+-- the error of a fault, at these steps
+abbrev pub listed_at : Files → List Segment → RequestError → GraphQLError
+listed_at sources path fault = record (request_error fault sources) { path = path }
+
+-- what is made of a place: none where a null is passed on, no value where it is left out
+abbrev pub made_of : Completed → Option (List Value)
+made_of (completed.Value v) = Some (v ∷ [])
+made_of completed.LeftOut = Some []
+made_of completed.NullPasses = None
+
+-- a null at a place of this type
+abbrev pub null_at : TypeRef → Option (List Value)
+null_at ty = null_or_pass (is_strict ty)

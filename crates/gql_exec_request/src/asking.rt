@@ -1,0 +1,135 @@
+//! What comes of a field on an object: its arguments are coerced, and then its resolver is asked.
+
+ghost use Rattle.std.specs.Prelude.{◌≡◌, Ok, IfOk};
+ghost use Rattle.gql_exec_resolve.specs.Meaning.{Answers};
+ghost use Rattle.gql_exec_places.specs.Resolved.{answered, Meaning};
+ghost use Rattle.gql_exec_world.specs.Asks as spec;
+ghost use Rattle.gql_exec_request.specs.Asking.{outcome_of};
+ghost use Rattle.gql_exec_request.specs.Executing.{request_of};
+ghost use Rattle.gql_schema_types.specs.Schemas as schemas;
+
+use crate::executing::Executing;
+use gql_ast_base::OperationType;
+use gql_ast_definitions::FieldDefinition;
+use gql_coerce::{ArgumentFault, coerce_arguments};
+use gql_diag::JsonMap;
+use gql_document_types::Field;
+use gql_exec_groups::Group;
+use gql_exec_resolve::{FieldError, ObjectValue, ResolveError, ResolveInfo, ResolvedValue};
+use gql_schema_types::ObjectType;
+use jb_text::{Memory, Refused, Text};
+use jb_tree::Value;
+use std::alloc::AllocError;
+
+/// What comes of a field: what its resolver gives, its failure, or the fault of an argument.
+#[derive(Drop)]
+pub(crate) enum Asked<O> {
+    Gave(ResolvedValue<O>),
+    Failed(FieldError),
+    Refused(ArgumentFault),
+}
+
+impl<'s> Executing<'s> {
+    /// What comes of the field of a group on an object of this type (GraphQL October 2021, sections 6.4.1 and 6.4.2), where
+    /// this is its definition. `Err` only for want of memory.
+    pub(crate) fn ask<O: ObjectValue>(
+        &self,
+        object_type: &ObjectType,
+        object: &O,
+        definition: &FieldDefinition,
+        group: &Group<'_>,
+    ) -> Result<Asked<O>, Memory>
+        ensures { IfOk result (λ asked.
+            let r = request_of self.now O.type_of O.resolves in
+            outcome_of O.seen asked ≡ spec.asked r object_type.now (O.seen object.now) group.now.first.now.name.text (spec.arguments_at r definition.now group.now.first.now)) }
+    {
+        match coerce_arguments(
+            self.alloc,
+            self.request.schema,
+            definition,
+            &group.first.arguments,
+            self.variables,
+        ) {
+            Ok(arguments) => self.resolve(object_type, object, group, &arguments),
+            Err(Refused::Fault(fault)) => Ok(Asked::Refused(fault)),
+            Err(Refused::Memory) => Err(AllocError),
+        }
+    }
+
+    /// The same with these arguments.
+    fn resolve<O: ObjectValue>(
+        &self,
+        object_type: &ObjectType,
+        object: &O,
+        group: &Group<'_>,
+        arguments: &JsonMap,
+    ) -> Result<Asked<O>, Memory>
+        ensures { IfOk result (λ asked.
+            outcome_of O.seen asked ≡ answered (spec.answer (request_of self.now O.type_of O.resolves) object_type.now (O.seen object.now) group.now.first.now.name.text arguments.now)) }
+    {
+        let name = group.first.name.as_str();
+        if name == "__typename" {
+            let text = Value::from_text(self.alloc, object_type.name.as_str())?;
+            return Ok(Asked::Gave(ResolvedValue::Leaf(text)));
+        }
+        if self.is_introspection(object_type, name) {
+            let message = Text::from_str(self.alloc, "schema introspection is disabled")?;
+            return Ok(Asked::Failed(FieldError { message }));
+        }
+        let info = ResolveInfo::new(
+            &self.request,
+            object_type,
+            group.first,
+            &group.fields,
+            arguments,
+        );
+        told(object.resolve_field(self.alloc, &info))
+    }
+
+    /// Whether the field of this name on this type tells of the schema (section 4.1).
+    fn is_introspection(&self, object_type: &ObjectType, name: &str) -> bool
+        ensures { result ≡ spec.is_introspection self.now.request.schema.now object_type.now name.now }
+    {
+        (name == "__schema" || name == "__type") && self.is_query_root(object_type.name.as_str())
+    }
+
+    /// Whether this is the name of the root type of queries.
+    fn is_query_root(&self, name: &str) -> bool
+        ensures { result ≡ schemas.is_query_root self.now.request.schema.now.schema_definition name.now }
+    {
+        let definition = &self.schema().schema_definition;
+        match definition.root_operation(OperationType::Query) {
+            Some(root) => name == root.as_str(),
+            None => false,
+        }
+    }
+
+    /// The definition of a field on this type, which every group that is collected has; else that on the type that it is
+    /// selected on.
+    pub(crate) fn definition_on<'f>(
+        &self,
+        object_type: &ObjectType,
+        field: &'f Field,
+    ) -> &'f FieldDefinition
+    where
+        's: 'f,
+        ensures { result.now ≡ spec.definition_on self.now.request.schema.now object_type.now field.now }
+    {
+        let schema = self.schema();
+        match schema.type_field(object_type.name.as_str(), field.name.as_str()) {
+            Some(definition) => definition,
+            None => &field.definition,
+        }
+    }
+}
+
+/// What a resolver's answer is.
+fn told<O: ObjectValue>(answer: Result<ResolvedValue<O>, ResolveError>) -> Result<Asked<O>, Memory>
+    ensures { (meaning : Meaning O.Seen) → Answers O.seen answer meaning → IfOk result (λ asked. outcome_of O.seen asked ≡ answered meaning) }
+{
+    match answer {
+        Ok(resolved) => Ok(Asked::Gave(resolved)),
+        Err(ResolveError::Field(error)) => Ok(Asked::Failed(error)),
+        Err(ResolveError::Memory) => Err(AllocError),
+    }
+}

@@ -1,0 +1,123 @@
+//! Errors that are listed at places, and leaves.
+
+ghost use Rattle.std.specs.Prelude.{◌≡◌, ◌++◌, ◌∷◌, [], None, IfOk, OnOk};
+ghost use Rattle.gql_exec_complete.specs.Fit.{wrong};
+ghost use Rattle.gql_exec_complete.specs.Messages as message;
+ghost use Rattle.gql_exec_complete.specs.Seen.{seen};
+ghost use Rattle.gql_exec_places.specs.Execute.{completed, settled};
+ghost use Rattle.gql_exec_places.specs.Fault.{fault_error, told_at};
+ghost use Rattle.gql_exec_places.specs.Resolved.{fails_with, gives_leaf};
+ghost use Rattle.gql_exec_world.specs.Asks.{fault_of};
+ghost use Rattle.gql_exec_request.specs.Executed.{IsMade, MakesBelow};
+ghost use Rattle.gql_exec_request.specs.Executing.{world_of};
+ghost use Rattle.gql_exec_request.specs.Trails.{group_of, made_of, spot_of};
+
+use crate::completed::Completed;
+use crate::executing::Executing;
+use crate::place::Place;
+use gql_coerce::ArgumentFault;
+use gql_diag::RequestError;
+use gql_exec_complete::{Misfit, leaf_misfit, resolver_error};
+use gql_exec_resolve::{FieldError, ObjectValue};
+use gql_response::GraphQLError;
+use jb_text::{Listed, Memory};
+use jb_tree::Value;
+
+impl<'s> Executing<'s> {
+    /// What is made of a leaf at a place.
+    pub(crate) fn complete_leaf<O: ObjectValue>(
+        &self,
+        place: &Place<'_>,
+        value: Value,
+        errors: &mut Listed<GraphQLError>,
+    ) -> Result<Completed, Memory>
+        ensures { IfOk result (λ done.
+            let w = world_of self.now O.type_of O.resolves in
+            MakesBelow w (group_of place.now.group.now) (made_of done) errors.old errors.new
+            (λ run. completed w run (spot_of place.now) (gives_leaf value))) }
+    {
+        match leaf_misfit(self.alloc, self.schema(), place.ty, &value)? {
+            None => Ok(Completed::Value(value)),
+            Some(misfit) => self.refuse::<O>(place, misfit, errors),
+        }
+    }
+
+    /// Lists what is wrong with an answer at a place, whose value is then null.
+    pub(crate) fn refuse<O: ObjectValue>(
+        &self,
+        place: &Place<'_>,
+        misfit: Misfit,
+        errors: &mut Listed<GraphQLError>,
+    ) -> Result<Completed, Memory>
+        ensures { IfOk result (λ done.
+            let w = world_of self.now O.type_of O.resolves in
+            let spot = spot_of place.now in
+            IsMade (made_of done) errors.old errors.new
+            (settled spot (None, fault_error w spot (told_at (w.span_of spot.group) (seen misfit)) ∷ []))) }
+    {
+        let fault = RequestError {
+            message: misfit.message,
+            location: place.group.first.name.location(),
+            is_suspected_validation_bug: misfit.suspected,
+        };
+        place.list(self.alloc, &self.document().sources, fault, errors)?;
+        Ok(place.null())
+    }
+
+    /// Lists a resolver's failure at the place of a field, whose value is then null.
+    pub(crate) fn fail<O: ObjectValue>(
+        &self,
+        place: &Place<'_>,
+        error: FieldError,
+        errors: &mut Listed<GraphQLError>,
+    ) -> Result<Completed, Memory>
+        ensures { IfOk result (λ done.
+            let w = world_of self.now O.type_of O.resolves in
+            MakesBelow w (group_of place.now.group.now) (made_of done) errors.old errors.new
+            (λ run. completed w run (spot_of place.now) (fails_with error.message))) }
+    {
+        self.list_failure::<O>(place, error, errors)?;
+        Ok(place.null())
+    }
+
+    /// Lists a resolver's failure at a place.
+    pub(crate) fn list_failure<O: ObjectValue>(
+        &self,
+        place: &Place<'_>,
+        error: FieldError,
+        errors: &mut Listed<GraphQLError>,
+    ) -> Result<(), Memory>
+        ensures { OnOk result (
+            let w = world_of self.now O.type_of O.resolves in
+            let spot = spot_of place.now in
+            errors.new ≡ errors.old ++ fault_error w spot (told_at (w.span_of spot.group) (wrong (message.resolver_error error.message))) ∷ []) }
+    {
+        let fault = RequestError {
+            message: resolver_error(self.alloc, error.message.as_str())?,
+            location: place.group.first.name.location(),
+            is_suspected_validation_bug: false,
+        };
+        place.list(self.alloc, &self.document().sources, fault, errors)
+    }
+
+    /// Lists the fault of an argument at a place, whose value is then null.
+    pub(crate) fn refuse_argument<O: ObjectValue>(
+        &self,
+        place: &Place<'_>,
+        fault: ArgumentFault,
+        errors: &mut Listed<GraphQLError>,
+    ) -> Result<Completed, Memory>
+        ensures { IfOk result (λ done.
+            let w = world_of self.now O.type_of O.resolves in
+            let spot = spot_of place.now in
+            IsMade (made_of done) errors.old errors.new (settled spot (None, fault_error w spot (fault_of fault) ∷ []))) }
+    {
+        let fault = RequestError {
+            message: fault.message,
+            location: fault.location,
+            is_suspected_validation_bug: fault.suspected,
+        };
+        place.list(self.alloc, &self.document().sources, fault, errors)?;
+        Ok(place.null())
+    }
+}

@@ -1,0 +1,16 @@
+//! Execution of requests (GraphQL October 2021, section 6), without introspection.
+//!
+//! An [`Execution`] is of one document on one schema. It is told which operation is meant and what its variables are, and
+//! then [`Execution::execute_sync`] asks a resolver for each field that the operation selects, completes what it is given
+//! by the type of the field, and lists an error for each fault.
+#![tactic(auto)]
+
+mod asking;
+mod completed;
+mod executing;
+mod execution;
+mod faults;
+mod path;
+mod place;
+
+pub use execution::Execution;

@@ -1,0 +1,63 @@
+//! A place of the response that is executed.
+
+ghost use Rattle.std.specs.Prelude.{◌≡◌, [], ◌∷◌, ◌++◌, IfOk, OnOk};
+ghost use Rattle.gql_exec_request.specs.Trails as spec;
+
+use crate::completed::Completed;
+use crate::path::{Path, Step};
+use gql_ast_values::TypeRef;
+use gql_diag::RequestError;
+use gql_exec_complete::is_non_null;
+use gql_exec_groups::Group;
+use gql_response::{GraphQLError, ResponseDataPathSegment};
+use gql_source::SourceMap;
+use jb_text::{Listed, Memory};
+use jb_tree::Value;
+use std::alloc::Global;
+
+/// A place: what is around it, the last step to it, its type, and the group of its field.
+#[derive(Clone, Copy)]
+pub(crate) struct Place<'a> {
+    pub(crate) around: &'a Path<'a>,
+    pub(crate) step: Step<'a>,
+    pub(crate) ty: &'a TypeRef,
+    pub(crate) group: &'a Group<'a>,
+}
+
+impl<'a> Place<'a> {
+    /// The steps from the root. `Err` only for want of memory.
+    fn to_segments(&self, alloc: Global) -> Result<Listed<ResponseDataPathSegment>, Memory>
+        ensures { IfOk result (λ segments. segments ≡ spec.place_path self.now) }
+    {
+        let mut segments = self.around.to_segments(alloc)?;
+        segments.push(self.step.to_segment(alloc)?)?;
+        Ok(segments)
+    }
+
+    /// Lists the error of a fault at this place. Its line and column are looked up in the files. `Err` only for want of
+    /// memory.
+    pub(crate) fn list(
+        &self,
+        alloc: Global,
+        sources: &SourceMap,
+        fault: RequestError,
+        errors: &mut Listed<GraphQLError>,
+    ) -> Result<(), Memory>
+        ensures { OnOk result (errors.new ≡ errors.old ++ spec.listed_at sources.now (spec.place_path self.now) fault ∷ []) }
+    {
+        let mut error = fault.to_graphql_error(alloc, sources)?;
+        error.path = self.to_segments(alloc)?;
+        errors.push(error)
+    }
+
+    /// A null that comes to this place: it stays, or it is passed on where the type rules it out.
+    pub(crate) fn null(&self) -> Completed
+        ensures { spec.made_of result ≡ spec.null_at self.now.ty.now }
+    {
+        if is_non_null(self.ty) {
+            Completed::NullPasses
+        } else {
+            Completed::Value(Value::Null)
+        }
+    }
+}
