@@ -1,5 +1,5 @@
 -- Places as the code has them.
-use Rattle.std.specs.Prelude.{ℕ, List, [], ◌∷◌, ◌++◌, Option, Some, None}
+use Rattle.std.specs.Prelude.{List, [], ◌∷◌, ◌++◌, Option, Some, None}
 use Rattle.jb_tree.specs.declared.value.Value.{Value}
 use Rattle.gql_source.specs.File.{Files}
 use Rattle.gql_ast_values.specs.declared.type_ref.TypeRef.{TypeRef}
@@ -40,10 +40,6 @@ group_of group = record { first = group.first.now; pieces = pieces_of (fields_of
 abbrev pub spot_of : Place → Spot Group
 spot_of place =
     record { around = trail_of place.around.now; step = segment_of place.step; type = place.ty.now; group = group_of place.group.now }
-
--- the place of an item of the list that is around it
-abbrev pub item_at : Path → ℕ → TypeRef → FieldsOfKey → Spot Group
-item_at around index ty group = record { around = trail_of around; step = ListIndex index; type = ty; group = group_of group }
 
 -- the steps from the root to a place
 abbrev pub place_path : Place → List Segment

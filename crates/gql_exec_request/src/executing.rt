@@ -3,14 +3,15 @@
 ghost use Rattle.std.specs.Prelude.{◌≡◌, ℕ, is_some, true, IfOk, OnOk};
 ghost use Rattle.gql_exec_groups.specs.Collected.{sets_of};
 ghost use Rattle.gql_exec_groups.specs.Ranks.{AreRanked};
+ghost use Rattle.gql_exec_complete.specs.Lists.{is_list};
 ghost use Rattle.gql_exec_places.specs.Execute.{completed, execute, field_made, items_made, one_array, one_object, settled, settled_item, unless_misfit, value_made};
 ghost use Rattle.gql_exec_places.specs.Resolved.{gives_leaf, gives_list, gives_object};
-ghost use Rattle.gql_exec_places.specs.Spot.{field_spot, trail};
+ghost use Rattle.gql_exec_places.specs.Spot.{field_spot, item_spot, trail};
 ghost use Rattle.gql_exec_places.specs.Types as places;
 ghost use Rattle.gql_exec_resolve.specs.Meaning.{item_by, meaning_by, meanings_by};
 ghost use Rattle.gql_exec_request.specs.Executed.{Executes, MakesBelow};
 ghost use Rattle.gql_exec_request.specs.Executing.{world_of};
-ghost use Rattle.gql_exec_request.specs.Trails.{group_of, item_at, made_of, spot_of, trail_of};
+ghost use Rattle.gql_exec_request.specs.Trails.{group_of, made_of, spot_of, trail_of};
 ghost use Rattle.gql_schema_types.specs.Schemas.{field_of};
 
 use crate::asking::Asked;
@@ -77,7 +78,7 @@ impl<'s> Executing<'s> {
         )?;
         let mut members = Map::new(self.alloc);
         for group in groups.as_slice() {
-            match (&*self).execute_field(object_type, object, &*path, &*group, errors)? {
+            match self.execute_field(object_type, object, path, group, errors)? {
                 Completed::Value(value) => {
                     let key = ByteString::from_text(self.alloc, group.key().as_str())?;
                     members.insert_new(key, value)?;
@@ -92,11 +93,11 @@ impl<'s> Executing<'s> {
     /// What is made of a group on an object of this type (section 6.4, ExecuteField).
     #[cycle(execute)]
     fn execute_field<O: ObjectValue>(
-        &'s self,
+        &self,
         object_type: &ObjectType,
         object: &O,
-        path: &'s Path<'s>,
-        group: &'s Group<'s>,
+        path: &Path<'_>,
+        group: &Group<'s>,
         errors: &mut Listed<GraphQLError>,
     ) -> Result<Completed, Memory>
         requires ranked { (rank : ℕ → ℕ) × AreRanked self.now.request.document.now.fragments rank }
@@ -109,7 +110,7 @@ impl<'s> Executing<'s> {
     {
         let definition = self.definition_on(object_type, group.first);
         let place = Place {
-            around: path,
+            around: &*path,
             step: Step::Key(group.key()),
             ty: &definition.ty,
             group,
@@ -125,7 +126,7 @@ impl<'s> Executing<'s> {
     #[cycle(execute)]
     fn complete_value<O: ObjectValue>(
         &self,
-        place: &Place<'s>,
+        place: &Place<'_, 's>,
         resolved: ResolvedValue<O>,
         errors: &mut Listed<GraphQLError>,
     ) -> Result<Completed, Memory>
@@ -147,7 +148,7 @@ impl<'s> Executing<'s> {
     #[cycle(execute)]
     fn complete_object<O: ObjectValue>(
         &self,
-        place: &Place<'s>,
+        place: &Place<'_, 's>,
         object: &O,
         errors: &mut Listed<GraphQLError>,
     ) -> Result<Completed, Memory>
@@ -168,7 +169,7 @@ impl<'s> Executing<'s> {
     #[cycle(execute)]
     fn execute_object<O: ObjectValue>(
         &self,
-        place: &Place<'s>,
+        place: &Place<'_, 's>,
         object_type: &ObjectType,
         object: &O,
         errors: &mut Listed<GraphQLError>,
@@ -192,7 +193,7 @@ impl<'s> Executing<'s> {
     #[cycle(execute)]
     fn complete_list<O: ObjectValue>(
         &self,
-        place: &Place<'s>,
+        place: &Place<'_, 's>,
         items: Listed<Result<ResolvedValue<O>, FieldError>>,
         errors: &mut Listed<GraphQLError>,
     ) -> Result<Completed, Memory>
@@ -204,32 +205,30 @@ impl<'s> Executing<'s> {
     {
         match list_misfit(self.alloc, place.ty)? {
             Some(misfit) => self.refuse::<O>(place, misfit, errors),
-            None => self.complete_items(place, item_of(place.ty), items, errors),
+            None => self.complete_items(place, items, errors),
         }
     }
 
-    /// What is made of a list with items of this type.
+    /// What is made of a list at a place that it fits.
     #[cycle(execute)]
     fn complete_items<O: ObjectValue>(
         &self,
-        place: &Place<'s>,
-        ty: &'s TypeRef,
+        place: &Place<'_, 's>,
         items: Listed<Result<ResolvedValue<O>, FieldError>>,
         errors: &mut Listed<GraphQLError>,
     ) -> Result<Completed, Memory>
         requires ranked { (rank : ℕ → ℕ) × AreRanked self.now.request.document.now.fragments rank }
-        requires item { ty.now ≡ places.item_type place.now.ty.now }
+        requires list { is_list place.now.ty.now ≡ true }
         ensures { IfOk result (λ done.
             let w = world_of self.now O.type_of O.resolves in
             MakesBelow w (group_of place.now.group.now) (made_of done) errors.old errors.new
             (λ run. settled (spot_of place.now) (one_array (items_made w run (spot_of place.now) 0 (meanings_by O.seen items))))) }
     {
-        let around = Path::Below(place.around, place.step, place.ty);
         let count = items.len();
         let mut index = 0;
         let mut values = Listed::new(self.alloc);
         for item in items {
-            match (&*self).complete_item(&around, index, &*ty, &*place.group, item, errors)? {
+            match self.complete_item(place, index, item, errors)? {
                 Completed::Value(value) => values.push(value)?,
                 Completed::LeftOut => {}
                 Completed::NullPasses => return Ok(place.null()),
@@ -240,36 +239,35 @@ impl<'s> Executing<'s> {
         Ok(Completed::Value(Value::Array(values)))
     }
 
-    /// What is made of an item of a list. One that failed faults its list, whatever its own type.
+    /// What is made of an item of the list at a place. One that failed faults the list, whatever its own type.
     #[cycle(execute)]
     fn complete_item<O: ObjectValue>(
-        &'s self,
-        around: &'s Path<'s>,
+        &self,
+        list: &Place<'_, 's>,
         index: usize,
-        ty: &'s TypeRef,
-        group: &'s Group<'s>,
         item: Result<ResolvedValue<O>, FieldError>,
         errors: &mut Listed<GraphQLError>,
     ) -> Result<Completed, Memory>
-        requires { (rank : ℕ → ℕ) × AreRanked self.now.request.document.now.fragments rank }
+        requires ranked { (rank : ℕ → ℕ) × AreRanked self.now.request.document.now.fragments rank }
+        requires list { is_list list.now.ty.now ≡ true }
         ensures { IfOk result (λ done.
             let w = world_of self.now O.type_of O.resolves in
-            let spot = item_at around.now index ty.now group.now in
+            let spot = item_spot (spot_of list.now) index in
             let m = item_by O.seen item in
-            MakesBelow w (group_of group.now) (made_of done) errors.old errors.new
+            MakesBelow w (group_of list.now.group.now) (made_of done) errors.old errors.new
             (λ run. settled_item spot m (unless_misfit w spot (w.misfit spot.type m) (value_made w run spot m)))) }
     {
-        let spot = Place {
-            around,
+        let around = Path::Below(list.around, list.step, list.ty);
+        let place = Place {
+            around: &around,
             step: Step::Item(index),
-            ty,
-            group,
+            ty: item_of(list.ty),
+            group: list.group,
         };
-        let place = &spot;
         match item {
-            Ok(resolved) => self.complete_value(place, resolved, errors),
+            Ok(resolved) => self.complete_value(&place, resolved, errors),
             Err(error) => {
-                self.list_failure::<O>(place, error, errors)?;
+                self.list_failure::<O>(&place, error, errors)?;
                 Ok(Completed::NullPasses)
             }
         }

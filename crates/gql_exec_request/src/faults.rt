@@ -27,7 +27,7 @@ impl<'s> Executing<'s> {
     /// What is made of a leaf at a place.
     pub(crate) fn complete_leaf<O: ObjectValue>(
         &self,
-        place: &Place<'_>,
+        place: &Place<'_, '_>,
         value: Value,
         errors: &mut Listed<GraphQLError>,
     ) -> Result<Completed, Memory>
@@ -45,7 +45,7 @@ impl<'s> Executing<'s> {
     /// Lists what is wrong with an answer at a place, whose value is then null.
     pub(crate) fn refuse<O: ObjectValue>(
         &self,
-        place: &Place<'_>,
+        place: &Place<'_, '_>,
         misfit: Misfit,
         errors: &mut Listed<GraphQLError>,
     ) -> Result<Completed, Memory>
@@ -67,7 +67,7 @@ impl<'s> Executing<'s> {
     /// Lists a resolver's failure at the place of a field, whose value is then null.
     pub(crate) fn fail<O: ObjectValue>(
         &self,
-        place: &Place<'_>,
+        place: &Place<'_, '_>,
         error: FieldError,
         errors: &mut Listed<GraphQLError>,
     ) -> Result<Completed, Memory>
@@ -83,7 +83,7 @@ impl<'s> Executing<'s> {
     /// Lists a resolver's failure at a place.
     pub(crate) fn list_failure<O: ObjectValue>(
         &self,
-        place: &Place<'_>,
+        place: &Place<'_, '_>,
         error: FieldError,
         errors: &mut Listed<GraphQLError>,
     ) -> Result<(), Memory>
@@ -103,7 +103,7 @@ impl<'s> Executing<'s> {
     /// Lists the fault of an argument at a place, whose value is then null.
     pub(crate) fn refuse_argument<O: ObjectValue>(
         &self,
-        place: &Place<'_>,
+        place: &Place<'_, '_>,
         fault: ArgumentFault,
         errors: &mut Listed<GraphQLError>,
     ) -> Result<Completed, Memory>

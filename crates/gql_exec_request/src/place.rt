@@ -17,14 +17,14 @@ use std::alloc::Global;
 
 /// A place: what is around it, the last step to it, its type, and the group of its field.
 #[derive(Clone, Copy)]
-pub(crate) struct Place<'a> {
-    pub(crate) around: &'a Path<'a>,
-    pub(crate) step: Step<'a>,
-    pub(crate) ty: &'a TypeRef,
-    pub(crate) group: &'a Group<'a>,
+pub(crate) struct Place<'p, 's> {
+    pub(crate) around: &'p Path<'p>,
+    pub(crate) step: Step<'p>,
+    pub(crate) ty: &'p TypeRef,
+    pub(crate) group: &'p Group<'s>,
 }
 
-impl<'a> Place<'a> {
+impl<'p, 's> Place<'p, 's> {
     /// The steps from the root. `Err` only for want of memory.
     fn to_segments(&self, alloc: Global) -> Result<Listed<ResponseDataPathSegment>, Memory>
         ensures { IfOk result (λ segments. segments ≡ spec.place_path self.now) }

@@ -30,10 +30,10 @@ abbrev pub decreases-complete_list : goal.decreases-complete_list
 decreases-complete_list g l = measure l.self.now (group_of l.place.now.group.now).pieces (4 * height l.place.now.ty.now + 2)
 
 abbrev pub decreases-complete_items : goal.decreases-complete_items
-decreases-complete_items g l = measure l.self.now (group_of l.place.now.group.now).pieces (4 * height l.ty.now + 5)
+decreases-complete_items g l = measure l.self.now (group_of l.place.now.group.now).pieces (4 * height l.place.now.ty.now + 1)
 
 abbrev pub decreases-complete_item : goal.decreases-complete_item
-decreases-complete_item g l = measure l.self.now (group_of l.group.now).pieces (4 * height l.ty.now + 4)
+decreases-complete_item g l = measure l.self.now (group_of l.list.now.group.now).pieces (4 * height l.list.now.ty.now)
 
 abbrev pub invariant-execute_selection_set-loop-group : goal.invariant-execute_selection_set-loop-group
 invariant-execute_selection_set-loop-group g l =
