@@ -1,8 +1,12 @@
 -- Groups as they are collected, and what it is to execute them.
-use Rattle.std.proofs.Common.{◌≡◌, ℕ, ◌+◌, ◌<◌, true, List, ◌∷◌, length, get_or, drop, is_some, refl, ap, subst}
+use Rattle.std.proofs.Common.{◌≡◌, ℕ, ◌+◌, ◌<◌, true, List, [], ◌∷◌, length, ◌≤◌, get_or, drop, is_some, refl, sym, ap, subst}
+use Rattle.std.proofs.lemmas.List.{at_drop_all}
+use Rattle.gql_document_types.specs.declared.fragment.Fragment.{Fragment}
 use Rattle.gql_document_types.specs.declared.selection.Selection.{Selection}
 use Rattle.gql_schema_types.specs.Schemas.{field_of}
+use Rattle.gql_schema_types.specs.declared.schema.Schema.{Schema}
 use Rattle.gql_schema_types.specs.declared.types.ObjectType.{ObjectType}
+use Rattle.gql_exec_groups.specs.Collected.{setting}
 use Rattle.gql_exec_groups.specs.Grouping.{groups_seen}
 use Rattle.gql_exec_groups.specs.Groups.{SameGroups, applying}
 use Rattle.gql_exec_groups.specs.Ranks.{AreRanked}
@@ -10,7 +14,7 @@ use Rattle.gql_exec_groups.specs.declared.group.Group.{Group as FieldsOfKey}
 use Rattle.gql_exec_places.specs.Depth.{Suffices}
 use Rattle.gql_exec_places.specs.World.{DistinctKeys}
 use Rattle.gql_exec_world.specs.Nesting.{nesting}
-use Rattle.gql_exec_world.specs.Request.{Request}
+use Rattle.gql_exec_world.specs.Request.{Members, Request}
 use Rattle.gql_exec_world.specs.RequestWorld.{plain_world, setting_on}
 use Rattle.gql_exec_world.specs.Runs.{RunsAs}
 use Rattle.gql_exec_world.proofs.Alike.{collected-distinct, collected-runs}
@@ -18,6 +22,16 @@ use Rattle.gql_exec_world.proofs.Nests.{groups-below}
 use Rattle.gql_exec_request.specs.Trails.{group_of}
 use Rattle.gql_exec_request.proofs.Measures.{below-at, drop-item}
 use Rattle.gql_exec_request.proofs.Views.{views, views-from}
+
+-- what is collected in the setting of a request
+pub collected-on : {X : Type 0} (r : Request X) (U : ObjectType) (sets : List (List Selection)) (items groups : List FieldsOfKey) (fragments : List Fragment) (schema : Schema)
+    (variables : Members) → items ≡ groups → fragments ≡ r.fragments → schema ≡ r.schema → variables ≡ r.variables
+    → SameGroups (groups_seen groups) (applying (setting fragments schema U variables) sets) → SameGroups (groups_seen items) (applying (setting_on r U) sets)
+collected-on r U sets items groups fragments schema variables here all same values collected =
+    subst (λ l. SameGroups (groups_seen l) (applying (setting_on r U) sets)) (sym here)
+    (subst (λ v. SameGroups (groups_seen groups) (applying (setting r.fragments r.schema U v) sets)) values
+    (subst (λ (s : Schema). SameGroups (groups_seen groups) (applying (setting r.fragments s U variables) sets)) same
+    (subst (λ (l : List Fragment). SameGroups (groups_seen groups) (applying (setting l schema U variables) sets)) all collected)))
 
 module _ {X : Type 0} (r : Request X) (U : ObjectType) (groups : List FieldsOfKey) (sets : List (List Selection))
     (same : SameGroups (groups_seen groups) (applying (setting_on r U) sets)) where
@@ -38,3 +52,6 @@ module _ {X : Type 0} (r : Request X) (U : ObjectType) (groups : List FieldsOfKe
 pub views-step : (groups : List FieldsOfKey) (i : ℕ) (g : FieldsOfKey) → i < length groups → g ≡ get_or groups i g
     → views (drop i groups) ≡ group_of g ∷ views (drop (i + 1) groups)
 views-step groups i g within is = ap views (drop-item groups i g within is)
+
+pub views-end : (groups : List FieldsOfKey) (i : ℕ) → length groups ≤ i → views (drop i groups) ≡ []
+views-end groups i past = at_drop_all views groups i past

@@ -68,7 +68,7 @@ module _ {G : Type 0} (spot : Spot G) where
     listed = it.listed;
   }
 
-abbrev at_field : {G : Type 0} → Trail → G → Named → TypeRef → Spot G
+abbrev pub at_field : {G : Type 0} → Trail → G → Named → TypeRef → Spot G
 at_field outer g name ty = record { around = outer; step = Field name; type = ty; group = g }
 
 -- the place of a group's field, as the code has it

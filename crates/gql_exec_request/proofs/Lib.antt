@@ -1,10 +1,13 @@
 pub mod Collecting
 pub mod Completing
+pub mod Done
+pub mod Fields
 pub mod Groups
 pub mod Heights
 pub mod Items
 pub mod Keys
 pub mod Measures
+pub mod Misfits
 pub mod Places
 pub mod Responses
 pub mod Steps

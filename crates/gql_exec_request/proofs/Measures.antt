@@ -35,6 +35,10 @@ below-less room n m extra less small =
     let more : room * (n + 1) ≤ room * m = mul-le-mul_left room (omega (arith, less)) in
     omega (arith, more, small)
 
+-- what is selected is the same
+pub same-less : (e : Executing) (some sets : List (List Selection)) (a b : ℕ) → some ≡ sets → a < b → measure e some a < measure e sets b
+same-less e some sets a b is less = omega (arith, ap (λ s. room e * nesting (fragments_in e) s) is, less)
+
 -- a field that is defined is no higher than the schema
 pub definition-top : (schema : Schema) (T f : List ℕ) (other : FieldDefinition) → is_some (field_of schema T f) ≡ true
     → height (unwrap_or (field_of schema T f) other).ty ≤ top schema

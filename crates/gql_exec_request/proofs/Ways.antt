@@ -2,16 +2,15 @@
 use Rattle.std.proofs.Common.{◌≡◌, ℕ, [], ◌∷◌, Bor, ap, sym, ◌∙◌}
 use Rattle.gql_ast_values.specs.declared.type_ref.TypeRef.{TypeRef}
 use Rattle.gql_response.specs.declared.path.ResponseDataPathSegment.TheVariants.{ListIndex}
-use Rattle.gql_exec_groups.specs.declared.group.Group.{Group as FieldsOfKey}
-use Rattle.gql_exec_places.specs.Spot.{item_spot, trail}
+use Rattle.gql_exec_places.specs.Spot.{Spot, item_spot, trail}
 use Rattle.gql_exec_places.specs.Trail.{Trail}
 use Rattle.gql_exec_places.specs.Types.{item_type}
+use Rattle.gql_exec_world.specs.Group.{Group}
 use Rattle.gql_exec_request.specs.Trails.{segment_of, trail_step, trail_of, spot_of, group_of}
 use Rattle.gql_exec_request.specs.declared.path.Path.{Path, fold-roll-Path}
 use Rattle.gql_exec_request.specs.declared.path.Path.TheOpen as layer
 use Rattle.gql_exec_request.specs.declared.path.Path.TheVariants.{Root, Below, rolls-Root, rolls-Below}
 use Rattle.gql_exec_request.specs.declared.path.Step.{Step}
-use Rattle.gql_exec_request.specs.declared.path.Step.TheVariants.{Item}
 use Rattle.gql_exec_request.specs.declared.place.Place.{Place}
 
 pub trail-root : trail_of Root ≡ []
@@ -24,11 +23,12 @@ trail-below parent step ty = ap trail_of (sym (rolls-Below parent step ty)) ∙ 
 pub trail-place : (place : Place) → trail_of (Below place.around place.step place.ty) ≡ trail (spot_of place)
 trail-place place = trail-below place.around place.step place.ty
 
--- the place of an item of the list at a place
-pub item-place : (list place : Place) (around : Path) (i : ℕ) → around ≡ Below list.around list.step list.ty → place.around.now ≡ around → place.step ≡ Item i
-    → place.ty.now ≡ item_type list.ty.now → place.group.now ≡ list.group.now → spot_of place ≡ item_spot (spot_of list) i
-item-place list place around i is there step typed grouped =
-    ap (λ (t : Trail). record { around = t; step = segment_of place.step; type = place.ty.now; group = group_of place.group.now }) (ap trail_of (there ∙ is) ∙ trail-place list)
-    ∙ ap (λ (s : Step). record { around = trail (spot_of list); step = segment_of s; type = place.ty.now; group = group_of place.group.now }) step
-    ∙ ap (λ (u : TypeRef). record { around = trail (spot_of list); step = ListIndex i; type = u; group = group_of place.group.now }) typed
-    ∙ ap (λ (g : FieldsOfKey). record { around = trail (spot_of list); step = ListIndex i; type = item_type list.ty.now; group = group_of g }) grouped
+abbrev pub item_in : Trail → ℕ → TypeRef → Group → Spot Group
+item_in outer i ty group = record { around = outer; step = ListIndex i; type = ty; group = group }
+
+-- the place of an item of the list at a place, as the code has it
+pub item-place : (list : Place) (i : ℕ) (ty : TypeRef) → ty ≡ item_type list.ty.now
+    → item_in (trail_of (Below list.around list.step list.ty)) i ty (group_of list.group.now) ≡ item_spot (spot_of list) i
+item-place list i ty is =
+    ap (λ (t : Trail). item_in t i ty (group_of list.group.now)) (trail-place list)
+    ∙ ap (λ (u : TypeRef). item_in (trail (spot_of list)) i u (group_of list.group.now)) is
