@@ -25,7 +25,7 @@ module _ {O X : Type 0} (see : O → X) where
   pub settled-answer : {G : Type 0} (spot : Spot G) (r : ResolvedValue O) (made : Made Value) → settled_item spot (meaning_by see r) made ≡ settled spot made
   settled-answer {G} spot r made =
       ap (λ (m : Meaning X). settled_item spot m made) (fold_out-ResolvedValue O (Meaning X) (meaning_step see) r)
-      ∙ by (value.map-ResolvedValue O (ResolvedValue O) (Meaning X) (meaning_by see) (out-ResolvedValue r))
+      ∙ by (value.map-ResolvedValue O (ResolvedValue O) (Meaning X) (meaning_by see) (out-ResolvedValue O r))
     where
       by : (k : ResolvedValue-F O (Meaning X)) → settled_item spot (meaning_step see k) made ≡ settled spot made
       by (layer.Leaf v) = refl

@@ -1,10 +1,10 @@
-use Rattle.std.proofs.Common.{rules, arith, ◌≡◌, ℕ, ◌+◌, ◌*◌, ◌<◌, ◌≤◌, true, List, [], ◌∷◌, ◌++◌, drop, length, position, suc, Some, None, refl, sym, ap, ◌∙◌, subst}
+use Rattle.std.proofs.Common.{rules, arith, ◌≡◌, ℕ, ◌+◌, ◌*◌, ◌<◌, ◌≤◌, true, List, [], ◌∷◌, ◌++◌, drop, length, position, suc, Some, None, Err, refl, sym, ap, ◌∙◌, subst}
 use Rattle.std.specs.Map.{keys_of}
 use Rattle.std.specs.Str.{bytes_eq}
 use Rattle.gql_ast_base.specs.Names.{Named}
 use Rattle.std.proofs.lemmas.List.{append-nil}
 use Rattle.gql_ast_definitions.specs.declared.field_definition.FieldDefinition.{FieldDefinition}
-use Rattle.gql_exec_complete.specs.Seen.{seen, misfit_seen}
+use Rattle.gql_exec_complete.specs.Seen.{seen, misfit_seen, IsFitOfObject}
 use Rattle.gql_document_types.specs.declared.document.ExecutableDocument.{ExecutableDocument}
 use Rattle.gql_exec_groups.specs.Collected.{sets_of}
 use Rattle.gql_exec_groups.specs.Grouping.{groups_seen}
@@ -111,7 +111,8 @@ complete_object-returns-in-Err-Fault g t c =
     let x = g.O.ObjectValue.seen c.args.object.now in
     let spot = spot_of c.args.place.now in
     let fits = same-misfit c.schema.result.now (schema_in c.args.self.now) c.type_name.result.now (g.O.ObjectValue.type_of x) c.schema.ensures c.type_name.ensures spot.type in
-    done-misfit w c.args.errors.now c.refuse.new.errors c.refuse.result spot (gives_object x) (seen c.in-Err-Fault.misfit) (sym fits ∙ c.in-Err-Fault.ensures) c.refuse.ensures
+    let misfits = subst (λ fault. IsFitOfObject c.schema.result.now spot.type c.type_name.result.now (Err fault)) c.in-Err-Fault.field-0-is c.in-Err-Fault.ensures in
+    done-misfit w c.args.errors.now c.refuse.new.errors c.refuse.result spot (gives_object x) (seen c.in-Err-Fault.misfit) (sym fits ∙ misfits) c.refuse.ensures
 
 pub execute_object-execute_selection_set-requires : goal.execute_object-execute_selection_set-requires
 execute_object-execute_selection_set-requires g t c =
@@ -185,7 +186,7 @@ complete_items-loop-item-init g t c =
     let all = meanings_by see c.args.items in
     let left = meanings_by see c.into_iter-item-iterator.result in
     record {
-      counted = ap length c.into_iter-item-iterator.ensures.into_iter_gives;
+      counted = omega (arith, ap length c.into_iter-item-iterator.ensures.into_iter_gives);
       so_far = subst (λ vs. IsCompleting w list vs before before 0 left all) (sym c.new-values.ensures) (completing-begun w list before left all (ap (meanings_by see) c.into_iter-item-iterator.ensures.into_iter_gives));
     }
 
@@ -259,7 +260,7 @@ complete_item-returns-in_ok-list_failure-in-Err g t c =
     let r = request_of c.args.self.now g.O.ObjectValue.type_of g.O.ObjectValue.resolves in
     let list = c.args.list.now in
     let here = item_in (trail_of (Below list.around list.step list.ty)) c.args.index c.item_of.result.now (group_of list.group.now) in
-    done-failed g.O.ObjectValue.seen r here (item_spot (spot_of list) c.args.index) c.args.errors.now c.list_failure.new.errors c.in-Err.error c.args.item
+    done-failed g.O.ObjectValue.seen r here (item_spot (spot_of list) c.args.index) c.args.errors.now c.list_failure.new.errors c.args.item c.in-Err.error
     (item-place list c.args.index c.item_of.result.now c.item_of.ensures) c.in-Err.is c.in_ok-list_failure-in-Err.ensures
 
 -- ---- a field
@@ -341,7 +342,7 @@ execute_selection_set-insert_new-requires g t c =
     let i = c.loop-group.group-index in
     let first = views-step groups i group (omega arith) c.group-item.is in
     let new : AreNew w c.loop-group.members (group_of group ∷ views (drop (i + 1) groups)) = subst (λ l. AreNew w c.loop-group.members l) first c.loop-group.invariant.new in
-    let named = c.in_ok-key-in-Value.ensures ∙ c.as_str.ensures ∙ ap (λ (n : Named). n.text) c.key.ensures in
+    let named = c.in_ok-key-in-Value.ensures ∙ c.as_str.ensures.text ∙ ap (λ (n : Named). n.text) c.key.ensures in
     ap (λ k. position (bytes_eq k) (keys_of c.loop-group.members)) named ∙ position-new w c.loop-group.members (group_of group) new.absent.0
 
 pub execute_selection_set-returns-in-NullPasses : goal.execute_selection_set-returns-in-NullPasses
@@ -376,7 +377,7 @@ execute_selection_set-loop-group-preserved g t c =
       | execute_selection_set-in-Value+in_ok-key-in-Value+in_ok-insert_new-in-Value b ↦
           executing-more w U x outer c.loop-group.members c.match-branch-3.members c.loop-group.errors c.args.errors.now c.execute_field.new.errors (views (drop i groups)) (views groups)
           (views (drop (i + 1) groups)) (group_of group) b.in_ok-key-in-Value.key b.in-Value.value (made_of c.in_ok-value.field-0) (ap made_of b.in-Value.is) first
-          (b.in_ok-key-in-Value.ensures ∙ b.as_str.ensures ∙ ap (λ (n : Named). n.text) b.key.ensures) (b.members-is ∙ b.in_ok-insert_new-in-Value.ensures.pairs) c.in_ok-value.ensures
+          (b.in_ok-key-in-Value.ensures ∙ b.as_str.ensures.text ∙ ap (λ (n : Named). n.text) b.key.ensures) (b.members-is ∙ b.in_ok-insert_new-in-Value.ensures.pairs) c.in_ok-value.ensures
           c.loop-group.invariant
       | execute_selection_set-in-LeftOut b ↦
           subst (λ ms. IsExecuting w U x outer ms c.execute_field.new.errors c.args.errors.now (views (drop (i + 1) groups)) (views groups)) (sym b.members-is)
