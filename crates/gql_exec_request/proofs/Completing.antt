@@ -1,5 +1,5 @@
 -- What is made of an answer at a place, step by step.
-use Rattle.std.proofs.Common.{◌≡◌, ℕ, List, [], ◌∷◌, ◌++◌, Option, Some, None, option_map, refl, sym, ap, ◌∙◌, subst}
+use Rattle.std.proofs.Common.{◌≡◌, List, [], ◌∷◌, ◌++◌, Option, Some, None, option_map, refl, sym, ap, ◌∙◌}
 use Rattle.std.proofs.lemmas.List.{append-nil}
 use Rattle.jb_tree.specs.declared.value.Value.{Value}
 use Rattle.jb_tree.specs.declared.value.Value.TheVariants as json
@@ -7,9 +7,9 @@ use Rattle.gql_ast_base.specs.Names.{Named}
 use Rattle.gql_ast_values.specs.declared.type_ref.TypeRef.{TypeRef}
 use Rattle.gql_response.specs.declared.graphql_error.GraphQLError.{GraphQLError}
 use Rattle.gql_response.specs.declared.path.ResponseDataPathSegment.TheVariants.{Field}
-use Rattle.gql_exec_places.specs.Execute.{Made, Member, Below, null_or_pass, settled_by, settled, unless_misfit, value_made, completed, field_made, object_made, one_object, one_array}
+use Rattle.gql_exec_places.specs.Execute.{Made, Member, Below, null_or_pass, settled_by, settled, unless_misfit, value_made, completed, object_made, one_object, one_array}
 use Rattle.gql_exec_places.specs.Fault.{told_at, fault_error}
-use Rattle.gql_exec_places.specs.Resolved.{Meaning, gives_object, gives_skip, Misfit, Outcome}
+use Rattle.gql_exec_places.specs.Resolved.{Meaning, gives_object, Misfit}
 use Rattle.gql_exec_places.specs.Spot.{Spot, trail, field_spot}
 use Rattle.gql_exec_places.specs.Trail.{Trail}
 use Rattle.gql_exec_places.specs.Types.{is_strict}

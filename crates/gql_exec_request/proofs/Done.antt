@@ -1,5 +1,5 @@
 -- What a function of the cycle answers, told of the place that its caller knows.
-use Rattle.std.proofs.Common.{◌≡◌, ℕ, List, [], ◌∷◌, ◌++◌, Some, None, Result, Ok, Err, IfOk, refl, sym, ap, ◌∙◌, subst}
+use Rattle.std.proofs.Common.{◌≡◌, List, [], ◌∷◌, ◌++◌, Some, None, Result, Ok, Err, IfOk, refl, sym, ap, ◌∙◌, subst}
 use Rattle.std.proofs.lemmas.Result.{IfOk-weaker}
 use Rattle.jb_tree.specs.declared.value.Value.{Value}
 use Rattle.gql_document_types.specs.declared.selection.Selection.{Selection}

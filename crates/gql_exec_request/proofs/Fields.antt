@@ -1,12 +1,12 @@
 -- What is made at the place of a group's field, by what comes of the field.
-use Rattle.std.proofs.Common.{◌≡◌, List, [], ◌∷◌, Result, IfOk, refl, sym, ap, ◌∙◌}
+use Rattle.std.proofs.Common.{◌≡◌, List, Result, sym, ap, ◌∙◌}
 use Rattle.gql_ast_base.specs.Names.{Named}
 use Rattle.gql_ast_definitions.specs.declared.field_definition.FieldDefinition.{FieldDefinition}
 use Rattle.gql_response.specs.declared.graphql_error.GraphQLError.{GraphQLError}
 use Rattle.gql_schema_types.specs.declared.types.ObjectType.{ObjectType}
 use Rattle.gql_exec_groups.specs.Groups.{response_name}
 use Rattle.gql_exec_places.specs.Execute.{completed, field_made}
-use Rattle.gql_exec_places.specs.Resolved.{fails_with, Outcome}
+use Rattle.gql_exec_places.specs.Resolved.{fails_with}
 use Rattle.gql_exec_places.specs.Spot.{field_spot}
 use Rattle.gql_exec_places.specs.Trail.{Trail}
 use Rattle.gql_exec_resolve.specs.Meaning.{meaning_by}

@@ -1,19 +1,18 @@
 -- How many lists are at most inside one another in the fields of a schema.
-use Rattle.std.proofs.Common.{rules, arith, ◌≡◌, ℕ, zero, suc, ◌≤◌, max, Bool, true, false, cond, if◌then◌else◌, ◌&&◌, List, [], ◌∷◌, Option, Some, None, is_some, refl, sym, ap, ◌∙◌, subst, codes}
+use Rattle.std.proofs.Common.{rules, arith, ◌≡◌, ℕ, ◌≤◌, max, Bool, true, false, cond, if◌then◌else◌, ◌&&◌, List, [], ◌∷◌, Option, Some, None, refl, ap, ◌∙◌, codes}
 use Rattle.std.specs.List.{find}
 use Rattle.std.specs.Option.{option_or, option_and_then}
 use Rattle.std.specs.Str.{bytes_eq}
 use Rattle.std.proofs.Math.Nat.{le-max_left, le-max_right}
 use Rattle.gql_ast_base.specs.Names.{Named}
 use Rattle.gql_ast_definitions.specs.declared.field_definition.FieldDefinition.{FieldDefinition}
-use Rattle.gql_ast_values.specs.declared.type_ref.TypeRef.{TypeRef, the_lemmas}
+use Rattle.gql_ast_values.specs.declared.type_ref.TypeRef.{the_lemmas}
 use Rattle.gql_ast_values.specs.declared.type_ref.TypeRef.TheVariants as type
 use Rattle.gql_schema_types.specs.Entries.{entry, is_called}
 use Rattle.gql_schema_types.specs.MetaFields.{named, type_name_field, schema_field, type_field}
 use Rattle.gql_schema_types.specs.Schemas.{is_query_root, meta_field, field_on, field_of}
 use Rattle.gql_schema_types.specs.Types.{type_name, type_called, is_composite, fields_of, field_name}
 use Rattle.gql_schema_types.specs.declared.schema.Schema.{Schema}
-use Rattle.gql_schema_types.specs.declared.schema.SchemaDefinition.{SchemaDefinition}
 use Rattle.gql_schema_types.specs.declared.types.ExtendedType.{ExtendedType}
 use Rattle.gql_exec_resolve.proofs.Height.{height}
 

@@ -1,6 +1,5 @@
 -- How far the items of a list have been completed.
-use Rattle.std.proofs.Common.{◌≡◌, ℕ, ◌+◌, List, [], ◌∷◌, ◌++◌, Option, Some, None, refl, sym, ap, ◌∙◌, subst}
-use Rattle.std.proofs.lemmas.List.{append-nil}
+use Rattle.std.proofs.Common.{◌≡◌, ℕ, ◌+◌, List, [], ◌∷◌, ◌++◌, Option, Some, None, refl, sym, subst}
 use Rattle.jb_tree.specs.declared.value.Value.{Value}
 use Rattle.jb_tree.specs.declared.value.Value.TheVariants as json
 use Rattle.gql_document_types.specs.declared.selection.Selection.{Selection}
@@ -12,7 +11,7 @@ use Rattle.gql_exec_places.specs.Spot.{Spot, item_spot}
 use Rattle.gql_exec_places.specs.Types.{is_strict}
 use Rattle.gql_exec_places.specs.World.{World}
 use Rattle.gql_exec_world.specs.Group.{Group}
-use Rattle.gql_exec_request.specs.Executed.{IsMade, IsEnough, MakesBelow}
+use Rattle.gql_exec_request.specs.Executed.{IsEnough, MakesBelow}
 use Rattle.gql_exec_request.proofs.Completing.{made-as, array-some, array-none}
 use Rattle.gql_exec_request.proofs.Steps.{IsOnWay, begun, goes_on, stops, ends}
 

@@ -1,5 +1,5 @@
 -- What resolved values mean, variant by variant.
-use Rattle.std.proofs.Common.{◌≡◌, List, [], ◌∷◌, refl, ap, sym, ◌∙◌}
+use Rattle.std.proofs.Common.{◌≡◌, refl, ap, sym, ◌∙◌}
 use Rattle.jb_tree.specs.declared.value.Value.{Value}
 use Rattle.gql_exec_places.specs.Execute.{Made, settled, settled_item}
 use Rattle.gql_exec_places.specs.Resolved.{Meaning, gives_leaf, gives_object, gives_skip}

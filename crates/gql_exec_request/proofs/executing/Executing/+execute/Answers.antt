@@ -1,4 +1,4 @@
-use Rattle.std.proofs.Common.{rules, arith, ◌≡◌, ℕ, ◌+◌, ◌*◌, ◌<◌, ◌≤◌, true, List, [], ◌∷◌, ◌++◌, drop, length, position, suc, Some, None, Err, refl, sym, ap, ◌∙◌, subst}
+use Rattle.std.proofs.Common.{rules, arith, ◌≡◌, ◌+◌, ◌*◌, ◌<◌, ◌≤◌, [], ◌∷◌, drop, length, position, suc, Some, Err, refl, sym, ap, ◌∙◌, subst}
 use Rattle.std.specs.Map.{keys_of}
 use Rattle.std.specs.Str.{bytes_eq}
 use Rattle.gql_ast_base.specs.Names.{Named}
@@ -10,10 +10,9 @@ use Rattle.gql_exec_groups.specs.Collected.{sets_of}
 use Rattle.gql_exec_groups.specs.Grouping.{groups_seen}
 use Rattle.gql_exec_groups.specs.Groups.{SameGroups, applying}
 use Rattle.gql_exec_groups.specs.Ranks.{AreRanked}
-use Rattle.gql_exec_places.specs.Execute.{completed, execute, field_made, items_made, null_or_pass, one_array, one_object, settled}
-use Rattle.gql_exec_places.specs.Resolved.{gives_leaf, gives_list, gives_object, gives_skip, fails_with, answered, refused}
+use Rattle.gql_exec_places.specs.Execute.{completed, items_made, one_array, one_object, settled}
+use Rattle.gql_exec_places.specs.Resolved.{gives_leaf, gives_list, gives_object, gives_skip}
 use Rattle.gql_exec_places.specs.Spot.{item_spot, trail}
-use Rattle.gql_exec_places.specs.Types.{is_strict}
 use Rattle.gql_exec_resolve.specs.Meaning.{item_by, meaning_by, meanings_by}
 use Rattle.gql_exec_resolve.proofs.Height.{height, height-item}
 use Rattle.gql_exec_resolve.proofs.Views.{meaning_list}
@@ -33,7 +32,7 @@ use Rattle.gql_exec_request.proofs.Items.{IsCompleting, completing-begun, comple
 use Rattle.gql_exec_request.proofs.Keys.{AreNew, position-new}
 use Rattle.gql_exec_request.proofs.Measures.{schema_in, fragments_in, room, measure, below-less, same-less, definition-top}
 use Rattle.gql_exec_request.proofs.Misfits.{fits-list, same-misfit, same-object}
-use Rattle.gql_exec_request.proofs.Places.{made-members, made-null, item-failed}
+use Rattle.gql_exec_request.proofs.Places.{made-members, made-null}
 use Rattle.gql_exec_request.proofs.Values.{meaning-leaf, meaning-object, meaning-skip}
 use Rattle.gql_exec_request.proofs.Views.{views}
 use Rattle.gql_exec_request.proofs.Ways.{trail-place, item-place, item_in}
