@@ -1,7 +1,7 @@
 -- Groups as they are collected, and what it is to execute them.
 use Rattle.std.proofs.Common.{◌≡◌, ℕ, ◌+◌, ◌<◌, true, List, [], ◌∷◌, length, ◌≤◌, get_or, drop, is_some, refl, sym, ap, subst}
 use Rattle.std.proofs.lemmas.List.{at_drop_all}
-use Rattle.gql_document_types.specs.declared.fragment.Fragment.{Fragment}
+use Rattle.gql_document_types.specs.declared.document.ExecutableDocument.{ExecutableDocument}
 use Rattle.gql_document_types.specs.declared.selection.Selection.{Selection}
 use Rattle.gql_schema_types.specs.Schemas.{field_of}
 use Rattle.gql_schema_types.specs.declared.schema.Schema.{Schema}
@@ -19,19 +19,24 @@ use Rattle.gql_exec_world.specs.RequestWorld.{plain_world, setting_on}
 use Rattle.gql_exec_world.specs.Runs.{RunsAs}
 use Rattle.gql_exec_world.proofs.Alike.{collected-distinct, collected-runs}
 use Rattle.gql_exec_world.proofs.Nests.{groups-below}
+use Rattle.gql_exec_request.specs.Executing.{Resolving, request_of}
 use Rattle.gql_exec_request.specs.Trails.{group_of}
+use Rattle.gql_exec_request.specs.declared.executing.Executing.{Executing}
 use Rattle.gql_exec_request.proofs.Measures.{below-at, drop-item}
 use Rattle.gql_exec_request.proofs.Views.{views, views-from}
 
--- what is collected in the setting of a request
-pub collected-on : {X : Type 0} (r : Request X) (U : ObjectType) (sets : List (List Selection)) (items groups : List FieldsOfKey) (fragments : List Fragment) (schema : Schema)
-    (variables : Members) → items ≡ groups → fragments ≡ r.fragments → schema ≡ r.schema → variables ≡ r.variables
-    → SameGroups (groups_seen groups) (applying (setting fragments schema U variables) sets) → SameGroups (groups_seen items) (applying (setting_on r U) sets)
-collected-on r U sets items groups fragments schema variables here all same values collected =
+-- what is collected in the setting of an execution
+pub collected-on : {X : Type 0} (executing : Executing) (types : X → List ℕ) (resolves : Resolving X) (U : ObjectType) (sets : List (List Selection)) (items groups : List FieldsOfKey)
+    (document : ExecutableDocument) (schema : Schema) (variables : Members)
+    → items ≡ groups → document ≡ executing.request.document.now → schema ≡ executing.request.schema.now → variables ≡ executing.variables.now
+    → SameGroups (groups_seen groups) (applying (setting document.fragments schema U variables) sets)
+    → SameGroups (groups_seen items) (applying (setting_on (request_of executing types resolves) U) sets)
+collected-on executing types resolves U sets items groups document schema variables here whole same values collected =
+    let r = request_of executing types resolves in
     subst (λ l. SameGroups (groups_seen l) (applying (setting_on r U) sets)) (sym here)
     (subst (λ v. SameGroups (groups_seen groups) (applying (setting r.fragments r.schema U v) sets)) values
     (subst (λ (s : Schema). SameGroups (groups_seen groups) (applying (setting r.fragments s U variables) sets)) same
-    (subst (λ (l : List Fragment). SameGroups (groups_seen groups) (applying (setting l schema U variables) sets)) all collected)))
+    (subst (λ (d : ExecutableDocument). SameGroups (groups_seen groups) (applying (setting d.fragments schema U variables) sets)) whole collected)))
 
 module _ {X : Type 0} (r : Request X) (U : ObjectType) (groups : List FieldsOfKey) (sets : List (List Selection))
     (same : SameGroups (groups_seen groups) (applying (setting_on r U) sets)) where

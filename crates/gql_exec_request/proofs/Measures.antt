@@ -29,10 +29,14 @@ abbrev pub measure : Executing → List (List Selection) → ℕ → ℕ
 measure executing sets extra = room executing * nesting (fragments_in executing) sets + extra
 
 -- what is selected below a group is less by a whole room
-pub below-less : (room n m extra : ℕ) → n < m → extra < room → room * n + extra < room * m + 0
+below-less : (room n m extra : ℕ) → n < m → extra < room → room * n + extra < room * m + 0
 below-less room n m extra less small =
     let more : room * (n + 1) ≤ room * m = mul-le-mul_left room (omega (arith, less)) in
     omega (arith, more, small)
+
+pub below-measure : (e : Executing) (pieces sets : List (List Selection)) (extra : ℕ) → nesting (fragments_in e) pieces < nesting (fragments_in e) sets → extra < room e
+    → measure e pieces extra < measure e sets 0
+below-measure e pieces sets extra less small = below-less (room e) (nesting (fragments_in e) pieces) (nesting (fragments_in e) sets) extra less small
 
 -- what is selected is the same
 pub same-less : (e : Executing) (some sets : List (List Selection)) (a b : ℕ) → some ≡ sets → a < b → measure e some a < measure e sets b

@@ -109,6 +109,7 @@ impl<'s> Executing<'s> {
             (w.asks object_type.now (O.seen object.now) (group_of group.now)))) }
     {
         let definition = self.definition_on(object_type, group.first);
+        // The way is lent again, for as long as the group.
         let place = Place {
             around: &*path,
             step: Step::Key(group.key()),

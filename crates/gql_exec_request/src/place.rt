@@ -15,7 +15,7 @@ use jb_text::{Listed, Memory};
 use jb_tree::Value;
 use std::alloc::Global;
 
-/// A place: what is around it, the last step to it, its type, and the group of its field.
+/// A place: what is around it, the last step to it, its type, and the group of its field, whose fields are the document's.
 #[derive(Clone, Copy)]
 pub(crate) struct Place<'p, 's> {
     pub(crate) around: &'p Path<'p>,

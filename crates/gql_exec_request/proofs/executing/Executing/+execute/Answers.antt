@@ -7,8 +7,6 @@ use Rattle.gql_ast_definitions.specs.declared.field_definition.FieldDefinition.{
 use Rattle.gql_exec_complete.specs.Seen.{seen, misfit_seen, IsFitOfObject}
 use Rattle.gql_document_types.specs.declared.document.ExecutableDocument.{ExecutableDocument}
 use Rattle.gql_exec_groups.specs.Collected.{sets_of}
-use Rattle.gql_exec_groups.specs.Grouping.{groups_seen}
-use Rattle.gql_exec_groups.specs.Groups.{SameGroups, applying}
 use Rattle.gql_exec_groups.specs.Ranks.{AreRanked}
 use Rattle.gql_exec_places.specs.Execute.{completed, items_made, one_array, one_object, settled}
 use Rattle.gql_exec_places.specs.Resolved.{gives_leaf, gives_list, gives_object, gives_skip}
@@ -16,8 +14,7 @@ use Rattle.gql_exec_places.specs.Spot.{item_spot, trail}
 use Rattle.gql_exec_resolve.specs.Meaning.{item_by, meaning_by, meanings_by}
 use Rattle.gql_exec_resolve.proofs.Height.{height, height-item}
 use Rattle.gql_exec_resolve.proofs.Views.{meaning_list}
-use Rattle.gql_exec_world.specs.Nesting.{nesting}
-use Rattle.gql_exec_world.specs.RequestWorld.{plain_world, setting_on}
+use Rattle.gql_exec_world.specs.RequestWorld.{plain_world}
 use Rattle.gql_exec_request.specs.Executed.{Executes, MakesBelow}
 use Rattle.gql_exec_request.specs.declared.path.Path.TheVariants.{Below}
 use Rattle.gql_exec_request.specs.Executing.{request_of, world_of}
@@ -30,7 +27,7 @@ use Rattle.gql_exec_request.proofs.Groups.{IsExecuting, executing-begun, executi
 use Rattle.gql_exec_request.proofs.Heights.{top}
 use Rattle.gql_exec_request.proofs.Items.{IsCompleting, completing-begun, completing-more, completing-stops, completing-ends}
 use Rattle.gql_exec_request.proofs.Keys.{AreNew, position-new}
-use Rattle.gql_exec_request.proofs.Measures.{schema_in, fragments_in, room, measure, below-less, same-less, definition-top}
+use Rattle.gql_exec_request.proofs.Measures.{schema_in, measure, below-measure, same-less, definition-top}
 use Rattle.gql_exec_request.proofs.Misfits.{fits-list, same-misfit, same-object}
 use Rattle.gql_exec_request.proofs.Places.{made-members, made-null}
 use Rattle.gql_exec_request.proofs.Values.{meaning-leaf, meaning-object, meaning-skip}
@@ -306,9 +303,8 @@ execute_selection_set-loop-group-init g t c =
     let U = c.args.object_type.now in
     let sets = sets_of c.args.sets.now in
     let groups = c.as_slice-group-items.result.now in
-    let same : SameGroups (groups_seen groups) (applying (setting_on r U) sets) =
-    collected-on r U sets groups c.in_ok-groups.groups c.document.result.now.fragments c.schema.result.now c.as_ref.result.now c.as_slice-group-items.ensures
-    (ap (λ (d : ExecutableDocument). d.fragments) c.document.ensures) c.schema.ensures c.as_ref.ensures c.in_ok-groups.ensures in
+    let same = collected-on c.args.self.now g.O.ObjectValue.type_of g.O.ObjectValue.resolves U sets groups c.in_ok-groups.groups c.document.result.now c.schema.result.now
+    c.as_ref.result.now c.as_slice-group-items.ensures c.document.ensures c.schema.ensures c.as_ref.ensures c.in_ok-groups.ensures in
     let x = g.O.ObjectValue.seen c.args.object.now in
     let outer = trail_of c.args.path.now in
     let before = c.args.errors.now in
@@ -322,14 +318,12 @@ execute_selection_set-execute_field-requires g t c =
     let U = c.args.object_type.now in
     let sets = sets_of c.args.sets.now in
     let groups = c.as_slice-group-items.result.now in
-    let same : SameGroups (groups_seen groups) (applying (setting_on r U) sets) =
-    collected-on r U sets groups c.in_ok-groups.groups c.document.result.now.fragments c.schema.result.now c.as_ref.result.now c.as_slice-group-items.ensures
-    (ap (λ (d : ExecutableDocument). d.fragments) c.document.ensures) c.schema.ensures c.as_ref.ensures c.in_ok-groups.ensures in
+    let same = collected-on c.args.self.now g.O.ObjectValue.type_of g.O.ObjectValue.resolves U sets groups c.in_ok-groups.groups c.document.result.now c.schema.result.now
+    c.as_ref.result.now c.as_slice-group-items.ensures c.document.ensures c.schema.ensures c.as_ref.ensures c.in_ok-groups.ensures in
     let group = c.group-item.result in
     let below = view-below r U groups sets same c.requires.0 c.requires.1 c.loop-group.group-index group (omega arith) c.group-item.is in
     let smaller : measure c.args.self.now (group_of group).pieces (4 * top (schema_in c.args.self.now) + 7) < measure c.args.self.now sets 0 =
-    below-less (room c.args.self.now) (nesting (fragments_in c.args.self.now) (group_of group).pieces) (nesting (fragments_in c.args.self.now) sets) (4 * top (schema_in c.args.self.now) + 7)
-    below.0 (omega arith) in
+    below-measure c.args.self.now (group_of group).pieces sets (4 * top (schema_in c.args.self.now) + 7) below.0 (omega arith) in
     let defined = below.1 in
     search rules
 
@@ -351,9 +345,8 @@ execute_selection_set-returns-in-NullPasses g t c =
     let U = c.args.object_type.now in
     let sets = sets_of c.args.sets.now in
     let groups = c.as_slice-group-items.result.now in
-    let same : SameGroups (groups_seen groups) (applying (setting_on r U) sets) =
-    collected-on r U sets groups c.in_ok-groups.groups c.document.result.now.fragments c.schema.result.now c.as_ref.result.now c.as_slice-group-items.ensures
-    (ap (λ (d : ExecutableDocument). d.fragments) c.document.ensures) c.schema.ensures c.as_ref.ensures c.in_ok-groups.ensures in
+    let same = collected-on c.args.self.now g.O.ObjectValue.type_of g.O.ObjectValue.resolves U sets groups c.in_ok-groups.groups c.document.result.now c.schema.result.now
+    c.as_ref.result.now c.as_slice-group-items.ensures c.document.ensures c.schema.ensures c.as_ref.ensures c.in_ok-groups.ensures in
     let x = g.O.ObjectValue.seen c.args.object.now in
     let outer = trail_of c.args.path.now in
     let group = c.group-item.result in
@@ -391,9 +384,8 @@ execute_selection_set-returns g t c =
     let U = c.args.object_type.now in
     let sets = sets_of c.args.sets.now in
     let groups = c.as_slice-group-items.result.now in
-    let same : SameGroups (groups_seen groups) (applying (setting_on r U) sets) =
-    collected-on r U sets groups c.in_ok-groups.groups c.document.result.now.fragments c.schema.result.now c.as_ref.result.now c.as_slice-group-items.ensures
-    (ap (λ (d : ExecutableDocument). d.fragments) c.document.ensures) c.schema.ensures c.as_ref.ensures c.in_ok-groups.ensures in
+    let same = collected-on c.args.self.now g.O.ObjectValue.type_of g.O.ObjectValue.resolves U sets groups c.in_ok-groups.groups c.document.result.now c.schema.result.now
+    c.as_ref.result.now c.as_slice-group-items.ensures c.document.ensures c.schema.ensures c.as_ref.ensures c.in_ok-groups.ensures in
     let x = g.O.ObjectValue.seen c.args.object.now in
     let outer = trail_of c.args.path.now in
     let i = c.loop-group.group-index in
