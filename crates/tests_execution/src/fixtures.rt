@@ -1,0 +1,52 @@
+//! Schemas, documents and objects of the tests.
+
+ghost use Rattle.std.specs.Prelude.{◌≡◌, ℕ, ◌+◌, ◌^◌, ◌<◌, IfOk};
+ghost use Rattle.gql_document_types.specs.Spreads.{spread_graph};
+ghost use Rattle.gql_document_types.specs.declared.document.ExecutableDocument.{ExecutableDocument as Document};
+ghost use Rattle.gql_rules_graph.specs.Cycles.{IsOnCycle};
+
+use gql_diag::{JsonMap, JsonValue, Valid};
+use gql_document_types::ExecutableDocument;
+use gql_parser::Parser;
+use gql_schema_types::Schema;
+use gql_source::FileIds;
+use jb_read::from_str;
+use std::alloc::Global;
+use std::test::Fail;
+
+/// What the text of a schema stands for.
+pub(crate) fn schema_of(alloc: Global, text: &str, ids: &mut FileIds) -> Result<Valid<Schema>, Fail>
+    requires { ids.old < 2 ^ 63 }
+    ensures { ids.new ≡ ids.old + 1 }
+{
+    let mut parser = Parser::new();
+    match parser.parse_schema(alloc, text, "schema.graphql", ids) {
+        Ok(schema) => Ok(Valid::assume_valid(schema)),
+        Err(_) => Err("the schema is not built")?,
+    }
+}
+
+/// What the text of a document stands for, of which no fragment leads back to itself.
+pub(crate) fn document_of(
+    alloc: Global,
+    schema: &Valid<Schema>,
+    text: &str,
+    ids: &mut FileIds,
+) -> Result<Valid<ExecutableDocument>, Fail>
+    requires { ids.old < 2 ^ 63 }
+    ensures { IfOk result (λ (document : Document). (v : ℕ) → IsOnCycle (spread_graph document.fragments) v → ⊥) }
+{
+    let mut parser = Parser::new();
+    match parser.parse_executable(alloc, schema, text, "query.graphql", ids) {
+        Ok(document) if document.fragments_acyclic(alloc)? => Ok(Valid::assume_valid(document)),
+        _ => Err("the document is not built")?,
+    }
+}
+
+/// The object that a text spells.
+pub(crate) fn object_of(alloc: Global, text: &str) -> Result<JsonMap, Fail> {
+    match from_str(alloc, text) {
+        Ok(JsonValue::Object(members)) => Ok(members),
+        _ => Err("not an object")?,
+    }
+}
