@@ -37,9 +37,13 @@ pub(crate) fn document_of(
     ensures { IfOk result (λ (document : Document). (v : ℕ) → IsOnCycle (spread_graph document.fragments) v → ⊥) }
 {
     let mut parser = Parser::new();
-    match parser.parse_executable(alloc, schema, text, "query.graphql", ids) {
-        Ok(document) if document.fragments_acyclic(alloc)? => Ok(Valid::assume_valid(document)),
-        _ => Err("the document is not built")?,
+    let Ok(document) = parser.parse_executable(alloc, schema, text, "query.graphql", ids) else {
+        return Err("the document is not built")?;
+    };
+    if document.fragments_acyclic(alloc)? {
+        Ok(Valid::assume_valid(document))
+    } else {
+        Err("a fragment leads back to itself")?
     }
 }
 

@@ -1,9 +1,15 @@
 //! Requests and their responses.
 
+ghost use Rattle.std.specs.Prelude.{ℕ};
+ghost use Rattle.gql_document_types.specs.Spreads.{spread_graph};
+ghost use Rattle.gql_rules_graph.specs.Cycles.{IsOnCycle};
+
 use crate::fixtures::{document_of, object_of, schema_of};
-use gql_diag::{ExecutionResponse, RequestError};
+use gql_diag::{ExecutionResponse, RequestError, Valid};
+use gql_document_types::ExecutableDocument;
 use gql_exec_request::Execution;
 use gql_exec_resolve::DataObject;
+use gql_schema_types::Schema;
 use gql_source::FileIds;
 use jb_text::Refused;
 use std::alloc::Global;
@@ -154,15 +160,28 @@ fn response_of(alloc: Global, row: &Row) -> Result<ExecutionResponse, Fail> {
     let mut ids = FileIds::new();
     let schema = schema_of(alloc, row.schema, &mut ids)?;
     let document = document_of(alloc, &schema, row.query, &mut ids)?;
+    response_on(alloc, &schema, &document, row)
+}
+
+/// The response to a row, where its schema and its document are these.
+fn response_on(
+    alloc: Global,
+    schema: &Valid<Schema>,
+    document: &Valid<ExecutableDocument>,
+    row: &Row,
+) -> Result<ExecutionResponse, Fail>
+    requires { (v : ℕ) → IsOnCycle (spread_graph document.now.fragments) v → ⊥ }
+{
     let variables = object_of(alloc, row.variables)?;
     let data = object_of(alloc, row.data)?;
-    let execution = Execution::new(&schema, &document).raw_variable_values(&variables);
+    let execution = Execution::new(schema, document).raw_variable_values(&variables);
     match execution.operation_name(alloc, row.operation) {
         Ok(execution) => answered(execution.execute_sync(alloc, &DataObject::root(&data))),
         Err(_) => Err("no operation")?,
     }
 }
 
+/// The response of an answer that is one.
 fn answered(
     answer: Result<ExecutionResponse, Refused<RequestError>>,
 ) -> Result<ExecutionResponse, Fail> {
