@@ -7,7 +7,7 @@ use Rattle.jb_text.specs.declared.refused.Refused.TheVariants.{Fault, Memory}
 use Rattle.gql_coerce.specs.Outcome.{told_as}
 use Rattle.gql_coerce.specs.Variables.{coerced_variables}
 use Rattle.gql_diag.specs.declared.request_error.RequestError.{RequestError}
-use Rattle.gql_document_types.specs.ChosenOperation.{chosen, why_none, refusal}
+use Rattle.gql_document_types.specs.ChosenOperation.{chosen, why_none, refusal, IsChosen}
 use Rattle.gql_document_types.specs.declared.document.ExecutableDocument.{ExecutableDocument}
 use Rattle.gql_document_types.specs.declared.operation.Operation.{Operation}
 use Rattle.gql_response.specs.declared.execution_response.ExecutionResponse.{ExecutionResponse}
@@ -50,9 +50,7 @@ HasNoValues execution = execution.given ≡ Nothing
 abbrev pub IsOfChosen : Execution → Option (List ℕ) → Result Execution (Refused RequestError) → Type 0
 IsOfChosen execution name (Ok made) =
     (operation : Bor Operation) × (chosen name execution.document.now.operations ≡ Some operation.now) × (made ≡ with_operation execution operation)
-IsOfChosen execution name (Err (Fault fault)) =
-    (chosen name execution.document.now.operations ≡ None) × (fault ≡ refusal (why_none name execution.document.now.operations))
-IsOfChosen execution name (Err Memory) = Unit {0}
+IsOfChosen execution name (Err refused) = IsChosen name execution.document.now.operations (Err refused)
 
 -- ---- what it answers
 

@@ -9,7 +9,6 @@ ghost use Rattle.gql_exec_request.specs.Executing.{request_of};
 ghost use Rattle.gql_schema_types.specs.Schemas as schemas;
 
 use crate::executing::Executing;
-use gql_ast_base::OperationType;
 use gql_ast_definitions::FieldDefinition;
 use gql_coerce::{ArgumentFault, coerce_arguments};
 use gql_diag::JsonMap;
@@ -97,8 +96,7 @@ impl<'s> Executing<'s> {
     fn is_query_root(&self, name: &str) -> bool
         ensures { result ≡ schemas.is_query_root self.now.request.schema.now.schema_definition name.now }
     {
-        let definition = &self.schema().schema_definition;
-        match definition.root_operation(OperationType::Query) {
+        match &self.schema().schema_definition.query {
             Some(root) => name == root.as_str(),
             None => false,
         }
