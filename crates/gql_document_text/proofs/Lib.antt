@@ -1,0 +1,7 @@
+mod OneDocument
+mod OneError
+mod OneTelling
+mod Phases
+mod Running
+mod Sets
+mod Telling

@@ -1,0 +1,44 @@
+//! Laws of the definitions alone.
+
+ghost use Rattle.std.specs.Prelude.{◌≡◌, ℕ, List};
+ghost use Rattle.gql_diag.specs.List.{Diagnostics};
+ghost use Rattle.gql_document_text.specs.DocumentFaults.{DocumentFaults};
+ghost use Rattle.gql_document_text.specs.DocumentText.{DocumentText};
+ghost use Rattle.gql_document_text.specs.Running.{AreOnRoots, AreSpreadsDefined};
+ghost use Rattle.gql_document_text.specs.SameFaults.{TellTheSame};
+ghost use Rattle.gql_document_types.specs.Spreads.{spread_graph};
+ghost use Rattle.gql_document_types.specs.declared.document.ExecutableDocument.{ExecutableDocument as DocumentOf};
+ghost use Rattle.gql_exec_groups.specs.Ranks.{AreRanked};
+ghost use Rattle.gql_rules_graph.specs.Cycles.{IsOnCycle};
+ghost use Rattle.gql_schema_types.specs.declared.schema.Schema.{Schema as SchemaOf};
+
+use gql_ast_laws::laws as tree_laws;
+use gql_cst_grammar::laws as grammar_laws;
+use gql_cst_lexer::laws as token_laws;
+use gql_rules_graph_laws::laws as graph_laws;
+
+/// Against one schema a text means one document at most (GraphQL October 2021, section 2.2), and none where something is wrong
+/// with it. Two lists of what is wrong with it tell the same.
+pub fn texts_have_one_document_each()
+    ensures document { (schema : SchemaOf) (text : List ℕ) (one other : DocumentOf) → DocumentText schema text one → DocumentText schema text other → one ≡ other }
+    ensures no_faults { (schema : SchemaOf) (text : List ℕ) (document : DocumentOf) (list : Diagnostics) → DocumentText schema text document → DocumentFaults schema text list → ⊥ }
+    ensures faults { (schema : SchemaOf) (text : List ℕ) (one other : Diagnostics) → DocumentFaults schema text one → DocumentFaults schema text other → TellTheSame one other }
+{
+    tree_laws::texts_have_one_document();
+    token_laws::one_thing_stands();
+    grammar_laws::sentences_have_one_tree();
+}
+
+/// A document that a text means can be executed (GraphQL October 2021, section 6): each fragment that is spread is defined, none
+/// leads back to itself, so that each has a rank above those that it spreads, and each operation is on the root type that the
+/// schema names for its kind.
+pub fn valid_documents_run()
+    ensures defined { (schema : SchemaOf) (text : List ℕ) (document : DocumentOf) → DocumentText schema text document → AreSpreadsDefined document }
+    ensures acyclic { (schema : SchemaOf) (text : List ℕ) (document : DocumentOf) → DocumentText schema text document
+        → (v : ℕ) → IsOnCycle (spread_graph document.fragments) v → ⊥ }
+    ensures ranked { (schema : SchemaOf) (text : List ℕ) (document : DocumentOf) → DocumentText schema text document
+        → (rank : ℕ → ℕ) × AreRanked document.fragments rank }
+    ensures roots { (schema : SchemaOf) (text : List ℕ) (document : DocumentOf) → DocumentText schema text document → AreOnRoots schema document }
+{
+    graph_laws::acyclic_graphs_have_ranks();
+}
