@@ -5,3 +5,4 @@ mod Phases
 mod Running
 mod Sets
 mod Telling
+mod Tied

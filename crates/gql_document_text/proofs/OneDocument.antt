@@ -22,6 +22,7 @@ use Rattle.gql_document_text.specs.SameFaults.{TellTheSame}
 use Rattle.gql_document_text.proofs.OneError.{OneStands, WordsLaw, one_error}
 use Rattle.gql_document_text.proofs.OneTelling.{faults_once}
 use Rattle.gql_document_text.proofs.Phases.{empty_back}
+use Rattle.gql_document_text.proofs.Tied.{same_listing}
 
 abbrev pub OneDocument : Type 0
 OneDocument = (text : List ℕ) (file : FileId) (one other : List Definition) → IsDocumentOf text file one → IsDocumentOf text file other → one ≡ other
@@ -53,14 +54,15 @@ alone : (item : DiagnosticData) → IsSorted list_order (item ∷ [])
 alone item k d low inside = absurd (omega (arith, inside))
 
 told_alike : (text : List ℕ) (faults found : List DiagnosticData) (one other : Diagnostics) → IsPermutation faults found → IsListOf text faults one → IsListOf text found other → TellTheSame one other
-told_alike text faults found one other same h k = record {
-  sources = h.sources ∙ sym k.sources;
-  items =
-      IsPermutation-trans one.items faults other.items (IsPermutation-sym faults one.items h.items.permutation)
-      (IsPermutation-trans faults found other.items same k.items.permutation);
-  sorted = h.items.sorted;
-  other_sorted = k.items.sorted;
-}
+told_alike text faults found one other same h k =
+    let items : IsPermutation one.items other.items =
+    IsPermutation-trans one.items faults other.items (IsPermutation-sym faults one.items h.items.permutation)
+    (IsPermutation-trans faults found other.items same k.items.permutation) in
+    record { sources = h.sources ∙ sym k.sources; items = items; places = same_listing one.items other.items items h.items.sorted k.items.sorted }
+
+itself_alike : (list : Diagnostics) → IsSorted list_order list.items → TellTheSame list list
+itself_alike list sorted =
+    record { sources = refl; items = IsPermutation-refl list.items; places = same_listing list.items list.items (IsPermutation-refl list.items) sorted sorted }
 
 one_stop : OneStands → WordsLaw → (text : List ℕ) (one other : CstError) → StopsAt text one → StopsAt text other → one ≡ other
 one_stop stands words text one other h k =
@@ -69,7 +71,7 @@ one_stop stands words text one other h k =
 stopped_alike : OneStands → WordsLaw → (text : List ℕ) (one other : CstError) → StopsAt text one → StopsAt text other → TellTheSame (list_of (its_given text) one) (list_of (its_given text) other)
 stopped_alike stands words text one other h k =
     subst (λ (error : CstError). TellTheSame (list_of (its_given text) one) (list_of (its_given text) error)) (one_stop stands words text one other h k)
-    (record { sources = refl; items = IsPermutation-refl _; sorted = alone _; other_sorted = alone _ })
+    (itself_alike (list_of (its_given text) one) (alone _))
 
 module _ (law : OneDocument) (stands : OneStands) (words : WordsLaw) (schema : Schema) (text : List ℕ) where
   pub one_faults : (one other : Diagnostics) → DocumentFaults schema text one → DocumentFaults schema text other → TellTheSame one other
