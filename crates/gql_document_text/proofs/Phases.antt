@@ -1,5 +1,5 @@
 -- What the phases of reading a document's text come to.
-use Rattle.std.proofs.Common.{◌≡◌, ◌≢◌, ◌⊎◌, inl, inr, ℕ, List, [], ◌∷◌, ◌++◌, length, get_or, zero, suc, ◌<◌, Result, Ok, Err, IsErrAnd, true, refl, sym, ◌∙◌, ap, subst, arith, codes}
+use Rattle.std.proofs.Common.{◌≡◌, ◌≢◌, inl, inr, ℕ, List, [], ◌∷◌, ◌++◌, length, get_or, zero, suc, ◌<◌, Result, Ok, Err, IsErrAnd, true, refl, sym, ◌∙◌, ap, subst, arith}
 use Rattle.std.specs.List.{All}
 use Rattle.std.specs.List.Sorted.{IsPermutation}
 use Rattle.std.proofs.lemmas.List.Sorted.{IsPermutation-sym, length_permutation, All-permutation}
@@ -14,19 +14,19 @@ use Rattle.gql_diag.specs.List.{Diagnostics, IsStableSort}
 use Rattle.gql_diag.specs.Order.{list_order}
 use Rattle.gql_diag.specs.declared.valid.WithErrors.{WithErrors}
 use Rattle.gql_diag_messages.specs.declared.diagnostic_data.DiagnosticData.{DiagnosticData}
-use Rattle.gql_document_build.specs.Builders.{Taken, with_document, nothing_taken, built, all_faults}
+use Rattle.gql_document_build.specs.Builders.{Taken, with_document, nothing_taken, all_faults}
 use Rattle.gql_document_types.specs.declared.document.ExecutableDocument.{ExecutableDocument}
 use Rattle.gql_parser.specs.Diagnosed.{diagnostic, list_of}
 use Rattle.gql_parser.specs.ExecutablesRead.{IsBuilt}
-use Rattle.gql_parser.specs.FileRead.{IsFileRead, IsFileStopped, IsFileWhole, no_document, no_faults}
+use Rattle.gql_parser.specs.FileRead.{IsFileRead, IsFileStopped, IsFileWhole, no_document}
 use Rattle.gql_parser.specs.Parsers.{ParserState, fresh, its_file}
 use Rattle.gql_parser.specs.Readings.{IsSentenceWithin}
 use Rattle.gql_rules.specs.DocumentFaults.{AreDocumentFaults, HasListedAllFaults}
 use Rattle.gql_schema_types.specs.declared.schema.Schema.{Schema}
 use Rattle.gql_source.specs.File.{Files}
 use Rattle.gql_document_text.specs.Answers.{IsBuildRead, IsBuiltOf, IsDocumentAnswer, IsRuled, AreRulesBroken}
-use Rattle.gql_document_text.specs.DocumentFaults.{DocumentFaults, no_sentence, no_build, broken, IsListOf}
-use Rattle.gql_document_text.specs.DocumentText.{AreDefinitions, DocumentText, IsSentence, all_of, its_given}
+use Rattle.gql_document_text.specs.DocumentFaults.{DocumentFaults, no_sentence, no_build, broken}
+use Rattle.gql_document_text.specs.DocumentText.{AreDefinitions, all_of, its_given}
 
 -- ---- a refusal that is handed on
 

@@ -1,5 +1,5 @@
 -- What a document without a fault gives execution.
-use Rattle.std.proofs.Common.{◌≡◌, ◌<◌, ◌≤◌, ◌+◌, ℕ, zero, suc, Bool, true, false, if◌then◌else◌, List, [], ◌∷◌, ◌++◌, length, flat_map, Option, Some, None, slice_get, All, refl, sym, ◌∙◌, ap, subst, arith}
+use Rattle.std.proofs.Common.{◌≡◌, ◌<◌, ◌+◌, ℕ, zero, suc, Bool, true, false, if◌then◌else◌, List, [], ◌∷◌, length, flat_map, Option, Some, None, All, refl, sym, ◌∙◌, ap, subst, arith}
 use Rattle.std.specs.Option.{option_map_or}
 use Rattle.std.proofs.lemmas.List.{length-map}
 use Rattle.std.proofs.lemmas.List.Elements.{All-append, All-cons, All-nil}
@@ -8,15 +8,14 @@ use Rattle.gql_ast_operations.specs.declared.operation.OperationDefinition.{Oper
 use Rattle.gql_diag_messages.specs.declared.diagnostic_data.DiagnosticData.{DiagnosticData}
 use Rattle.gql_document_build.specs.AmbiguousAnonymousOperation.{are_several, is_ambiguous}
 use Rattle.gql_document_build.specs.Build.{built_operation, built_operations, operation_on}
-use Rattle.gql_document_build.specs.Builders.{Taken, built}
+use Rattle.gql_document_build.specs.Builders.{Taken}
 use Rattle.gql_document_build.specs.OperationNameCollision.{first_operations}
 use Rattle.gql_document_build.specs.UndefinedRootOperation.{root_type}
 use Rattle.gql_document_types.specs.Spreads.{spread_graph, spreads_in}
 use Rattle.gql_document_types.specs.declared.document.ExecutableDocument.{ExecutableDocument}
 use Rattle.gql_document_types.specs.declared.fragment.Fragment.{Fragment}
-use Rattle.gql_document_types.specs.declared.operation.Operation.{Operation}
 use Rattle.gql_exec_groups.specs.Ranks.{AreRanked}
-use Rattle.gql_rules.specs.DocumentFaults.{AreDocumentFaults, AreFirstOrAll}
+use Rattle.gql_rules.specs.DocumentFaults.{AreDocumentFaults, AreFirstOrAll, AreOtherFaults}
 use Rattle.gql_rules_base.specs.Faults.{only_if}
 use Rattle.gql_rules_fragments.specs.RecursiveFragmentDefinition.{AreRecursive, long_from, recursive_fault, recursive_from}
 use Rattle.gql_rules_fragments.specs.SpreadFaults.{AreSpreadFaults}
@@ -24,11 +23,11 @@ use Rattle.gql_rules_fragments.specs.UndefinedFragment.{undefined_fragments}
 use Rattle.gql_rules_fragments.specs.WayRound.{first_recursive}
 use Rattle.gql_rules_graph.specs.Chains.{is_marked, mark_of}
 use Rattle.gql_rules_graph.specs.Cycles.{IsOnCycle}
-use Rattle.gql_rules_graph.specs.Graph.{Graph, HasEdge}
+use Rattle.gql_rules_graph.specs.Graph.{Graph}
 use Rattle.gql_rules_graph.proofs.Walks.{from_node}
 use Rattle.gql_rules_graph_laws.specs.Ranks.{IsRanked}
 use Rattle.gql_schema_types.specs.declared.schema.Schema.{Schema}
-use Rattle.gql_document_text.specs.DocumentText.{DocumentText, AreDefinitions, all_of, its_given}
+use Rattle.gql_document_text.specs.DocumentText.{DocumentText, AreDefinitions}
 use Rattle.gql_document_text.specs.Running.{AreOnRoots, IsOnRoot}
 use Rattle.gql_document_text.proofs.Phases.{front_none, back_none}
 
@@ -37,7 +36,7 @@ use Rattle.gql_document_text.proofs.Phases.{front_none, back_none}
 no_spread_fault : (schema : Schema) (document : ExecutableDocument) → AreDocumentFaults schema document [] → AreSpreadFaults document []
 no_spread_fault schema document are = by_spreads are.spreads are.are_spreads are.whole
   where
-    by_spreads : (spreads : List DiagnosticData) → AreSpreadFaults document spreads → AreFirstOrAll _ spreads [] → AreSpreadFaults document []
+    by_spreads : (spreads : List DiagnosticData) → AreSpreadFaults document spreads → AreFirstOrAll (AreOtherFaults schema document) spreads [] → AreSpreadFaults document []
     by_spreads [] faults whole = faults
     by_spreads (first ∷ firsts) faults whole = let none : [] ≡ first ∷ firsts = whole in absurd cc
 
@@ -75,7 +74,7 @@ no_cycle fragments are v cycle =
     let inside : v < length (spread_graph fragments) = from_node (spread_graph fragments) v cycle.0 cycle.1 in
     let marked : is_marked are.recursive v ≡ true = ap mark_of (are.judged.on_cycles.marked v inside cycle) in
     let unmarked : is_marked are.recursive v ≡ false =
-    none_marked fragments are.recursive nexts 0 fragments none v v (omega arith) (omega (arith, inside, length-map (spreads_in fragments) fragments)) in
+    none_marked fragments are.recursive nexts 0 fragments none v v (omega arith) (omega (arith, inside, length-map fragments (spreads_in fragments))) in
     let e : true ≡ false = sym marked ∙ unmarked in absurd cc
 
 pub acyclic : (schema : Schema) (text : List ℕ) (document : ExecutableDocument) → DocumentText schema text document → (v : ℕ) → IsOnCycle (spread_graph document.fragments) v → ⊥
@@ -89,7 +88,7 @@ ranked law schema text document means =
     let ranks = law (spread_graph document.fragments) (acyclic schema text document means) in
     (ranks.0, record {
       falls = ranks.1.falls;
-      bounded = λ a. omega (arith, ranks.1.bounded a, length-map (spreads_in document.fragments) document.fragments);
+      bounded = λ a. omega (arith, ranks.1.bounded a, length-map document.fragments (spreads_in document.fragments));
     })
 
 -- ---- and each operation is on a root type

@@ -3,7 +3,7 @@ use Rattle.std.proofs.Common.{◌≡◌, ◌⊎◌, inl, inr, ℕ, zero, suc, �
 use Rattle.std.specs.List.{AllByRecursion, IsDistinct}
 use Rattle.std.specs.List.Sorted.{IsPermutation}
 use Rattle.std.proofs.lemmas.List.Concat.{flat_map-append}
-use Rattle.std.proofs.lemmas.List.Sorted.{IsPermutation-refl, IsPermutation-sym, IsPermutation-trans, IsPermutation-append, IsPermutation-append_comm, IsPermutation-append_left, IsPermutation-append_right}
+use Rattle.std.proofs.lemmas.List.Sorted.{IsPermutation-refl, IsPermutation-sym, IsPermutation-trans, IsPermutation-append_comm, IsPermutation-append_left, IsPermutation-append_right}
 
 module _ {X D : Type 0} (e : X → X → Bool) (itself : (x : X) → e x x ≡ true) (turn : (x y : X) → e x y ≡ true → e y x ≡ true) (join : (x y z : X) → e x y ≡ true → e y z ≡ true → e x z ≡ true)
     (f : X → List D) (respects : (x y : X) → e x y ≡ true → f x ≡ f y) where

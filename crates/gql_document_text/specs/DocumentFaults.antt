@@ -1,5 +1,5 @@
 -- What is wrong with the text of a document against a schema, phase by phase: the first phase that finds something is told.
-use Rattle.std.specs.Prelude.{◌≡◌, ◌≢◌, ℕ, List, [], ◌∷◌, Some}
+use Rattle.std.specs.Prelude.{◌≡◌, ◌≢◌, ℕ, List, [], Some}
 use Rattle.gql_cst.specs.Parses.{IsParse}
 use Rattle.gql_cst.specs.declared.limits.Parsed.{Parsed}
 use Rattle.gql_cst_grammar.specs.declared.rule.Rule.TheVariants.{Document}
