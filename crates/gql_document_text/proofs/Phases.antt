@@ -1,5 +1,5 @@
 -- What the phases of reading a document's text come to.
-use Rattle.std.proofs.Common.{◌≡◌, ◌≢◌, inl, inr, ℕ, List, [], ◌∷◌, ◌++◌, length, get_or, zero, suc, ◌<◌, Result, Ok, Err, IsErrAnd, true, refl, sym, ◌∙◌, ap, subst, arith}
+use Rattle.std.proofs.Common.{◌≡◌, ◌≢◌, inl, inr, ℕ, List, [], ◌∷◌, ◌++◌, length, get_or, zero, suc, ◌<◌, Result, Ok, Err, IsErrAnd, IsTrue, ◌↔◌, Bool, true, false, refl, sym, ◌∙◌, ap, subst, arith}
 use Rattle.std.specs.List.{All}
 use Rattle.std.specs.List.Sorted.{IsPermutation}
 use Rattle.std.proofs.lemmas.List.Sorted.{IsPermutation-sym, length_permutation, All-permutation}
@@ -158,6 +158,14 @@ back_none xs ys none = sym (ap (λ l. l ++ ys) (front_none xs ys none)) ∙ none
 pub empty_back : {X : Type 0} (xs ys : List X) → IsPermutation xs ys → ys ≡ [] → xs ≡ []
 empty_back [] ys p e = refl
 empty_back (x ∷ xs) ys p e = absurd (omega (arith, length_permutation (x ∷ xs) ys p, ap length e))
+
+pub are_none : {X : Type 0} (test : Bool) (xs : List X) → IsTrue test ↔ (xs ≡ []) → test ≡ true → xs ≡ []
+are_none true xs says is = says.0 refl
+are_none false xs says is = let e : false ≡ true = is in absurd cc
+
+pub are_some : {X : Type 0} (test : Bool) (xs : List X) → IsTrue test ↔ (xs ≡ []) → test ≡ false → xs ≢ []
+are_some true xs says is none = let e : true ≡ false = is in absurd cc
+are_some false xs says is none = let e : false ≡ true = says.1 none in absurd cc
 
 pub none_broken : (schema : Schema) (document : ExecutableDocument) (old new : List DiagnosticData) → old ≡ [] → HasListedAllFaults schema document old new → new ≡ []
     → AreDocumentFaults schema document []
