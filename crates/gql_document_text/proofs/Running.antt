@@ -85,11 +85,13 @@ RanksLaw = (g : Graph) → ((v : ℕ) → IsOnCycle g v → ⊥) → (rank : ℕ
 
 pub ranked : RanksLaw → (schema : Schema) (text : List ℕ) (document : ExecutableDocument) → DocumentText schema text document → (rank : ℕ → ℕ) × AreRanked document.fragments rank
 ranked law schema text document means =
-    let ranks = law (spread_graph document.fragments) (acyclic schema text document means) in
-    (ranks.0, record {
-      falls = ranks.1.falls;
-      bounded = λ a. omega (arith, ranks.1.bounded a, length-map document.fragments (spreads_in document.fragments));
-    })
+    let ranks = law (spread_graph document.fragments) (acyclic schema text document means) in (
+      ranks.0,
+      record {
+        falls = ranks.1.falls;
+        bounded = λ a. omega (arith, ranks.1.bounded a, length-map document.fragments (spreads_in document.fragments));
+      },
+    )
 
 -- ---- and each operation is on a root type
 

@@ -118,8 +118,7 @@ all_same fragments (x ∷ xs) [] e h k = let f : x.operation ∷ map its_operati
 all_same fragments (x ∷ xs) (y ∷ ys) e h k =
     let f : x.operation ∷ map its_operation xs ≡ y.operation ∷ map its_operation ys = e in
     let first : x.operation ≡ y.operation = cc in
-    let rest : map its_operation xs ≡ map its_operation ys = cc in
-    (
+    let rest : map its_operation xs ≡ map its_operation ys = cc in (
       same_reach fragments x y first (All-head (IsReach fragments) x xs h) (All-head (IsReach fragments) y ys k),
       all_same fragments xs ys rest (All-tail (IsReach fragments) x xs h) (All-tail (IsReach fragments) y ys k),
     )
