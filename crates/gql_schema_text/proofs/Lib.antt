@@ -1,0 +1,4 @@
+mod Marks
+mod One
+mod OneError
+mod Phases

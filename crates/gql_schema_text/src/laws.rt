@@ -1,0 +1,25 @@
+//! Laws of the definitions alone.
+
+ghost use Rattle.std.specs.Prelude.{◌≡◌, ℕ, List};
+ghost use Rattle.gql_diag.specs.List.{Diagnostics};
+ghost use Rattle.gql_schema_types.specs.declared.schema.Schema.{Schema as SchemaOf};
+ghost use Rattle.gql_schema_text.specs.SchemaFaults.{SchemaFaults};
+ghost use Rattle.gql_schema_text.specs.SchemaText.{SchemaText};
+
+use gql_ast_laws::laws as tree_laws;
+use gql_cst_grammar::laws as grammar_laws;
+use gql_cst_lexer::laws as token_laws;
+use gql_diag::laws as list_laws;
+
+/// A text means one schema at most (GraphQL October 2021, section 3), and none where something is wrong with it. What is
+/// wrong with it is one list.
+pub fn texts_have_one_schema()
+    ensures schema { (text : List ℕ) (one other : SchemaOf) → SchemaText text one → SchemaText text other → one ≡ other }
+    ensures no_faults { (text : List ℕ) (schema : SchemaOf) (list : Diagnostics) → SchemaText text schema → SchemaFaults text list → ⊥ }
+    ensures faults { (text : List ℕ) (one other : Diagnostics) → SchemaFaults text one → SchemaFaults text other → one ≡ other }
+{
+    tree_laws::texts_have_one_document();
+    list_laws::stable_sorts_are_one();
+    token_laws::one_thing_stands();
+    grammar_laws::sentences_have_one_tree();
+}
