@@ -1,0 +1,9 @@
+mod Found
+mod Tokens
+mod Readings
+mod Forests
+mod BuiltInText
+mod Entries
+mod Kept
+mod Scalars
+mod Roots

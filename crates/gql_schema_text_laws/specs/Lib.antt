@@ -1,0 +1,3 @@
+-- What schemas that texts mean have in common.
+pub mod BuiltInText
+pub mod Roots
