@@ -1,8 +1,3 @@
-mod Found
-mod Tokens
-mod Readings
-mod Forests
-mod BuiltInText
 mod Entries
 mod Kept
 mod Scalars

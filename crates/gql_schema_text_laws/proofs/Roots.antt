@@ -6,6 +6,7 @@ use Rattle.std.specs.Option.{option_map_or, option_and_then}
 use Rattle.std.specs.Str.{bytes_eq}
 use Rattle.std.proofs.lemmas.List.Sums.{AllPass-from_list_all}
 use Rattle.std.proofs.lemmas.Slice.Eq.{bytes_eq-Decides}
+use Rattle.gql_ast.specs.declared.document.Document.{Document}
 use Rattle.gql_ast_base.specs.Names.{Named}
 use Rattle.gql_ast_base.specs.declared.operation_type.OperationType.{OperationType}
 use Rattle.gql_ast_base.specs.declared.operation_type.OperationType.TheVariants.{Query, Mutation, Subscription}
@@ -19,6 +20,7 @@ use Rattle.gql_schema.specs.Builders.{Taken, built}
 use Rattle.gql_schema_build.specs.Considered.{considered}
 use Rattle.gql_schema_build.specs.BuiltInScalarTypeRedefinition.{is_scalar, without_redefinitions}
 use Rattle.gql_schema_build.specs.declared.built_in.BuiltIn.{BuiltIn}
+use Rattle.gql_schema_build.specs.declared.type_system.TypeSystem.{TypeSystem}
 use Rattle.gql_schema_rules.specs.Scalars.{built_in_scalars, validated, validated_types}
 use Rattle.gql_schema_rules.specs.SchemaFaults.{AreSchemaFaults, parts_faults}
 use Rattle.gql_rules_values.specs.Directives.{directive_faults}
@@ -38,7 +40,7 @@ use Rattle.gql_schema_types.specs.declared.types.ExtendedType.{ExtendedType}
 use Rattle.gql_schema_types.specs.declared.types.ExtendedType.TheVariants as type
 use Rattle.gql_schema_text.specs.SchemaText.{SchemaText, AreDefinitions, all_of, its_given}
 use Rattle.gql_parser.specs.Parsers.{its_file}
-use Rattle.gql_schema_text_laws.specs.BuiltInText.{is_scalar_of}
+use Rattle.gql_schema_laws.specs.BuiltInText.{is_scalar_of}
 use Rattle.gql_schema_text_laws.specs.Roots.{AreRootsObjects}
 use Rattle.gql_schema_text_laws.proofs.Kept.{validated-kept}
 use Rattle.gql_schema_text_laws.proofs.Scalars.{scalar-no_object}
@@ -126,8 +128,8 @@ ScalarsLaw = (built_in : BuiltIn) → IsBuiltIn built_in → list_all (is_scalar
 -- the name of a built-in scalar is that of no object type
 no_object_of : (text : List ℕ) (taken : Taken) (d : AreDefinitions text taken) (name : List ℕ) → is_scalar_of d.built_in name ≡ true → object_of (built taken) name ≡ None
 no_object_of text taken d name scalar =
-    let given = record { sources = its_file (its_given text); definitions = d.definitions } in
-    let user = (all_of d.built_in given).user in
+    let given : Document = record { sources = its_file (its_given text); definitions = d.definitions } in
+    let user : TypeSystem = (all_of d.built_in given).user in
     ap (λ (t : Taken). object_of (built t) name) d.all
     ∙ scalar-no_object user.type_extensions name d.built_in.types (without_redefinitions d.built_in.types (considered false d.built_in.types user.types)) scalar
 
@@ -152,12 +154,17 @@ module _ (schema : Schema) (name : List ℕ) (object : is_some (object_of schema
       by_type (Some t) is there =
           ap (λ o. is_some (option_and_then as_object o)) (validated-kept schema.directive_definitions name t schema.types int float id is) ∙ there
 
+-- an object type has another name than each built-in scalar
+apart_of : (text : List ℕ) (taken : Taken) (d : AreDefinitions text taken) (name : List ℕ) → is_some (object_of (built taken) name) ≡ true
+    → (n : List ℕ) → is_scalar_of d.built_in n ≡ true → bytes_eq name n ≡ false
+apart_of text taken d name object n scalar = apart (built taken) name object n (no_object_of text taken d n scalar)
+
 pub by_text : ScalarsLaw → (text : List ℕ) (schema : Schema) → SchemaText text schema → AreRootsObjects schema
 by_text law text schema h operation_type root is =
     let was : root_of operation_type (built h.taken).schema_definition ≡ Some root = ap (λ (s : Schema). root_of operation_type s.schema_definition) (sym h.settled) ∙ is in
     let object = by_rules (built h.taken) h.holds operation_type root was in
     let scalar = AllPass-from_list_all (is_scalar_of h.definitions.built_in) built_in_scalars (law h.definitions.built_in h.definitions.are_built_in) in
-    let other = λ n are. apart (built h.taken) root.text object n (no_object_of text h.taken h.definitions n are) in
+    let other = apart_of text h.taken h.definitions root.text object in
     subst (λ (s : Schema). is_some (object_of s root.text) ≡ true) (sym h.settled)
     (kept (built h.taken) root.text object
     (other (codes "Int") (scalar 0 [] (omega arith))) (other (codes "Float") (scalar 1 [] (omega arith))) (other (codes "ID") (scalar 4 [] (omega arith))))

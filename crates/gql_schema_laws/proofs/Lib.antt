@@ -1,0 +1,5 @@
+mod Found
+mod Tokens
+mod Readings
+mod Forests
+mod BuiltInText

@@ -1,0 +1,2 @@
+-- The text of the built-in definitions.
+pub mod BuiltInText
