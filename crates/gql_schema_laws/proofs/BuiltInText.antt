@@ -1,5 +1,5 @@
 -- The built-in text is a document, and what it defines.
-use Rattle.std.proofs.Common.{◌≡◌, ℕ, ◌<◌, Bool, true, false, nat_lt, List, [], ◌∷◌, get_or, length, refl, sym, ap, ◌∙◌, subst}
+use Rattle.std.proofs.Common.{◌≡◌, ℕ, true, nat_lt, List, [], ◌∷◌, get_or, refl, ap, ◌∙◌}
 use Rattle.std.specs.Prelude.{⊤, is_some}
 use Rattle.std.specs.List.{list_all}
 use Rattle.std.specs.Str.{IsAscii}
@@ -17,8 +17,7 @@ use Rattle.gql_ast_definitions.specs.Schemas.{directive_definition_of, schema_of
 use Rattle.gql_ast_laws.specs.Meant.{IsDocumentOf}
 use Rattle.gql_ast_operations.specs.Operations.{operation_of, fragment_of}
 use Rattle.gql_ast_operations.specs.Selections.{type_condition}
-use Rattle.gql_cst.specs.Forest.{Forest, Plain}
-use Rattle.gql_cst.specs.Leaves.{leaves}
+use Rattle.gql_cst.specs.Forest.{Forest}
 use Rattle.gql_cst.specs.Sentences.{words, shown}
 use Rattle.gql_cst_grammar.specs.declared.rule.Rule.{Rule}
 use Rattle.gql_cst_grammar.specs.declared.rule.Rule.TheVariants.{Document}
@@ -51,8 +50,8 @@ tokens_computed = tt
 
 unfoldable trees_computed : ⊤
 unfolding definition_of choice_of executable_definition_of schema_definition_of type_definition_of extension_of operation_of fragment_of type_condition
-  directive_definition_of schema_of scalar_of object_of interface_of union_of enum_of input_object_of extends schema_extension_of scalar_extension_of
-  object_extension_of interface_extension_of union_extension_of enum_extension_of input_object_extension_of nth_name name_of word token_text piece is_kind
+    directive_definition_of schema_of scalar_of object_of interface_of union_of enum_of input_object_of extends schema_extension_of scalar_extension_of
+    object_extension_of interface_extension_of union_extension_of enum_extension_of input_object_extension_of nth_name name_of word token_text piece is_kind
 trees_computed = tt
 
 -- ---- the tokens of the text, and its tree
@@ -97,8 +96,11 @@ tree law = record {
 abbrev known_definitions : List Definition
 known_definitions = definitions built_in_text built_in_file (record { kind = kind.Document; start = 0; end = 0; children = children })
 
+known : SoundLaw → IsDocumentOf built_in_text built_in_file known_definitions
+known law = record { children = children; tree = tree law; means = refl }
+
 pub document : SoundLaw → (definitions : List Definition) × IsDocumentOf built_in_text built_in_file definitions
-document law = (known_definitions, record { children = children; tree = tree law; means = refl })
+document law = (known_definitions, known law)
 
 abbrev pub OneDocument : Type 0
 OneDocument = (text : List ℕ) (file : FileId) (one other : List Definition) → IsDocumentOf text file one → IsDocumentOf text file other → one ≡ other
@@ -112,7 +114,6 @@ known_scalars built_in = refl
 
 pub scalars : SoundLaw → OneDocument → (built_in : BuiltIn) → IsBuiltIn built_in → list_all (is_scalar_of built_in) built_in_scalars ≡ true
 scalars sound law built_in is =
-    let known = document sound in
-    let same : is.definitions ≡ known.0 = law built_in_text built_in_file is.definitions known.0 is.text known.1 in
+    let same : is.definitions ≡ known_definitions = law built_in_text built_in_file is.definitions known_definitions is.text (known sound) in
     let types : built_in ≡ with_types_of built_in is.definitions = λ i. record built_in { types = is.types i } in
     ap (λ b. list_all (is_scalar_of b) built_in_scalars) (types ∙ ap (with_types_of built_in) same) ∙ known_scalars built_in

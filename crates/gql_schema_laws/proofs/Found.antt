@@ -1,5 +1,5 @@
 -- What is found, with why it is so.
-use Rattle.std.proofs.Common.{◌≡◌, Bool, true, false, Option, Some, None, IsSome, refl}
+use Rattle.std.proofs.Common.{◌≡◌, Bool, true, false, Option, Some, None, refl}
 use Rattle.std.proofs.lemmas.Bool.{false≢true}
 
 abbrev pub and_then : {A B : Type 0} → Option A → (A → Option B) → Option B

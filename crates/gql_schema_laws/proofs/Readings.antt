@@ -1,5 +1,5 @@
 -- Words read by the factored grammar, where the next word decides.
-use Rattle.std.proofs.Common.{◌≡◌, ℕ, zero, suc, inl, inr, ◌⊎◌, Bool, true, false, cond, Option, Some, None, List, [], ◌∷◌, refl, sym, ◌∙◌, ap, subst}
+use Rattle.std.proofs.Common.{◌≡◌, ℕ, zero, suc, inl, inr, ◌⊎◌, Bool, true, false, cond, Option, Some, None, List, [], ◌∷◌, refl}
 use Rattle.gql_cst_grammar.specs.declared.word.Word.{Word}
 use Rattle.gql_cst_grammar.specs.declared.symbol.Symbol.{Symbol}
 use Rattle.gql_cst_grammar.specs.declared.symbol.Symbol.TheVariants.{Token, One, Optional, Repeated, Eager, Wrap, Close}
@@ -59,9 +59,9 @@ read (suc n) (One r ∷ ss) x [] = None
 read (suc n) (One r ∷ ss) x (w ∷ ws) =
     elim (node_or_group (kind_of r)) [
       | inl k ↦ and_then (read n (chosen_way r w) nothing (w ∷ ws)) (λ f. and_then (read n ss (with_node x k.0 f.0) f.1) (λ g.
-                Some (g.0, g.1, tree r k.0 (chosen_way r w) f.0 k.1 (way-in r w) f.2 g.2)))
+          Some (g.0, g.1, tree r k.0 (chosen_way r w) f.0 k.1 (way-in r w) f.2 g.2)))
       | inr none ↦ and_then (read n (chosen_way r w) x (w ∷ ws)) (λ f. and_then (read n ss f.0 f.1) (λ g.
-                Some (g.0, g.1, group r (chosen_way r w) none (way-in r w) f.2 g.2)))
+          Some (g.0, g.1, group r (chosen_way r w) none (way-in r w) f.2 g.2)))
     ]
 read (suc n) (Optional r ∷ ss) x [] = and_then (read n ss x []) (λ g. Some (g.0, g.1, skip r g.2))
 read (suc n) (Optional r ∷ ss) x (w ∷ ws) = elim (starts r w) [

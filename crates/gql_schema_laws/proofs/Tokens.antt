@@ -1,5 +1,5 @@
 -- The tokens of a text of ASCII characters: names, punctuators of one character, blanks and strings on one line.
-use Rattle.std.proofs.Common.{◌≡◌, ℕ, zero, suc, ◌+◌, ◌-◌, ◌<◌, ◌≤◌, inl, inr, Bool, true, false, ◌==◌, ◌||◌, nat_lt, nat_le, Option, Some, None, List, [], ◌∷◌, length, drop, refl, sym, ◌∙◌, ap, subst, arith}
+use Rattle.std.proofs.Common.{◌≡◌, ℕ, zero, suc, ◌+◌, ◌-◌, ◌<◌, ◌≤◌, inl, Bool, true, false, ◌==◌, ◌||◌, nat_lt, nat_le, Option, Some, None, List, [], ◌∷◌, length, drop, refl, ◌∙◌, ap, subst, arith}
 use Rattle.std.specs.Prelude.{slice_index}
 use Rattle.std.specs.List.{prefix_len}
 use Rattle.std.specs.Str.{IsAscii}
@@ -48,9 +48,9 @@ token_of at =
     choose (is_punctuator (byte at)) (λ mark. Some (Punctuator, 1, mark_token at name number blank mark)) (λ mark.
     choose (byte at == 0x2E) (λ dot. None) (λ dot.
     choose (byte at == 0x22) (λ quote.
-      and_then (fails (is_block_quote at 0)) (λ single.
-      and_then (holds (slice_index at (string_end at) == 0x22)) (λ closed.
-      Some (StringValue, string_end at + 1, string_token at name number blank mark dot quote single closed)))) (λ quote. None))))))
+    and_then (fails (is_block_quote at 0)) (λ single.
+    and_then (holds (slice_index at (string_end at) == 0x22)) (λ closed.
+    Some (StringValue, string_end at + 1, string_token at name number blank mark dot quote single closed)))) (λ quote. None))))))
 
 -- ---- one after the other
 
@@ -78,5 +78,7 @@ tokens (suc k) text ascii place (b ∷ bs) is =
     and_then (holds (nat_lt 0 found.1)) (λ some.
     and_then (holds (nat_le (place + found.1) (length text))) (λ within.
     and_then (tokens k text ascii (place + found.1) (drop found.1 (b ∷ bs)) (ap (drop found.1) is ∙ drop-drop found.1 place text)) (λ rest.
-    Some (record { part = part_of_token found.0; start = place; end = place + found.1 } ∷ rest.0,
-    (laid text place found.0 found.1 ascii (ltb-true 0 found.1 some) (leb-true (place + found.1) (length text) within) (subst (λ t. IsToken found.0 t found.1) is found.2), rest.1))))))
+    Some (
+      record { part = part_of_token found.0; start = place; end = place + found.1 } ∷ rest.0,
+      (laid text place found.0 found.1 ascii (ltb-true 0 found.1 some) (leb-true (place + found.1) (length text) within) (subst (λ t. IsToken found.0 t found.1) is found.2), rest.1),
+    )))))
