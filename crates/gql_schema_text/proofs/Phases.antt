@@ -14,10 +14,10 @@ use Rattle.gql_diag.specs.List.{Diagnostics, IsStableSort}
 use Rattle.gql_diag.specs.Order.{list_order}
 use Rattle.gql_diag.specs.declared.valid.WithErrors.{WithErrors}
 use Rattle.gql_diag_messages.specs.declared.diagnostic_data.DiagnosticData.{DiagnosticData}
-use Rattle.gql_parser.specs.Diagnosed.{diagnostic, list_of}
+use Rattle.gql_parser.specs.Diagnosed.{diagnostic}
 use Rattle.gql_parser.specs.DocumentsRead as parsed
 use Rattle.gql_parser.specs.DocumentsRead.{IsDocumentStopped}
-use Rattle.gql_parser.specs.Parsers.{ParserState, fresh, its_file}
+use Rattle.gql_parser.specs.Parsers.{ParserState, fresh}
 use Rattle.gql_parser.specs.Readings.{IsSentenceWithin}
 use Rattle.gql_schema.specs.BuiltInSchema.{IsBuiltIn, built_in_sources}
 use Rattle.gql_schema.specs.Builders.{Taken, built, all_faults, nothing_taken}
@@ -28,8 +28,8 @@ use Rattle.gql_schema_rules.specs.SchemaFaults.{AreSchemaFaults, HasListedAllFau
 use Rattle.gql_schema_types.specs.declared.schema.Schema.{Schema}
 use Rattle.gql_source.specs.File.{Files, joined}
 use Rattle.gql_schema_text.specs.Answers.{IsBuildRead, IsBuiltBy, IsBuilt, IsUnbuilt, IsBuiltOf, IsReadOf, IsStoppedOf, HasTaken, IsRuled, IsSchemaRead, AreRulesBroken}
-use Rattle.gql_schema_text.specs.SchemaFaults.{SchemaFaults, no_sentence, no_build, broken, all_files, IsListOf}
-use Rattle.gql_schema_text.specs.SchemaText.{AreDefinitions, SchemaText, all_of, its_given, IsSentence}
+use Rattle.gql_schema_text.specs.SchemaFaults.{SchemaFaults, no_sentence, no_build, broken, all_files}
+use Rattle.gql_schema_text.specs.SchemaText.{AreDefinitions, all_of, its_given}
 
 -- ---- a refusal that is handed on
 
