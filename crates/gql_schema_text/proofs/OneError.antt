@@ -1,5 +1,5 @@
 -- The reading of a text ends by one error, where it does and no limit on tokens is set.
-use Rattle.std.proofs.Common.{◌≡◌, ◌⊎◌, inl, inr, ℕ, ◌+◌, ◌-◌, ◌<◌, ◌≤◌, max, List, [], ◌∷◌, ◌++◌, length, suc, drop, take, slice_range, Option, Some, None, refl, sym, ◌∙◌, ap, subst, append_assoc, append-nil, length-append, arith}
+use Rattle.std.proofs.Common.{◌≡◌, ◌⊎◌, inl, inr, ℕ, ◌+◌, ◌-◌, ◌<◌, ◌≤◌, List, [], ◌∷◌, ◌++◌, length, suc, drop, take, slice_range, Option, Some, None, refl, sym, ◌∙◌, ap, subst, append_assoc, append-nil, length-append, arith}
 use Rattle.std.proofs.Math.Seq.{take-append-add}
 use Rattle.std.proofs.lemmas.List.{take-append-drop, length-drop}
 use Rattle.std.specs.declared.ops.Range.{Range}
@@ -17,9 +17,9 @@ use Rattle.gql_cst.specs.declared.limits.Limits.{Limits}
 use Rattle.gql_cst.specs.declared.limits.Parsed.{Parsed}
 use Rattle.gql_cst.specs.Forest.{Forest}
 use Rattle.gql_cst.specs.Judged.{Judged, word_in}
-use Rattle.gql_cst.specs.Leaves.{Part, word, ignored, node, Leaf, IsLeaf, Tiles, leaves, part_of_token}
-use Rattle.gql_cst.specs.Levels.{levels, raised, greatest, AreLevels, NestsTo, PassesLast, PassesNoneBeforeLast}
-use Rattle.gql_cst.specs.Outcome.{Reached, Stops, WordAt, EndAt, FaultAt}
+use Rattle.gql_cst.specs.Leaves.{word, Leaf, IsLeaf, Tiles, leaves, part_of_token}
+use Rattle.gql_cst.specs.Levels.{levels, raised, greatest, NestsTo, PassesLast, PassesNoneBeforeLast}
+use Rattle.gql_cst.specs.Outcome.{Stops, WordAt, EndAt, FaultAt}
 use Rattle.gql_cst.specs.Parses.{IsParse, Parses, reached_at, spoken_of}
 use Rattle.gql_cst.specs.Sentences.{words, own_word, shown}
 use Rattle.gql_cst.specs.Words.{word_of}

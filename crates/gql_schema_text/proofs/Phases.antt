@@ -1,5 +1,6 @@
 -- What the phases of reading a schema's text come to.
-use Rattle.std.proofs.Common.{◌≡◌, ◌≢◌, ℕ, ◌+◌, ◌≤◌, List, [], ◌∷◌, ◌++◌, fold, Result, Ok, Err, IsErrAnd, refl, sym, ◌∙◌, ap, subst, arith}
+use Rattle.std.proofs.Common.{◌≡◌, ◌≢◌, ℕ, ◌+◌, ◌≤◌, List, [], ◌∷◌, ◌++◌, fold, Result, Ok, Err, IfOk, IsErrAnd, Bool, true, false, refl, sym, ◌∙◌, ap, subst, arith}
+use Rattle.std.proofs.lemmas.Bool.{false≢true}
 use Rattle.std.specs.List.{sum_by}
 use Rattle.std.specs.List.Sorted.{IsPermutation}
 use Rattle.std.proofs.lemmas.List.Sorted.{IsPermutation-sym, sum_by-IsPermutation}
@@ -13,10 +14,10 @@ use Rattle.gql_diag.specs.List.{Diagnostics, IsStableSort}
 use Rattle.gql_diag.specs.Order.{list_order}
 use Rattle.gql_diag.specs.declared.valid.WithErrors.{WithErrors}
 use Rattle.gql_diag_messages.specs.declared.diagnostic_data.DiagnosticData.{DiagnosticData}
-use Rattle.gql_parser.specs.Diagnosed.{diagnostic, list_of}
+use Rattle.gql_parser.specs.Diagnosed.{diagnostic}
 use Rattle.gql_parser.specs.DocumentsRead as parsed
 use Rattle.gql_parser.specs.DocumentsRead.{IsDocumentStopped}
-use Rattle.gql_parser.specs.Parsers.{ParserState, fresh, its_file}
+use Rattle.gql_parser.specs.Parsers.{ParserState, fresh}
 use Rattle.gql_parser.specs.Readings.{IsSentenceWithin}
 use Rattle.gql_schema.specs.BuiltInSchema.{IsBuiltIn, built_in_sources}
 use Rattle.gql_schema.specs.Builders.{Taken, built, all_faults, nothing_taken}
@@ -27,8 +28,8 @@ use Rattle.gql_schema_rules.specs.SchemaFaults.{AreSchemaFaults, HasListedAllFau
 use Rattle.gql_schema_types.specs.declared.schema.Schema.{Schema}
 use Rattle.gql_source.specs.File.{Files, joined}
 use Rattle.gql_schema_text.specs.Answers.{IsBuildRead, IsBuiltBy, IsBuilt, IsUnbuilt, IsBuiltOf, IsReadOf, IsStoppedOf, HasTaken, IsRuled, IsSchemaRead, AreRulesBroken}
-use Rattle.gql_schema_text.specs.SchemaFaults.{SchemaFaults, no_sentence, no_build, broken, all_files, IsListOf}
-use Rattle.gql_schema_text.specs.SchemaText.{AreDefinitions, SchemaText, all_of, its_given, IsSentence}
+use Rattle.gql_schema_text.specs.SchemaFaults.{SchemaFaults, no_sentence, no_build, broken, all_files}
+use Rattle.gql_schema_text.specs.SchemaText.{AreDefinitions, all_of, its_given}
 
 -- ---- a refusal that is handed on
 
@@ -137,6 +138,13 @@ stopped text errors list s made =
     made ∙ ap (λ (e : Diagnostics). record e { sources = joined built_in_sources e.sources }) s.told in
     subst (SchemaFaults text) (sym is) (no_sentence s.error s.stops)
 
+-- ---- the built-in file
+
+pub copied : {E : Type 0} (result : Result Files E) (sources : Files) → IfOk result (λ copy. copy ≡ sources) → sources ≡ built_in_sources
+    → IfOk result (λ copy. copy ≡ built_in_sources)
+copied (Ok copy) sources is built = is ∙ built
+copied (Err e) sources is built = tt
+
 -- ---- the faults that a list has
 
 at_least : {X : Type 0} (n : ℕ) (xs : List X) → n ≤ fold (λ (a : ℕ) (x : X). a + 1) n xs
@@ -165,3 +173,11 @@ some_broken schema old list start all some sources = record {
   items = subst (λ (l : List DiagnosticData). IsStableSort list_order (l ++ all.0) list.items) start all.2;
   sources = sources;
 }
+
+pub not_empty : (b : Bool) (items : List DiagnosticData) → (items ≡ [] → b ≡ true) → b ≡ false → items ≢ []
+not_empty b items is test none = false≢true (sym test ∙ is none)
+
+-- want of memory tells nothing of the rules
+pub no_memory : (schema : Schema) (result : Result Schema (Refused Diagnostics)) → IsErrAnd result (λ f. f ≡ Memory) → IsRuled schema result
+no_memory schema (Ok made) is = absurd is
+no_memory schema (Err f) is = subst (λ (g : Refused Diagnostics). IsRuled schema (Err g)) (sym is) tt

@@ -1,4 +1,4 @@
-use Rattle.std.proofs.Common.{◌≡◌, ◌∙◌, ℕ, codes, ap, subst}
+use Rattle.std.proofs.Common.{◌∙◌, ℕ, codes, ap, subst}
 use Rattle.gql_parser.specs.DocumentsRead.{IsDocumentStopped}
 use Rattle.gql_parser.specs.Parsers.{ParserState, given_next}
 use Rattle.gql_schema_text.proofs.Phases.{is_stopped}
