@@ -3,11 +3,12 @@
 
     checks/tables.py [TABLE..]
 
-A table is a list of groups. A group says what it is about, and has the members of a request that its rows share. A row has
-a name, the members of its own request, and what comes out. With status 1 that is `refused`, a line for each error: its place
-and its message. With status 0 it is `answer`, the data of the response, and `errors`, a line for each: its place, its path
-and its message. A place is `line:column`, or `-` where there is none; a path is its keys and indices between dots; a message
-that is told as a suspected fault of validation ends in ` [suspected]`.
+A table is a list of groups. A group says what it is about, and has the members of a request that its rows share, and often
+the answer. A row has a name, the members of its own request, or `types` that stand behind the group's schema in a line of
+their own, and what comes out. With status 1 that is `refused`, a line for each error: its place and its message. With status
+0 it is `answer`, the data of the response, and `errors`, a line for each: its place, its path and its message. A place is
+`line:column`, or `-` where there is none; a path is its keys and indices between dots; a message that is told as a suspected
+fault of validation ends in ` [suspected]`.
 """
 import json
 import sys
@@ -48,22 +49,28 @@ def field_error(text):
     return error
 
 
-def wanted(row):
-    """The status of a row, and what is written."""
+def wanted(row, answer):
+    """The status of a row, and what is written, where the rows of its group have that answer unless they say otherwise."""
     if "refused" in row:
         return 1, {"errors": [refusal(text) for text in row["refused"]]}
     errors = [field_error(text) for text in row.get("errors", [])]
-    return 0, ({"errors": errors} if errors else {}) | {"data": row["answer"]}
+    return 0, ({"errors": errors} if errors else {}) | {"data": row.get("answer", answer)}
+
+
+def request_of(group, row):
+    """The request of a row."""
+    given = group["request"] | row
+    if "types" in row:
+        given["schema"] += "\n" + row["types"]
+    return {member: given[member] for member in MEMBERS if member in given}
 
 
 def rows_of(table):
     """The name, the request, the status and the output of each row of a table."""
     for group in json.loads(table.read_text(encoding="utf-8")):
         for row in group["rows"]:
-            given = group["request"] | row
-            request = {member: given[member] for member in MEMBERS if member in given}
-            status, response = wanted(row)
-            yield f"{table.stem}: {row['name']}", request, status, compact(response) + "\n"
+            status, response = wanted(row, group.get("answer"))
+            yield f"{table.stem}: {row['name']}", request_of(group, row), status, compact(response) + "\n"
 
 
 def main():
