@@ -1,5 +1,5 @@
 -- The root types of a schema are object types, and stay so.
-use Rattle.std.proofs.Common.{◌≡◌, ℕ, Bool, true, false, not, ◌&&◌, ◌||◌, cond, Option, Some, None, is_some, List, [], ◌∷◌, ◌++◌, refl, sym, ap, ◌∙◌, subst, arith}
+use Rattle.std.proofs.Common.{◌≡◌, ℕ, Bool, true, false, not, ◌&&◌, Option, Some, None, is_some, List, [], ◌∷◌, ◌++◌, refl, sym, ap, ◌∙◌, subst, arith}
 use Rattle.std.specs.Prelude.{codes, option_to_list}
 use Rattle.std.specs.List.{flat_map, list_all}
 use Rattle.std.specs.Option.{option_map_or, option_and_then}
@@ -18,10 +18,10 @@ use Rattle.gql_rules_base.specs.Known.{is_known}
 use Rattle.gql_schema.specs.BuiltInSchema.{IsBuiltIn}
 use Rattle.gql_schema.specs.Builders.{Taken, built}
 use Rattle.gql_schema_build.specs.Considered.{considered}
-use Rattle.gql_schema_build.specs.BuiltInScalarTypeRedefinition.{is_scalar, without_redefinitions}
+use Rattle.gql_schema_build.specs.BuiltInScalarTypeRedefinition.{without_redefinitions}
 use Rattle.gql_schema_build.specs.declared.built_in.BuiltIn.{BuiltIn}
 use Rattle.gql_schema_build.specs.declared.type_system.TypeSystem.{TypeSystem}
-use Rattle.gql_schema_rules.specs.Scalars.{built_in_scalars, validated, validated_types}
+use Rattle.gql_schema_rules.specs.Scalars.{built_in_scalars, validated}
 use Rattle.gql_schema_rules.specs.SchemaFaults.{AreSchemaFaults, parts_faults}
 use Rattle.gql_rules_values.specs.Directives.{directive_faults}
 use Rattle.gql_schema_rules_interfaces.specs.InterfaceRules.{interfaces_faults}

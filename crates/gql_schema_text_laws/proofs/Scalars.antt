@@ -1,9 +1,9 @@
 -- A built-in scalar is a scalar of each schema.
-use Rattle.std.proofs.Common.{◌≡◌, ℕ, Bool, true, false, cond, Option, Some, None, List, [], ◌∷◌, ◌++◌, map, fold, refl, sym, ap, ◌∙◌}
+use Rattle.std.proofs.Common.{◌≡◌, ℕ, Bool, true, false, cond, Option, Some, None, List, [], ◌∷◌, ◌++◌, map, fold, refl, ap, ◌∙◌}
 use Rattle.std.specs.List.{filter}
 use Rattle.std.specs.Option.{option_map_or, option_and_then}
 use Rattle.std.specs.Str.{bytes_eq}
-use Rattle.gql_schema_build.specs.BuiltInScalarTypeRedefinition.{is_scalar, without_redefinitions}
+use Rattle.gql_schema_build.specs.BuiltInScalarTypeRedefinition.{is_scalar}
 use Rattle.gql_schema_build.specs.Built.{built}
 use Rattle.gql_schema_build.specs.TypeTable.{all_extended, types}
 use Rattle.gql_schema_merge.specs.DefinitionNames.{definition_name}
