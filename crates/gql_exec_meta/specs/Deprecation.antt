@@ -33,8 +33,8 @@ abbrev pub text_of : Value → Option (List ℕ)
 text_of value = text_level (out-ValueKind value.kind)
 
 -- the value that a directive gives an argument
-abbrev pub given : List ℕ → Directive → Option Value
-given name directive = option_map (λ (argument : Argument). argument.value) (entry argument_name name directive.arguments)
+abbrev pub given_value : List ℕ → Directive → Option Value
+given_value name directive = option_map (λ (argument : Argument). argument.value) (entry argument_name name directive.arguments)
 
 -- the first `@deprecated`
 abbrev pub deprecated : List Directive → Option Directive
@@ -51,7 +51,7 @@ abbrev pub default_reason : Schema → Option Value
 default_reason schema = option_and_then default_in (entry definition_name (codes "deprecated") schema.directive_definitions)
 
 abbrev pub reason_of : Schema → Directive → Option (List ℕ)
-reason_of schema directive = option_and_then text_of (option_or (given (codes "reason") directive) (default_reason schema))
+reason_of schema directive = option_and_then text_of (option_or (given_value (codes "reason") directive) (default_reason schema))
 
 -- why it is deprecated: the `reason` that is given or else its default, where that is a text
 abbrev pub deprecation_reason : Schema → List Directive → Option (List ℕ)
@@ -59,7 +59,7 @@ deprecation_reason schema directives = option_and_then (reason_of schema) (depre
 
 -- the `url` that the first `@specifiedBy` gives, where it is a text
 abbrev pub url_in : Directive → Option (List ℕ)
-url_in directive = option_and_then text_of (given (codes "url") directive)
+url_in directive = option_and_then text_of (given_value (codes "url") directive)
 
 abbrev pub specified_by : List Directive → Option (List ℕ)
 specified_by directives = option_and_then url_in (entry directive_name (codes "specifiedBy") directives)

@@ -22,8 +22,8 @@ abbrev pub is_kept : Bool → List Directive → Bool
 is_kept deprecated_too directives = deprecated_too || not (is_deprecated directives)
 
 -- the objects for those of these with such directives that are kept
-abbrev pub kept : {T : Type 0} → (T → Meta) → (T → List Directive) → Members → List T → Meaning Meta
-kept shows directives_of arguments items = objects (map shows (filter (λ item. is_kept (include_deprecated arguments) (directives_of item)) items))
+abbrev pub kept : {T : Type 0} → (T → Meta) → (T → List Directive) → Bool → List T → Meaning Meta
+kept shows directives_of deprecated_too parts = objects (map shows (filter (λ part. is_kept deprecated_too (directives_of part)) parts))
 
 abbrev pub field_directives : FieldDefinition → List Directive
 field_directives field = field.directives
@@ -36,10 +36,10 @@ input_directives value = value.directives
 
 module _ (schema : Schema) (arguments : Members) where
   abbrev pub kept_fields : List FieldDefinition → Meaning Meta
-  kept_fields fields = kept (field_def schema) field_directives arguments fields
+  kept_fields fields = kept (field_def schema) field_directives (include_deprecated arguments) fields
 
   abbrev pub kept_enum_values : List EnumValueDefinition → Meaning Meta
-  kept_enum_values values = kept (enum_value_def schema) value_directives arguments values
+  kept_enum_values values = kept (enum_value_def schema) value_directives (include_deprecated arguments) values
 
   abbrev pub kept_input_values : List InputValueDefinition → Meaning Meta
-  kept_input_values values = kept (input_value_def schema) input_directives arguments values
+  kept_input_values values = kept (input_value_def schema) input_directives (include_deprecated arguments) values

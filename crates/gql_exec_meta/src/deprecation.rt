@@ -35,7 +35,7 @@ pub(crate) fn specified_by(directives: &[Directive]) -> Option<&str>
     ensures { option_copied result ≡ spec.specified_by directives.now }
 {
     match directive_called("specifiedBy", directives) {
-        Some(directive) => text_of(given("url", directive)?),
+        Some(directive) => text_of(given_value("url", directive)?),
         None => None,
     }
 }
@@ -44,7 +44,7 @@ pub(crate) fn specified_by(directives: &[Directive]) -> Option<&str>
 fn reason_of<'s>(schema: &'s Schema, directive: &'s Directive) -> Option<&'s str>
     ensures { option_copied result ≡ spec.reason_of schema.now directive.now }
 {
-    match given("reason", directive) {
+    match given_value("reason", directive) {
         Some(value) => text_of(value),
         None => text_of(default_reason(schema)?),
     }
@@ -71,8 +71,8 @@ fn default_in(definition: &DirectiveDefinition) -> Option<&Value>
 }
 
 /// The value that a directive gives an argument.
-fn given<'s>(name: &str, directive: &'s Directive) -> Option<&'s Value>
-    ensures { option_copied result ≡ spec.given name.now directive.now }
+fn given_value<'s>(name: &str, directive: &'s Directive) -> Option<&'s Value>
+    ensures { option_copied result ≡ spec.given_value name.now directive.now }
 {
     match argument_called(name, directive.arguments.as_slice()) {
         Some(argument) => Some(&argument.value),

@@ -128,18 +128,30 @@ pub(crate) fn kept<'a, T: Deprecatable>(
     schema: &'a Valid<Schema>,
     parts: &'a [T],
 ) -> Result<ResolvedValue<MetaObject<'a>>, Memory>
-    ensures { Gives result (spec.kept (T.shows schema.now) T.directives_of asked.now.arguments.now parts.now) }
+    ensures { Gives result (spec.kept (T.shows schema.now) T.directives_of (spec.include_deprecated asked.now.arguments.now) parts.now) }
 {
     let deprecated_too = include_deprecated(asked.arguments);
-    let mut items = Items::new(asked.alloc);
+    kept_parts(asked.alloc, schema, deprecated_too, parts)
+}
+
+/// The objects of those that are not deprecated, or of all of them.
+fn kept_parts<'a, T: Deprecatable>(
+    alloc: Global,
+    schema: &'a Valid<Schema>,
+    deprecated_too: bool,
+    parts: &'a [T],
+) -> Result<ResolvedValue<MetaObject<'a>>, Memory>
+    ensures { Gives result (spec.kept (T.shows schema.now) T.directives_of deprecated_too parts.now) }
+{
+    let mut items = Items::new(alloc);
     for part in parts {
-        keep(schema, deprecated_too, part, &mut items)?;
+        add_kept(schema, deprecated_too, part, &mut items)?;
     }
     Ok(items.into_list())
 }
 
 /// Adds the object of a part, if it is kept.
-fn keep<'a, T: Deprecatable>(
+fn add_kept<'a, T: Deprecatable>(
     schema: &'a Valid<Schema>,
     deprecated_too: bool,
     part: &'a T,
