@@ -4,6 +4,7 @@ ghost use Rattle.std.specs.Prelude.{◌≡◌, ◌++◌, [], ◌∷◌, OnOk, if
 ghost use Rattle.std.specs.Option.{option_copied};
 ghost use Rattle.std.specs.List.{list_any};
 ghost use Rattle.std.specs.Str.{bytes_eq};
+ghost use Rattle.gql_ast_base.specs.Names.{Named as NameSeen};
 ghost use Rattle.gql_exec_places.specs.Resolved.{gives_object};
 ghost use Rattle.gql_exec_meta.specs.Items.{answers_in};
 ghost use Rattle.gql_exec_meta.specs.Meta as meta;
@@ -17,6 +18,7 @@ use crate::leaves::{description_or_null, null_leaf, text_leaf, text_or_null};
 use crate::meta_object::MetaObject;
 use crate::named_types::named_types;
 use crate::shown::kept;
+use gql_ast_base::Name;
 use gql_diag::Valid;
 use gql_exec_resolve::ResolvedValue;
 use gql_schema_types::{ExtendedType, Named, Schema};
@@ -161,13 +163,16 @@ fn is_implementing(interface: &str, ty: &ExtendedType) -> bool
     ensures { result ≡ spec.is_implementing interface.now ty.now }
 {
     match ty {
-        ExtendedType::Object(it) => it
-            .implements_interfaces
-            .as_slice()
-            .iter()
-            .any(|name| interface == name.as_str()),
+        ExtendedType::Object(it) => is_among(interface, it.implements_interfaces.as_slice()),
         _ => false,
     }
+}
+
+/// Whether one of these is the name.
+fn is_among(name: &str, names: &[Name]) -> bool
+    ensures { result ≡ list_any (λ (other : NameSeen). bytes_eq name.now other.text) names.now }
+{
+    names.iter().any(|other| name == other.as_str())
 }
 
 /// The values of an enum, or null for another kind.
