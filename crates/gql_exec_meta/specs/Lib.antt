@@ -1,0 +1,16 @@
+pub mod Meta
+pub mod Answers
+pub mod NamedTypes
+pub mod Deprecation
+pub mod Kept
+pub mod SchemaMeta
+pub mod TypeDef
+pub mod Wrapped
+pub mod DirectiveDef
+pub mod FieldDef
+pub mod EnumValueDef
+pub mod InputValueDef
+pub mod MetaMeaning
+pub mod RootFields
+pub mod Seen
+pub mod Items

@@ -1,0 +1,12 @@
+//! What a field is asked for with.
+
+use gql_diag::JsonMap;
+use std::alloc::Global;
+
+/// The name of a field that is asked for, and its arguments.
+#[derive(Clone, Copy)]
+pub(crate) struct Asked<'i> {
+    pub(crate) alloc: Global,
+    pub(crate) field: &'i str,
+    pub(crate) arguments: &'i JsonMap,
+}

@@ -1,0 +1,78 @@
+//! A directive, as `__Directive`.
+
+ghost use Rattle.std.specs.Prelude.{◌≡◌, map};
+ghost use Rattle.gql_exec_meta.specs.Answers.{texts};
+ghost use Rattle.gql_exec_meta.specs.DirectiveDef as spec;
+ghost use Rattle.gql_exec_meta.specs.Seen.{Gives, GivesField};
+
+use crate::asked::Asked;
+use crate::items::Items;
+use crate::leaves::{description_or_null, text_leaf, truth_leaf};
+use crate::meta_object::MetaObject;
+use crate::shown::kept;
+use gql_ast_definitions::{DirectiveDefinition, DirectiveLocation};
+use gql_diag::Valid;
+use gql_exec_resolve::ResolvedValue;
+use gql_schema_types::Schema;
+use jb_text::Memory;
+use std::alloc::Global;
+
+/// A field of a directive (GraphQL October 2021, section 4.2.6).
+pub(crate) fn directive_def_field<'a>(
+    asked: &Asked<'_>,
+    schema: &'a Valid<Schema>,
+    directive: &'a DirectiveDefinition,
+) -> Result<Option<ResolvedValue<MetaObject<'a>>>, Memory>
+    ensures { GivesField result (spec.directive_row schema.now directive.now asked.now.field.now asked.now.arguments.now) }
+{
+    let alloc = asked.alloc;
+    match asked.field {
+        "name" => text_leaf(alloc, directive.name.as_str()).map(Some),
+        "description" => description_or_null(alloc, directive.description.as_ref()).map(Some),
+        "locations" => locations(alloc, directive.locations.as_slice()).map(Some),
+        "args" => kept(asked, schema, directive.arguments.as_slice()).map(Some),
+        "isRepeatable" => Ok(Some(truth_leaf(directive.repeatable))),
+        _ => Ok(None),
+    }
+}
+
+/// Where a directive may stand.
+fn locations<'a>(
+    alloc: Global,
+    locations: &[DirectiveLocation],
+) -> Result<ResolvedValue<MetaObject<'a>>, Memory>
+    ensures { Gives result (texts (map spec.location_name locations.now)) }
+{
+    let mut items = Items::new(alloc);
+    for location in locations {
+        items.push(text_leaf(alloc, location_name(*location))?)?;
+    }
+    Ok(items.into_list())
+}
+
+/// The value of `__DirectiveLocation`.
+fn location_name(location: DirectiveLocation) -> &'static str
+    ensures { result.now ≡ spec.location_name location }
+{
+    match location {
+        DirectiveLocation::Query => "QUERY",
+        DirectiveLocation::Mutation => "MUTATION",
+        DirectiveLocation::Subscription => "SUBSCRIPTION",
+        DirectiveLocation::Field => "FIELD",
+        DirectiveLocation::FragmentDefinition => "FRAGMENT_DEFINITION",
+        DirectiveLocation::FragmentSpread => "FRAGMENT_SPREAD",
+        DirectiveLocation::InlineFragment => "INLINE_FRAGMENT",
+        DirectiveLocation::VariableDefinition => "VARIABLE_DEFINITION",
+        DirectiveLocation::Schema => "SCHEMA",
+        DirectiveLocation::Scalar => "SCALAR",
+        DirectiveLocation::Object => "OBJECT",
+        DirectiveLocation::FieldDefinition => "FIELD_DEFINITION",
+        DirectiveLocation::ArgumentDefinition => "ARGUMENT_DEFINITION",
+        DirectiveLocation::Interface => "INTERFACE",
+        DirectiveLocation::Union => "UNION",
+        DirectiveLocation::Enum => "ENUM",
+        DirectiveLocation::EnumValue => "ENUM_VALUE",
+        DirectiveLocation::InputObject => "INPUT_OBJECT",
+        DirectiveLocation::InputFieldDefinition => "INPUT_FIELD_DEFINITION",
+    }
+}

@@ -1,0 +1,63 @@
+//! Leaves.
+
+ghost use Rattle.std.specs.Prelude.{◌≡◌};
+ghost use Rattle.std.specs.Option.{option_copied};
+ghost use Rattle.gql_exec_resolve.specs.Meaning.{meaning_by};
+ghost use Rattle.gql_exec_meta.specs.Answers as spec;
+ghost use Rattle.gql_exec_meta.specs.Seen.{Gives, stands_for};
+
+use crate::meta_object::MetaObject;
+use gql_exec_resolve::ResolvedValue;
+use jb_text::{Memory, Text};
+use jb_tree::Value;
+use std::alloc::Global;
+
+/// A text.
+pub(crate) fn text_leaf<'a>(
+    alloc: Global,
+    text: &str,
+) -> Result<ResolvedValue<MetaObject<'a>>, Memory>
+    ensures { Gives result (spec.text_leaf text.now) }
+{
+    Ok(ResolvedValue::Leaf(Value::from_text(alloc, text)?))
+}
+
+/// A text, or null where there is none.
+pub(crate) fn text_or_null<'a>(
+    alloc: Global,
+    text: Option<&str>,
+) -> Result<ResolvedValue<MetaObject<'a>>, Memory>
+    ensures { Gives result (spec.text_or_null (option_copied text.entry)) }
+{
+    match text {
+        Some(text) => text_leaf(alloc, text),
+        None => Ok(ResolvedValue::Leaf(Value::Null)),
+    }
+}
+
+/// A description, or null where there is none.
+pub(crate) fn description_or_null<'a>(
+    alloc: Global,
+    description: Option<&Text>,
+) -> Result<ResolvedValue<MetaObject<'a>>, Memory>
+    ensures { Gives result (spec.text_or_null (option_copied description.entry)) }
+{
+    match description {
+        Some(text) => text_leaf(alloc, text.as_str()),
+        None => Ok(ResolvedValue::Leaf(Value::Null)),
+    }
+}
+
+/// A truth value.
+pub(crate) fn truth_leaf<'a>(truth: bool) -> ResolvedValue<MetaObject<'a>>
+    ensures { meaning_by stands_for result ≡ spec.truth_leaf truth }
+{
+    ResolvedValue::Leaf(Value::Bool(truth))
+}
+
+/// Null.
+pub(crate) fn null_leaf<'a>() -> ResolvedValue<MetaObject<'a>>
+    ensures { meaning_by stands_for result ≡ spec.null_leaf }
+{
+    ResolvedValue::Leaf(Value::Null)
+}
