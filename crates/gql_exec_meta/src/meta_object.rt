@@ -29,7 +29,9 @@ use std::alloc::Global;
 #[derive(Clone, Copy)]
 pub enum MetaObject<'a> {
     /// A schema, as `__Schema`.
-    SchemaMeta { schema: &'a Valid<Schema> },
+    SchemaMeta {
+        schema: &'a Valid<Schema>,
+    },
     /// A type with a name, as `__Type`.
     TypeDef {
         schema: &'a Valid<Schema>,

@@ -22,10 +22,7 @@ use jb_text::Memory;
 use std::alloc::Global;
 
 /// The type of a name, or null where the schema has none.
-pub(crate) fn named_type<'a>(
-    schema: &'a Valid<Schema>,
-    name: &str,
-) -> ResolvedValue<MetaObject<'a>>
+pub(crate) fn named_type<'a>(schema: &'a Valid<Schema>, name: &str) -> ResolvedValue<MetaObject<'a>>
     ensures { meaning_by stands_for result ≡ spec.named_type schema.now name.now }
 {
     match schema.as_ref().types.get(name) {
