@@ -3,7 +3,7 @@ use Rattle.std.proofs.Common.{◌≡◌, ℕ, Bool, true, false, List, Option, S
 use Rattle.jb_text.specs.declared.refused.Refused.{Refused}
 use Rattle.jb_text.specs.declared.refused.Refused.TheVariants.{Fault, Memory}
 use Rattle.jb_print.specs.Compact.{compact}
-use Rattle.gql_coerce.specs.Outcome.{Outcome, told_as as outcome_told}
+use Rattle.gql_coerce.specs.Outcome.{Answers as CoercionAnswers, Outcome, told_as as outcome_told}
 use Rattle.gql_coerce.specs.Variables.{coerced_variables}
 use Rattle.gql_coerce.specs.declared.fault.CoercionFault.{CoercionFault}
 use Rattle.gql_diag.specs.RequestFault.{request_error}
@@ -100,6 +100,15 @@ module _ {X : Type 0} (types : X → List ℕ) (resolves : Resolving X) (root : 
         fails = is;
         told = ap (λ (x : RequestError). request_error x meant.document.sources) (same_err (outcome_told fault_told (Err fault)) e (fault_told fault) h refl);
       })
+
+  -- so is what is answered then
+  pub uncoerced_at : (meant : Meant w) (o : Operation) → IsChosen w meant o → (why : Refused RequestError) (answer : Refused Refusal)
+      → CoercionAnswers (outcome_told fault_told (coerced_variables meant.schema.types o.variables w.variables)) (Err why)
+      → IsOfStep kind.Variable meant.document.sources why answer → IsResponse types resolves root w (Err answer)
+  uncoerced_at meant o chosen (Fault e) (Fault r) h k = uncoerced meant o chosen (coerced_variables meant.schema.types o.variables w.variables) refl e r h k
+  uncoerced_at meant o chosen Memory (Fault r) h k = absurd k
+  uncoerced_at meant o chosen (Fault e) Memory h k = tt
+  uncoerced_at meant o chosen Memory Memory h k = tt
 
 -- ---- the call
 
