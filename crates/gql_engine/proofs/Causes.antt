@@ -1,5 +1,5 @@
 -- The causes of refusals as steps in a row.
-use Rattle.std.proofs.Common.{◌≡◌, ◌≢◌, ◌⊎◌, ℕ, true, false, List, Option, Some, None, Result, Ok, Err, IfOk, IfErr, IsErrAnd, refl, ◌∙◌, sym, ap, subst, inl, inr}
+use Rattle.std.proofs.Common.{◌≡◌, ◌≢◌, ◌⊎◌, ℕ, true, false, List, Some, None, Result, Ok, Err, IfOk, IfErr, IsErrAnd, refl, ◌∙◌, sym, ap, subst, inl, inr}
 use Rattle.jb_tree.specs.declared.value.Value.{Value}
 use Rattle.jb_tree.specs.Value.{object_members}
 use Rattle.jb_read.specs.declared.fault.ReadFault.{ReadFault}
@@ -25,7 +25,7 @@ use Rattle.gql_engine.specs.declared.answer_error.AnswerError.TheVariants as err
 use Rattle.gql_engine.specs.declared.answer_error.RequestKind.TheVariants as kind
 use Rattle.gql_engine.specs.declared.answer_error.UnbuiltPart.TheVariants.{Options}
 use Rattle.gql_engine.specs.declared.answer_error.VariablesFault.TheVariants.{Read, NotObject}
-use Rattle.gql_engine.specs.AnswerError.{Asks, AsksOptions, Call, ComesFor, HasCause, IsNoObject, IsObjectText, IsValid, wanted_with}
+use Rattle.gql_engine.specs.AnswerError.{AsksOptions, Call, ComesFor, HasCause, IsNoObject, IsObjectText, IsValid, wanted_with}
 use Rattle.gql_engine.specs.Meant.{Ready}
 use Rattle.gql_engine.specs.Unanswered.{Unanswered, no_schema, no_document, no_operation, no_variables}
 use Rattle.gql_engine.specs.Wanted.{Members, Wanted}

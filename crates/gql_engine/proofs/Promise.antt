@@ -1,10 +1,9 @@
 -- A valid request is refused for no cause.
-use Rattle.std.proofs.Common.{◌≡◌, ◌≤◌, ◌⊎◌, ℕ, zero, suc, true, false, List, ◌++◌, length, Option, Some, None, Ok, Err, refl, ◌∙◌, sym, ap, subst, inl, inr, arith, length-append, append-nil}
+use Rattle.std.proofs.Common.{◌≡◌, ◌≤◌, ◌⊎◌, ℕ, zero, suc, true, false, List, ◌++◌, length, Option, Some, None, refl, ◌∙◌, sym, ap, subst, inl, inr, arith, length-append, append-nil}
 use Rattle.std.specs.Option.{IsSomeAnd}
 use Rattle.jb_io.specs.Sink.{Told}
 use Rattle.jb_io.specs.Source.{ReadsWhole, GivesMore}
 use Rattle.jb_serve.specs.Run.{Serves}
-use Rattle.jb_tree.specs.declared.value.Value.{Value}
 use Rattle.gql_response.specs.declared.graphql_error.GraphQLError.{GraphQLError}
 use Rattle.gql_engine.specs.declared.task.Task.{Task}
 use Rattle.gql_engine.specs.declared.task.Task.TheVariants.{Answer}

@@ -1,14 +1,14 @@
 -- What is answered to what is wanted, step by step.
-use Rattle.std.proofs.Common.{◌≡◌, ℕ, Bool, true, false, List, Option, Some, None, Result, Ok, Err, IfOk, IfErr, codes, refl, sym, ap, subst}
+use Rattle.std.proofs.Common.{◌≡◌, ℕ, List, Option, Some, None, Result, Ok, Err, IfOk, IfErr, refl, sym, ap, subst}
 use Rattle.jb_text.specs.declared.refused.Refused.{Refused}
 use Rattle.jb_text.specs.declared.refused.Refused.TheVariants.{Fault, Memory}
 use Rattle.jb_print.specs.Compact.{compact}
-use Rattle.gql_coerce.specs.Outcome.{Outcome, told_as as outcome_told}
+use Rattle.gql_coerce.specs.Outcome.{Answers as CoercionAnswers, Outcome, told_as as outcome_told}
 use Rattle.gql_coerce.specs.Variables.{coerced_variables}
 use Rattle.gql_coerce.specs.declared.fault.CoercionFault.{CoercionFault}
 use Rattle.gql_diag.specs.RequestFault.{request_error}
 use Rattle.gql_diag.specs.declared.request_error.RequestError.{RequestError}
-use Rattle.gql_document_types.specs.ChosenOperation.{chosen, refusal, why_none, IsChosen as IsChosenAnswer}
+use Rattle.gql_document_types.specs.ChosenOperation.{chosen, IsChosen as IsChosenAnswer}
 use Rattle.gql_document_types.specs.declared.document.ExecutableDocument.{ExecutableDocument}
 use Rattle.gql_document_types.specs.declared.operation.Operation.{Operation}
 use Rattle.gql_exec_request.specs.Execution.{Answers as ExecutionAnswers, IsAnswer as IsExecutionAnswer, Prepared, on_root, started, undefined_root, with_operation, with_values}
@@ -19,7 +19,6 @@ use Rattle.gql_exec_variables.specs.RequestErrors.{request_error as fault_told}
 use Rattle.gql_exec_world.specs.Response.{IsExecuted, IsExplained}
 use Rattle.gql_response.specs.Response.{response_value}
 use Rattle.gql_response.specs.declared.execution_response.ExecutionResponse.{ExecutionResponse}
-use Rattle.gql_response.specs.declared.graphql_error.GraphQLError.{GraphQLError}
 use Rattle.gql_schema_types.specs.Schemas.{object_of}
 use Rattle.gql_schema_types.specs.declared.schema.Schema.{Schema}
 use Rattle.gql_schema_types.specs.declared.types.ObjectType.{ObjectType}
@@ -28,14 +27,13 @@ use Rattle.gql_engine.specs.declared.answer_error.AnswerError.{AnswerError}
 use Rattle.gql_engine.specs.declared.answer_error.AnswerError.TheVariants as error
 use Rattle.gql_engine.specs.declared.answer_error.RequestKind.TheVariants as kind
 use Rattle.gql_engine.specs.declared.answer_error.UnbuiltPart.TheVariants.{Options}
-use Rattle.gql_engine.specs.declared.answer_error.VariablesFault.TheVariants.{Read, NotObject}
 use Rattle.gql_engine.specs.declared.refusal.Refusal.{Refusal}
 use Rattle.gql_engine.specs.declared.refusal.Refusal.TheVariants as refused
-use Rattle.gql_engine.specs.AnswerError.{Asks, Call, HasCause, IsObjectText, IsUnread, wanted_with}
-use Rattle.gql_engine.specs.Answered.{Answered, IsExecutionOf}
+use Rattle.gql_engine.specs.AnswerError.{Asks, Call, HasCause, IsObjectText, wanted_with}
+use Rattle.gql_engine.specs.Answered.{IsExecutionOf}
 use Rattle.gql_engine.specs.Answering.{Answers}
 use Rattle.gql_engine.specs.Meant.{IsChosen, Meant, Ready}
-use Rattle.gql_engine.specs.Responding.{HasCauseOf, IsAnswer, IsCause, IsOfStep, IsResponse, told, told_as}
+use Rattle.gql_engine.specs.Responding.{HasCauseOf, IsAnswer, IsCause, IsOfStep, IsResponse, told}
 use Rattle.gql_engine.specs.Unanswered.{Unanswered, no_schema, no_document, no_operation, no_variables}
 use Rattle.gql_engine.specs.Wanted.{Members, Wanted}
 use Rattle.gql_engine.proofs.Results.{same_ok, same_err, ok_or_err}
@@ -101,29 +99,18 @@ module _ {X : Type 0} (types : X → List ℕ) (resolves : Resolving X) (root : 
         told = ap (λ (x : RequestError). request_error x meant.document.sources) (same_err (outcome_told fault_told (Err fault)) e (fault_told fault) h refl);
       })
 
+  -- so is what is answered then
+  pub uncoerced_at : (meant : Meant w) (o : Operation) → IsChosen w meant o → (why : Refused RequestError) (answer : Refused Refusal)
+      → CoercionAnswers (outcome_told fault_told (coerced_variables meant.schema.types o.variables w.variables)) (Err why)
+      → IsOfStep kind.Variable meant.document.sources why answer → IsResponse types resolves root w (Err answer)
+  uncoerced_at meant o chosen (Fault e) (Fault r) h k = uncoerced meant o chosen (coerced_variables meant.schema.types o.variables w.variables) refl e r h k
+  uncoerced_at meant o chosen Memory (Fault r) h k = absurd k
+  uncoerced_at meant o chosen (Fault e) Memory h k = tt
+  uncoerced_at meant o chosen Memory Memory h k = tt
+
 -- ---- the call
 
--- the cause of a refusal, as callers are told it
-pub cause_told : (w : Wanted) (introspection : Bool) → introspection ≡ false → (r : Refusal) → IsCause w r → HasCauseOf w introspection (told_as r)
-cause_told w i off (refused.Schema list) h = (off, h)
-cause_told w i off (refused.Document list) h = (off, h)
-cause_told w i off (refused.Request step e sources) h = (off, h)
-
-pub unread : (call : Call) (e : AnswerError) → IsUnread call.variables e → HasCause call e
-unread call (error.Variables (Read fault)) h = h
-unread call (error.Variables NotObject) h = absurd h
-unread call (error.Unbuilt part) h = absurd h
-unread call (error.Schema list) h = absurd h
-unread call (error.Document list) h = absurd h
-unread call (error.Request step e) h = absurd h
-unread call error.Memory h = tt
-
 module _ {X : Type 0} (types : X → List ℕ) (resolves : Resolving X) (root : X) (call : Call) (members : Members) (object : IsObjectText call.variables members) where
-  pub answered_by : (result : Result (List ℕ) AnswerError) → IsAnswer types resolves root (wanted_with call members) call.introspection result
-      → IfOk result (Answers types resolves root call)
-  answered_by (Ok bytes) h = record { members = members; object = object; asked = h.0; holds = h.1 }
-  answered_by (Err e) h = tt
-
   has_cause : (e : AnswerError) → HasCauseOf (wanted_with call members) call.introspection e → HasCause call e
   has_cause (error.Variables fault) h = absurd h
   has_cause (error.Unbuilt Options) h = record { members = members; object = object; asked = h }

@@ -1,21 +1,15 @@
--- A chosen operation of a document that a text means begins at an object type, and so its execution is refused for nothing.
-use Rattle.std.proofs.Common.{◌≡◌, ℕ, Bool, true, false, cond, List, [], ◌∷◌, Option, Some, None, is_some, Ok, Err, refl, subst}
+-- A chosen operation of a document that a text means begins at an object type.
+use Rattle.std.proofs.Common.{◌≡◌, ℕ, Bool, true, false, cond, List, [], ◌∷◌, Option, Some, None, is_some, refl, subst}
 use Rattle.std.specs.List.{All, find}
 use Rattle.std.proofs.lemmas.List.Elements.{All-head, All-tail}
-use Rattle.std.specs.Borrow.{Bor}
-use Rattle.gql_diag.specs.declared.request_error.RequestError.{RequestError}
 use Rattle.gql_document_text.specs.Running.{AreOnRoots, IsOnRoot}
 use Rattle.gql_document_types.specs.ChosenOperation.{chosen, has_name}
 use Rattle.gql_document_types.specs.declared.document.ExecutableDocument.{ExecutableDocument}
 use Rattle.gql_document_types.specs.declared.operation.Operation.{Operation}
-use Rattle.gql_exec_request.specs.Execution.{on_root, undefined_root}
-use Rattle.gql_exec_request.specs.declared.execution.Given.TheVariants.{Coerced}
 use Rattle.gql_schema_text_laws.specs.Roots.{AreRootsObjects}
 use Rattle.gql_schema_types.specs.Schemas.{object_of}
 use Rattle.gql_schema_types.specs.declared.schema.Schema.{Schema}
-use Rattle.gql_schema_types.specs.declared.types.ObjectType.{ObjectType}
-use Rattle.gql_engine.specs.Wanted.{Members}
-use Rattle.gql_engine.proofs.Results.{same_some, some_or_none, ok_or_err}
+use Rattle.gql_engine.proofs.Results.{same_some, some_or_none}
 
 by_test : {X : Type 0} (P : X → Type 0) (y x : X) (rest : Option X) (b : Bool) → P y → (rest ≡ Some x → P x) → cond b (Some y) rest ≡ Some x → P x
 by_test P y x rest true p q h = subst P (same_some (Some y) y x refl h) p
@@ -34,9 +28,3 @@ chosen_holds P None (first ∷ second ∷ others) o all h = absurd (some_or_none
 pub rooted : (S : Schema) (Q : ExecutableDocument) (name : Option (List ℕ)) (o : Operation) → AreRootsObjects S → AreOnRoots S Q → chosen name Q.operations ≡ Some o
     → is_some (object_of S o.selection_set.ty.text) ≡ true
 rooted S Q name o roots on h = roots o.operation_type o.selection_set.ty (chosen_holds (IsOnRoot S) name Q.operations o on h)
-
-pub never_refused : (S : Schema) (o : Operation) (values : Bor Members) (found : Option ObjectType) (fault : RequestError) → is_some found ≡ true
-    → on_root S (Coerced values) o found ≡ Err fault → ⊥
-never_refused S o values None fault rooted h = let f : false ≡ true = rooted in cc f
-never_refused S o values (Some T) fault rooted h =
-    ok_or_err (on_root S (Coerced values) o (Some T)) (record { operation = o; root = T; variables = values.now }) fault refl h
