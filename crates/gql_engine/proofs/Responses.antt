@@ -120,6 +120,11 @@ module _ {X : Type 0} (types : X → List ℕ) (resolves : Resolving X) (root : 
   has_cause (error.Request kind.Variable e) h = record { members = members; object = object; asked = h.0; holds = h.1 }
   has_cause error.Memory h = tt
 
+  pub answered_by : (result : Result (List ℕ) AnswerError) → IsAnswer types resolves root (wanted_with call members) call.introspection result
+      → IfOk result (Answers types resolves root call)
+  answered_by (Ok bytes) h = record { members = members; object = object; asked = h.0; holds = h.1 }
+  answered_by (Err e) h = tt
+
   pub refused_by : (result : Result (List ℕ) AnswerError) → IsAnswer types resolves root (wanted_with call members) call.introspection result
       → IfErr result (HasCause call)
   refused_by (Ok bytes) h = tt
