@@ -14,6 +14,7 @@ pub enum Library {
 
 impl ObjectValue for Library {
     ghost use Rattle.example_resolver.specs.Library.{type_of, field_of};
+    ghost use Rattle.example_resolver.specs.declared.library.Library.{Library};
     ghost use Rattle.gql_engine.specs.Resolving.{itself};
 
     ghost Seen = { Library };
