@@ -17,7 +17,6 @@ use Rattle.gql_rules_fragments.specs.WayRound.{first_recursive}
 use Rattle.gql_rules_graph.specs.Cycles.{AreMarked}
 use Rattle.gql_rules_graph.specs.Flooding.{has}
 use Rattle.gql_rules_graph.specs.Graph.{Graph}
-use Rattle.gql_rules_variables.specs.UndefinedVariable.{first_variables}
 use Rattle.gql_rules_variables.specs.UnusedVariable.{unused_variables}
 use Rattle.gql_rules_variables.specs.Uses.{Use, operation_uses, fragment_uses}
 use Rattle.gql_rules_variables.specs.VariableFaults.{AreVariableFaults, IsReach, Reach, fragments_faults, operation_faults, reached_uses, reaching, use_faults}
@@ -131,7 +130,7 @@ module _ (schema : Schema) where
 
   operation_same : (fragments : List Fragment) (x y : Reach) → SameReach x y → operation_faults schema fragments x ≡ operation_faults schema fragments y
   operation_same fragments x y s =
-      ap₂ (λ (o : Operation) (us : List Use). flat_map (use_faults (o ∷ [])) (operation_uses schema o) ++ unused_variables (operation_uses schema o ++ us) (first_variables o.variables))
+      ap₂ (λ (o : Operation) (us : List Use). flat_map (use_faults schema (o ∷ [])) (operation_uses schema o) ++ unused_variables (operation_uses schema o ++ us) o.variables)
       s.operation (reached_uses_same x.states y.states s.states 0 fragments)
 
   operations_same : (fragments : List Fragment) (xs ys : List Reach) → AllSame xs ys → flat_map (operation_faults schema fragments) xs ≡ flat_map (operation_faults schema fragments) ys
@@ -144,7 +143,7 @@ module _ (schema : Schema) where
   fragments_same : (xs ys : List Reach) → ((v : ℕ) → reaching xs v ≡ reaching ys v) → (v : ℕ) (fragments : List Fragment) → fragments_faults schema xs v fragments ≡ fragments_faults schema ys v fragments
   fragments_same xs ys e v [] = refl
   fragments_same xs ys e v (fragment ∷ fragments) =
-      ap₂ (λ (os : List Operation) (l : List DiagnosticData). flat_map (use_faults os) (fragment_uses schema fragment) ++ l) (e v) (fragments_same xs ys e (v + 1) fragments)
+      ap₂ (λ (os : List Operation) (l : List DiagnosticData). flat_map (use_faults schema os) (fragment_uses schema fragment) ++ l) (e v) (fragments_same xs ys e (v + 1) fragments)
 
 one_kept : (b : Bool) (x : Reach) (xs : List Reach) → map its_operation (cond b (x ∷ xs) xs) ≡ cond b (x.operation ∷ map its_operation xs) (map its_operation xs)
 one_kept true x xs = refl

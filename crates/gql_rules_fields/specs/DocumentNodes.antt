@@ -14,6 +14,7 @@ use Rattle.gql_document_types.specs.declared.document.ExecutableDocument.{Execut
 use Rattle.gql_document_types.specs.declared.fragment.Fragment.{Fragment}
 use Rattle.gql_document_types.specs.declared.selection.Field.{Field}
 use Rattle.gql_document_types.specs.declared.selection.InlineFragment.{InlineFragment}
+use Rattle.gql_rules_base.specs.declared.known.Defined.TheVariants.{Types}
 use Rattle.gql_rules_nodes.specs.Nodes.{Node, operation, fragment, field, spread, inline_fragment, nodes}
 use Rattle.gql_rules_nodes.specs.Nodes.{OperationNode, FragmentNode, FieldNode, SpreadNode, InlineNode}
 use Rattle.gql_rules_values.specs.Arguments.{argument_faults}
@@ -41,7 +42,7 @@ module _ (types : List ExtendedType) (parent : Named) where
 
 module _ (schema : Schema) where
   abbrev pub directives_at : DirectiveLocation → List Directive → List DiagnosticData
-  directives_at location directives = directive_faults schema.types location schema.directive_definitions directives
+  directives_at location directives = directive_faults Types schema.types location schema.directive_definitions directives
 
   abbrev pub operation_faults : OperationNode → List DiagnosticData
   operation_faults node = directives_at (operation_location node.operation_type) node.directives ++ variables_faults schema node.variables
@@ -51,12 +52,12 @@ module _ (schema : Schema) where
 
   -- the arguments of a field
   abbrev pub arguments_at : Field → List DiagnosticData
-  arguments_at it = argument_faults schema.types false it.name.text it.location it.definition.arguments it.arguments
+  arguments_at it = argument_faults Types schema.types false it.name.text it.location it.definition.arguments it.arguments
 
   abbrev pub field_faults : FieldNode → List DiagnosticData
   field_faults node =
       directives_at at.Field node.directives
-      ++ (argument_faults schema.types false node.name.text node.location node.definition.arguments node.arguments
+      ++ (argument_faults Types schema.types false node.name.text node.location node.definition.arguments node.arguments
       ++ missing_subselection schema.types node)
 
   abbrev pub spread_faults : List Fragment → SpreadNode → List DiagnosticData

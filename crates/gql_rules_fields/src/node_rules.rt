@@ -14,6 +14,7 @@ use gql_ast_definitions::DirectiveLocation;
 use gql_ast_values::Directive;
 use gql_diag_messages::DiagnosticData;
 use gql_document_types::{Field, Fragment, FragmentSpread, InlineFragment, Operation};
+use gql_rules_base::Defined;
 use gql_rules_nodes::Visitor;
 use gql_rules_values::{Call, list_arguments, list_directives};
 use gql_schema_types::Table;
@@ -132,6 +133,7 @@ impl NodeRules<'_> {
     {
         list_directives(
             self.alloc,
+            Defined::Types,
             self.possible.schema,
             location,
             directives.as_slice(),
@@ -154,6 +156,7 @@ impl NodeRules<'_> {
         };
         list_arguments(
             self.alloc,
+            Defined::Types,
             &self.possible.schema.types,
             &call,
             field.definition.arguments.as_slice(),

@@ -11,6 +11,7 @@ use Rattle.gql_ast_values.specs.declared.value.ValueKind.TheOpen.{ValueKind-F}
 use Rattle.gql_ast_values.specs.declared.value.ValueKind.TheVariants as kind
 use Rattle.gql_diag_messages.specs.declared.diagnostic_data.DiagnosticData.{DiagnosticData}
 use Rattle.gql_rules_base.specs.TypeShape.{item_type}
+use Rattle.gql_rules_base.specs.declared.known.Defined.{Defined}
 use Rattle.gql_rules_values.specs.Literals.{node_faults, literal_faults}
 use Rattle.gql_rules_values.specs.Typed.{Typed, Nodes, typed, inside, items_level, members_level, items_of, members_of, of_items, of_members, member_type}
 use Rattle.gql_schema_types.specs.declared.types.ExtendedType.{ExtendedType}
@@ -23,7 +24,7 @@ flat_map-twice : {A B C : Type 0} (f : B → List C) (g : A → List B) (xs : Li
 flat_map-twice f g [] = refl
 flat_map-twice f g (x ∷ xs) = flat_map-append f (g x) (flat_map g xs) ∙ ap (λ l. flat_map f (g x) ++ l) (flat_map-twice f g xs)
 
-module _ (types : List ExtendedType) where
+module _ (defined : Defined) (types : List ExtendedType) where
   -- the nodes of one value, which is given again
   abbrev of_value : Value → Nodes
   of_value value ty literal = record { ty = ty; literal = literal } ∷ inside types value.kind ty literal
@@ -57,38 +58,38 @@ module _ (types : List ExtendedType) where
   members-Object members = search (rules, the_lemmas)
 
   split : (ty : Option TypeRef) (literal : Value) (nodes : List Typed) → inside types literal.kind ty literal ≡ nodes
-      → literal_faults types ty literal ≡ node_faults types (record { ty = ty; literal = literal }) ++ flat_map (node_faults types) nodes
-  split ty literal nodes is = ap (flat_map (node_faults types)) (unfolding_typed ty literal) ∙ ap (λ l. node_faults types (record { ty = ty; literal = literal }) ++ flat_map (node_faults types) l) is
+      → literal_faults defined types ty literal ≡ node_faults defined types (record { ty = ty; literal = literal }) ++ flat_map (node_faults defined types) nodes
+  split ty literal nodes is = ap (flat_map (node_faults defined types)) (unfolding_typed ty literal) ∙ ap (λ l. node_faults defined types (record { ty = ty; literal = literal }) ++ flat_map (node_faults defined types) l) is
 
   -- what is wrong with a list: with itself, and with each item
   pub at-List : (ty : Option TypeRef) (literal : Value) (items : List Value) → literal.kind ≡ ListKind items
-      → literal_faults types ty literal ≡ node_faults types (record { ty = ty; literal = literal }) ++ flat_map (literal_faults types (option_and_then item_type ty)) items
+      → literal_faults defined types ty literal ≡ node_faults defined types (record { ty = ty; literal = literal }) ++ flat_map (literal_faults defined types (option_and_then item_type ty)) items
   at-List ty literal items is =
       let t = option_and_then item_type ty in
       let within : items_of literal ≡ items = ap (λ k. items_level (out-ValueKind k)) is ∙ items-List items in
       let nodes : inside types literal.kind ty literal ≡ flat_map (typed types t) items =
       ap (λ k. inside types k ty literal) is ∙ inside-List items ty literal ∙ ap (of_items (map of_value items) t) within ∙ items_nodes t items in
       split ty literal (flat_map (typed types t) items) nodes
-      ∙ ap (λ l. node_faults types (record { ty = ty; literal = literal }) ++ l) (flat_map-twice (node_faults types) (typed types t) items)
+      ∙ ap (λ l. node_faults defined types (record { ty = ty; literal = literal }) ++ l) (flat_map-twice (node_faults defined types) (typed types t) items)
 
   -- what is wrong with an object: with itself, and with the value of each pair
   pub at-Object : (ty : Option TypeRef) (literal : Value) (members : List (Named × Value)) → literal.kind ≡ ObjectKind members
-      → literal_faults types ty literal
-      ≡ node_faults types (record { ty = ty; literal = literal }) ++ flat_map (λ member. literal_faults types (option_and_then (member_type types member.0.text) ty) member.1) members
+      → literal_faults defined types ty literal
+      ≡ node_faults defined types (record { ty = ty; literal = literal }) ++ flat_map (λ member. literal_faults defined types (option_and_then (member_type types member.0.text) ty) member.1) members
   at-Object ty literal members is =
       let f = λ (key : List ℕ). option_and_then (member_type types key) ty in
       let within : members_of literal ≡ members = ap (λ k. members_level (out-ValueKind k)) is ∙ members-Object members in
       let nodes : inside types literal.kind ty literal ≡ flat_map (λ (member : Named × Value). typed types (f member.0.text) member.1) members =
       ap (λ k. inside types k ty literal) is ∙ inside-Object members ty literal ∙ ap (of_members (of_pairs members) f) within ∙ members_nodes f members in
       split ty literal (flat_map (λ (member : Named × Value). typed types (f member.0.text) member.1) members) nodes
-      ∙ ap (λ l. node_faults types (record { ty = ty; literal = literal }) ++ l) (flat_map-twice (node_faults types) (λ (member : Named × Value). typed types (f member.0.text) member.1) members)
+      ∙ ap (λ l. node_faults defined types (record { ty = ty; literal = literal }) ++ l) (flat_map-twice (node_faults defined types) (λ (member : Named × Value). typed types (f member.0.text) member.1) members)
 
   -- what is wrong with a value that has none inside
   abbrev Single : ValueKind → Type 0
-  Single k = (ty : Option TypeRef) (literal : Value) → literal.kind ≡ k → literal_faults types ty literal ≡ node_faults types (record { ty = ty; literal = literal })
+  Single k = (ty : Option TypeRef) (literal : Value) → literal.kind ≡ k → literal_faults defined types ty literal ≡ node_faults defined types (record { ty = ty; literal = literal })
 
   alone : (k : ValueKind) → ((ty : Option TypeRef) (literal : Value) → inside types k ty literal ≡ []) → Single k
-  alone k none ty literal is = split ty literal [] (ap (λ k. inside types k ty literal) is ∙ none ty literal) ∙ append-nil (node_faults types (record { ty = ty; literal = literal }))
+  alone k none ty literal is = split ty literal [] (ap (λ k. inside types k ty literal) is ∙ none ty literal) ∙ append-nil (node_faults defined types (record { ty = ty; literal = literal }))
 
   pub at-Null : Single kind.Null
   at-Null = alone kind.Null (λ ty literal. search (rules, the_lemmas))

@@ -1,5 +1,5 @@
 -- The rules on literals: section 5.6 of GraphQL October 2021.
-use Rattle.std.specs.Prelude.{ℕ, Option, List, [], ◌++◌}
+use Rattle.std.specs.Prelude.{ℕ, Option, List, [], ◌++◌, if◌then◌else◌}
 use Rattle.std.specs.List.{flat_map}
 use Rattle.std.specs.Option.{option_map_or}
 use Rattle.gql_ast_values.specs.declared.type_ref.TypeRef.{TypeRef}
@@ -7,7 +7,9 @@ use Rattle.gql_ast_values.specs.declared.value.Value.{Value}
 use Rattle.gql_ast_values.specs.declared.value.ValueKind.{ValueKind, out-ValueKind}
 use Rattle.gql_ast_values.specs.declared.value.ValueKind.TheOpen.{ValueKind-F}
 use Rattle.gql_diag_messages.specs.declared.diagnostic_data.DiagnosticData.{DiagnosticData}
+use Rattle.gql_rules_base.specs.Known.{is_defined}
 use Rattle.gql_rules_base.specs.TypeShape.{named_type}
+use Rattle.gql_rules_base.specs.declared.known.Defined.{Defined}
 use Rattle.gql_rules_values.specs.IntCoercionError.{int_coercion_error}
 use Rattle.gql_rules_values.specs.RequiredField.{required_fields}
 use Rattle.gql_rules_values.specs.Typed.{Typed, typed}
@@ -38,8 +40,13 @@ module _ (types : List ExtendedType) where
   at_type literal ty =
       unsupported_value_type types ty literal ++ (int_coercion_error types ty literal ++ (undefined_enum_value types ty literal ++ keys ty literal))
 
+module _ (defined : Defined) (types : List ExtendedType) where
+  -- nothing is asked where the type is not defined
+  abbrev pub at_defined : Value → TypeRef → List DiagnosticData
+  at_defined literal ty = if is_defined defined types (named_type ty).text then at_type types literal ty else []
+
   abbrev pub node_faults : Typed → List DiagnosticData
-  node_faults node = unique_keys node.literal ++ option_map_or (at_type node.literal) node.ty []
+  node_faults node = unique_keys node.literal ++ option_map_or (at_defined node.literal) node.ty []
 
   -- what is wrong with a literal and with the values inside it
   abbrev pub literal_faults : Option TypeRef → Value → List DiagnosticData

@@ -1,4 +1,4 @@
--- What the values of types are: section 3.4 of GraphQL October 2021. Nothing is asked of values of a type that is not defined.
+-- What the values of types are: section 3.4 of GraphQL October 2021. A built-in scalar that is not among the types has its values all the same.
 use Rattle.std.specs.Prelude.{ℕ, Bool, true, false, ◌||◌, not, List, Option, Some, None, is_some, if◌then◌else◌, codes}
 use Rattle.std.specs.Option.{option_map_or}
 use Rattle.std.specs.Str.{bytes_eq}
@@ -9,7 +9,6 @@ use Rattle.gql_ast_values.specs.declared.value.ValueKind.TheOpen.{ValueKind-F}
 use Rattle.gql_schema_types.specs.Types.{type_called}
 use Rattle.gql_schema_types.specs.declared.types.ExtendedType.{ExtendedType}
 use Rattle.gql_schema_types.specs.declared.types.ExtendedType.TheVariants as type
-use Rattle.gql_rules_base.specs.Known.{is_known}
 use Rattle.gql_rules_base.specs.TypeShape.{named_type, item_type, is_non_null}
 use Rattle.gql_rules_values.specs.declared.value_types.ValueForm.{ValueForm}
 use Rattle.gql_rules_values.specs.declared.value_types.ValueForm.TheVariants as form
@@ -81,7 +80,7 @@ accepts types name form = option_map_or (λ ty. type_accepts ty name form) (type
 
 -- a value that is written so may stand at the type; a single value may stand for a list
 abbrev pub fits : List ExtendedType → TypeRef → ValueForm → Bool
-fits types ty form.Null = not (is_non_null ty) || not (is_known types (named_type ty).text)
+fits types ty form.Null = not (is_non_null ty)
 fits types ty form.Variable = true
 fits types ty form.List = is_some (item_type ty) || accepts types (named_type ty).text form.List
 fits types ty form = accepts types (named_type ty).text form

@@ -11,6 +11,7 @@ use crate::unique_argument::list_unique_argument;
 use gql_ast_definitions::InputValueDefinition;
 use gql_ast_values::Argument;
 use gql_diag_messages::DiagnosticData;
+use gql_rules_base::Defined;
 use gql_schema_types::{ExtendedType, Table};
 use gql_source::SourceSpan;
 use jb_text::{Listed, Memory};
@@ -28,6 +29,7 @@ pub struct Call<'s> {
 /// want of memory.
 pub fn list_arguments(
     alloc: Global,
+    counted: Defined,
     types: &Table<ExtendedType>,
     call: &Call<'_>,
     definitions: &[InputValueDefinition],
@@ -35,39 +37,49 @@ pub fn list_arguments(
     faults: &mut Listed<DiagnosticData>,
 ) -> Result<(), Memory>
     ensures { OnOk result (faults.new
-        ≡ faults.old ++ spec.argument_faults types.now call.now.directive call.now.name.now call.now.location definitions.now arguments.now) }
+        ≡ faults.old ++ spec.argument_faults counted types.now call.now.directive call.now.name.now call.now.location definitions.now arguments.now) }
 {
     list_unique_argument(alloc, arguments, faults)?;
-    list_each(alloc, types, call.name, definitions, arguments, faults)?;
+    list_each(
+        alloc,
+        counted,
+        types,
+        call.name,
+        definitions,
+        arguments,
+        faults,
+    )?;
     list_required_arguments(alloc, call, arguments, definitions, faults)
 }
 
 /// Lists what is wrong with arguments of which none is known. `Err` only for want of memory.
 pub(crate) fn list_unknown_arguments(
     alloc: Global,
+    counted: Defined,
     types: &Table<ExtendedType>,
     arguments: &[Argument],
     faults: &mut Listed<DiagnosticData>,
 ) -> Result<(), Memory>
-    ensures { OnOk result (faults.new ≡ faults.old ++ spec.unknown_argument_faults types.now arguments.now) }
+    ensures { OnOk result (faults.new ≡ faults.old ++ spec.unknown_argument_faults counted types.now arguments.now) }
 {
     list_unique_argument(alloc, arguments, faults)?;
-    list_each_unknown(alloc, types, arguments, faults)
+    list_each_unknown(alloc, counted, types, arguments, faults)
 }
 
 /// Lists what is wrong with each argument by itself.
 fn list_each(
     alloc: Global,
+    counted: Defined,
     types: &Table<ExtendedType>,
     name: &str,
     definitions: &[InputValueDefinition],
     arguments: &[Argument],
     faults: &mut Listed<DiagnosticData>,
 ) -> Result<(), Memory>
-    ensures { OnOk result (faults.new ≡ faults.old ++ flat_map (spec.one_argument types.now name.now definitions.now) arguments.now) }
+    ensures { OnOk result (faults.new ≡ faults.old ++ flat_map (spec.one_argument counted types.now name.now definitions.now) arguments.now) }
 {
     for argument in arguments {
-        list_argument(alloc, types, name, definitions, argument, faults)?;
+        list_argument(alloc, counted, types, name, definitions, argument, faults)?;
     }
     Ok(())
 }
@@ -75,32 +87,41 @@ fn list_each(
 /// Lists what is wrong with an argument by itself.
 fn list_argument(
     alloc: Global,
+    counted: Defined,
     types: &Table<ExtendedType>,
     name: &str,
     definitions: &[InputValueDefinition],
     argument: &Argument,
     faults: &mut Listed<DiagnosticData>,
 ) -> Result<(), Memory>
-    ensures { OnOk result (faults.new ≡ faults.old ++ spec.one_argument types.now name.now definitions.now argument.now) }
+    ensures { OnOk result (faults.new ≡ faults.old ++ spec.one_argument counted types.now name.now definitions.now argument.now) }
 {
     list_undefined_argument(alloc, name, definitions, argument, faults)?;
     match defined(definitions, argument.name.as_str()) {
-        Some(definition) => list_literal(alloc, types, &argument.value, &definition.ty, faults),
-        None => list_untyped(alloc, types, &argument.value, faults),
+        Some(definition) => list_literal(
+            alloc,
+            counted,
+            types,
+            &argument.value,
+            &definition.ty,
+            faults,
+        ),
+        None => list_untyped(alloc, counted, types, &argument.value, faults),
     }
 }
 
 /// Lists what is wrong with the values of arguments of which none is known.
 fn list_each_unknown(
     alloc: Global,
+    counted: Defined,
     types: &Table<ExtendedType>,
     arguments: &[Argument],
     faults: &mut Listed<DiagnosticData>,
 ) -> Result<(), Memory>
-    ensures { OnOk result (faults.new ≡ faults.old ++ flat_map (spec.unknown_argument types.now) arguments.now) }
+    ensures { OnOk result (faults.new ≡ faults.old ++ flat_map (spec.unknown_argument counted types.now) arguments.now) }
 {
     for argument in arguments {
-        list_untyped(alloc, types, &argument.value, faults)?;
+        list_untyped(alloc, counted, types, &argument.value, faults)?;
     }
     Ok(())
 }

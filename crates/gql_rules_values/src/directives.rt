@@ -11,6 +11,7 @@ use crate::unsupported_location::list_unsupported_location;
 use gql_ast_definitions::{DirectiveDefinition, DirectiveLocation};
 use gql_ast_values::Directive;
 use gql_diag_messages::DiagnosticData;
+use gql_rules_base::Defined;
 use gql_schema_types::{ExtendedType, Schema, Table};
 use jb_text::{Listed, Memory};
 use std::alloc::Global;
@@ -19,31 +20,33 @@ use std::alloc::Global;
 /// memory.
 pub fn list_directives(
     alloc: Global,
+    defined: Defined,
     schema: &Schema,
     location: DirectiveLocation,
     directives: &[Directive],
     faults: &mut Listed<DiagnosticData>,
 ) -> Result<(), Memory>
     ensures { OnOk result (faults.new
-        ≡ faults.old ++ spec.directive_faults schema.now.types location schema.now.directive_definitions directives.now) }
+        ≡ faults.old ++ spec.directive_faults defined schema.now.types location schema.now.directive_definitions directives.now) }
 {
     list_unique_directive(alloc, &schema.directive_definitions, directives, faults)?;
-    list_uses(alloc, schema, location, directives, faults)
+    list_uses(alloc, defined, schema, location, directives, faults)
 }
 
 /// Lists what is wrong with each use by itself.
 fn list_uses(
     alloc: Global,
+    defined: Defined,
     schema: &Schema,
     location: DirectiveLocation,
     directives: &[Directive],
     faults: &mut Listed<DiagnosticData>,
 ) -> Result<(), Memory>
     ensures { OnOk result (faults.new
-        ≡ faults.old ++ flat_map (spec.use_faults schema.now.types location schema.now.directive_definitions) directives.now) }
+        ≡ faults.old ++ flat_map (spec.use_faults defined schema.now.types location schema.now.directive_definitions) directives.now) }
 {
     for used in directives {
-        list_use(alloc, schema, location, used, faults)?;
+        list_use(alloc, defined, schema, location, used, faults)?;
     }
     Ok(())
 }
@@ -51,31 +54,41 @@ fn list_uses(
 /// Lists what is wrong with a use by itself.
 fn list_use(
     alloc: Global,
+    defined: Defined,
     schema: &Schema,
     location: DirectiveLocation,
     used: &Directive,
     faults: &mut Listed<DiagnosticData>,
 ) -> Result<(), Memory>
-    ensures { OnOk result (faults.new ≡ faults.old ++ spec.use_faults schema.now.types location schema.now.directive_definitions used.now) }
+    ensures { OnOk result (faults.new ≡ faults.old ++ spec.use_faults defined schema.now.types location schema.now.directive_definitions used.now) }
 {
     match schema.directive_definitions.get(used.name.as_str()) {
         Some(definition) => {
-            list_defined_use(alloc, &schema.types, definition, location, used, faults)
+            list_defined_use(
+                alloc,
+                defined,
+                &schema.types,
+                definition,
+                location,
+                used,
+                faults,
+            )
         }
-        None => list_undefined_use(alloc, &schema.types, used, faults),
+        None => list_undefined_use(alloc, defined, &schema.types, used, faults),
     }
 }
 
 /// Lists what is wrong with a use, by its definition.
 fn list_defined_use(
     alloc: Global,
+    defined: Defined,
     types: &Table<ExtendedType>,
     definition: &DirectiveDefinition,
     location: DirectiveLocation,
     used: &Directive,
     faults: &mut Listed<DiagnosticData>,
 ) -> Result<(), Memory>
-    ensures { OnOk result (faults.new ≡ faults.old ++ spec.defined_use types.now location used.now definition.now) }
+    ensures { OnOk result (faults.new ≡ faults.old ++ spec.defined_use defined types.now location used.now definition.now) }
 {
     list_unsupported_location(alloc, definition, location, used, faults)?;
     let call = Call {
@@ -85,6 +98,7 @@ fn list_defined_use(
     };
     list_arguments(
         alloc,
+        defined,
         types,
         &call,
         definition.arguments.as_slice(),
@@ -96,12 +110,13 @@ fn list_defined_use(
 /// Lists a use without a definition, and what is wrong with its arguments.
 fn list_undefined_use(
     alloc: Global,
+    defined: Defined,
     types: &Table<ExtendedType>,
     used: &Directive,
     faults: &mut Listed<DiagnosticData>,
 ) -> Result<(), Memory>
-    ensures { OnOk result (faults.new ≡ faults.old ++ spec.undefined_use types.now used.now) }
+    ensures { OnOk result (faults.new ≡ faults.old ++ spec.undefined_use defined types.now used.now) }
 {
     list_undefined_directive(alloc, used, faults)?;
-    list_unknown_arguments(alloc, types, used.arguments.as_slice(), faults)
+    list_unknown_arguments(alloc, defined, types, used.arguments.as_slice(), faults)
 }

@@ -16,7 +16,7 @@ use crate::unsupported_value_type::list_unsupported_value_type;
 use gql_ast_base::Name;
 use gql_ast_values::{TypeRef, Value, ValueKind};
 use gql_diag_messages::DiagnosticData;
-use gql_rules_base::{item_type, named_type};
+use gql_rules_base::{Defined, is_defined, item_type, named_type};
 use gql_schema_types::{ExtendedType, Table};
 use jb_text::{Listed, Memory};
 use std::alloc::Global;
@@ -25,20 +25,21 @@ use std::alloc::Global;
 #[cycle(literal)]
 pub fn list_literal(
     alloc: Global,
+    defined: Defined,
     types: &Table<ExtendedType>,
     literal: &Value,
     ty: &TypeRef,
     faults: &mut Listed<DiagnosticData>,
 ) -> Result<(), Memory>
-    ensures { OnOk result (faults.new ≡ faults.old ++ spec.literal_faults types.now (Some ty.now) literal.now) }
+    ensures { OnOk result (faults.new ≡ faults.old ++ spec.literal_faults defined types.now (Some ty.now) literal.now) }
 {
-    list_node(alloc, types, ty, literal, faults)?;
+    list_node(alloc, defined, types, ty, literal, faults)?;
     match &literal.kind {
         ValueKind::List(items) => match item_type(ty) {
-            Some(item) => list_items(alloc, types, items, item, faults),
-            None => list_untyped_items(alloc, types, items, faults),
+            Some(item) => list_items(alloc, defined, types, items, item, faults),
+            None => list_untyped_items(alloc, defined, types, items, faults),
         },
-        ValueKind::Object(members) => list_members(alloc, types, members, ty, faults),
+        ValueKind::Object(members) => list_members(alloc, defined, types, members, ty, faults),
         ValueKind::Null => Ok(()),
         ValueKind::Variable(_) => Ok(()),
         ValueKind::Int(_) => Ok(()),
@@ -53,16 +54,17 @@ pub fn list_literal(
 #[cycle(untyped)]
 pub fn list_untyped(
     alloc: Global,
+    defined: Defined,
     types: &Table<ExtendedType>,
     literal: &Value,
     faults: &mut Listed<DiagnosticData>,
 ) -> Result<(), Memory>
-    ensures { OnOk result (faults.new ≡ faults.old ++ spec.literal_faults types.now None literal.now) }
+    ensures { OnOk result (faults.new ≡ faults.old ++ spec.literal_faults defined types.now None literal.now) }
 {
     list_unique_keys(alloc, literal, faults)?;
     match &literal.kind {
-        ValueKind::List(items) => list_untyped_items(alloc, types, items, faults),
-        ValueKind::Object(members) => list_untyped_members(alloc, types, members, faults),
+        ValueKind::List(items) => list_untyped_items(alloc, defined, types, items, faults),
+        ValueKind::Object(members) => list_untyped_members(alloc, defined, types, members, faults),
         ValueKind::Null => Ok(()),
         ValueKind::Variable(_) => Ok(()),
         ValueKind::Int(_) => Ok(()),
@@ -77,15 +79,16 @@ pub fn list_untyped(
 #[cycle(literal)]
 fn list_items(
     alloc: Global,
+    defined: Defined,
     types: &Table<ExtendedType>,
     literals: &Listed<Value>,
     item: &TypeRef,
     faults: &mut Listed<DiagnosticData>,
 ) -> Result<(), Memory>
-    ensures { OnOk result (faults.new ≡ faults.old ++ flat_map (spec.literal_faults types.now (Some item.now)) literals.now) }
+    ensures { OnOk result (faults.new ≡ faults.old ++ flat_map (spec.literal_faults defined types.now (Some item.now)) literals.now) }
 {
     for literal in literals.as_slice() {
-        list_literal(alloc, types, literal, item, faults)?;
+        list_literal(alloc, defined, types, literal, item, faults)?;
     }
     Ok(())
 }
@@ -94,14 +97,15 @@ fn list_items(
 #[cycle(untyped)]
 fn list_untyped_items(
     alloc: Global,
+    defined: Defined,
     types: &Table<ExtendedType>,
     literals: &Listed<Value>,
     faults: &mut Listed<DiagnosticData>,
 ) -> Result<(), Memory>
-    ensures { OnOk result (faults.new ≡ faults.old ++ flat_map (spec.literal_faults types.now None) literals.now) }
+    ensures { OnOk result (faults.new ≡ faults.old ++ flat_map (spec.literal_faults defined types.now None) literals.now) }
 {
     for literal in literals.as_slice() {
-        list_untyped(alloc, types, literal, faults)?;
+        list_untyped(alloc, defined, types, literal, faults)?;
     }
     Ok(())
 }
@@ -110,18 +114,19 @@ fn list_untyped_items(
 #[cycle(literal)]
 fn list_members(
     alloc: Global,
+    defined: Defined,
     types: &Table<ExtendedType>,
     members: &Listed<(Name, Value)>,
     ty: &TypeRef,
     faults: &mut Listed<DiagnosticData>,
 ) -> Result<(), Memory>
     ensures { OnOk result (faults.new
-        ≡ faults.old ++ flat_map (λ member. spec.literal_faults types.now (nodes.member_type types.now member.0.text ty.now) member.1) members.now) }
+        ≡ faults.old ++ flat_map (λ member. spec.literal_faults defined types.now (nodes.member_type types.now member.0.text ty.now) member.1) members.now) }
 {
     for member in members.as_slice() {
         match member_type(types, member.0.as_str(), ty) {
-            Some(ty) => list_literal(alloc, types, &member.1, ty, faults)?,
-            None => list_untyped(alloc, types, &member.1, faults)?,
+            Some(ty) => list_literal(alloc, defined, types, &member.1, ty, faults)?,
+            None => list_untyped(alloc, defined, types, &member.1, faults)?,
         }
     }
     Ok(())
@@ -131,14 +136,15 @@ fn list_members(
 #[cycle(untyped)]
 fn list_untyped_members(
     alloc: Global,
+    defined: Defined,
     types: &Table<ExtendedType>,
     members: &Listed<(Name, Value)>,
     faults: &mut Listed<DiagnosticData>,
 ) -> Result<(), Memory>
-    ensures { OnOk result (faults.new ≡ faults.old ++ flat_map (λ member. spec.literal_faults types.now None member.1) members.now) }
+    ensures { OnOk result (faults.new ≡ faults.old ++ flat_map (λ member. spec.literal_faults defined types.now None member.1) members.now) }
 {
     for member in members.as_slice() {
-        list_untyped(alloc, types, &member.1, faults)?;
+        list_untyped(alloc, defined, types, &member.1, faults)?;
     }
     Ok(())
 }
@@ -173,14 +179,32 @@ fn field_type<'s>(key: &str, ty: &'s ExtendedType) -> Option<&'s TypeRef>
 /// Lists what is wrong with one literal at a type, apart from the values inside it.
 fn list_node(
     alloc: Global,
+    defined: Defined,
     types: &Table<ExtendedType>,
     ty: &TypeRef,
     literal: &Value,
     faults: &mut Listed<DiagnosticData>,
 ) -> Result<(), Memory>
-    ensures { OnOk result (faults.new ≡ faults.old ++ spec.node_faults types.now (record { ty = Some ty.now; literal = literal.now })) }
+    ensures { OnOk result (faults.new ≡ faults.old ++ spec.node_faults defined types.now (record { ty = Some ty.now; literal = literal.now })) }
 {
     list_unique_keys(alloc, literal, faults)?;
+    if is_defined(defined, types, named_type(ty).as_str()) {
+        list_at_type(alloc, types, ty, literal, faults)
+    } else {
+        Ok(())
+    }
+}
+
+/// Lists what the type says of one literal.
+fn list_at_type(
+    alloc: Global,
+    types: &Table<ExtendedType>,
+    ty: &TypeRef,
+    literal: &Value,
+    faults: &mut Listed<DiagnosticData>,
+) -> Result<(), Memory>
+    ensures { OnOk result (faults.new ≡ faults.old ++ spec.at_type types.now literal.now ty.now) }
+{
     list_unsupported_value_type(alloc, types, ty, literal, faults)?;
     list_int_coercion_error(alloc, types, ty, literal, faults)?;
     list_undefined_enum_value(alloc, types, ty, literal, faults)?;

@@ -4,7 +4,7 @@ ghost use Rattle.std.specs.Prelude.{◌≡◌};
 ghost use Rattle.gql_rules_values.specs.ValueTypes as spec;
 
 use gql_ast_values::{TypeRef, Value, ValueKind};
-use gql_rules_base::{is_known, is_non_null, item_type, named_type};
+use gql_rules_base::{is_non_null, item_type, named_type};
 use gql_schema_types::{ExtendedType, Table};
 
 /// How a value is written.
@@ -44,14 +44,14 @@ pub(crate) fn fits(types: &Table<ExtendedType>, ty: &TypeRef, form: ValueForm) -
 {
     let name = named_type(ty).as_str();
     match form {
-        ValueForm::Null => !is_non_null(ty) || !is_known(types, name),
+        ValueForm::Null => !is_non_null(ty),
         ValueForm::Variable => true,
         ValueForm::List => item_type(ty).is_some() || accepts(types, name, ValueForm::List),
         form => accepts(types, name, form),
     }
 }
 
-/// Whether the type of the name has values that are written so. Nothing is asked where it is not defined.
+/// Whether the type of the name has values that are written so. A scalar that is not among the types is as if it was.
 fn accepts(types: &Table<ExtendedType>, name: &str, form: ValueForm) -> bool
     ensures { result ≡ spec.accepts types.now name.now form }
 {

@@ -18,80 +18,78 @@ use Rattle.gql_rules_base.specs.Faults.{fault}
 use Rattle.gql_rules_fragments.specs.Reached.{is_reached}
 use Rattle.gql_rules_variables.proofs.Firsts.{or-false, any-one_more, first_of, first-one_more, any-told, first-told, none-first, none-told, map-same, flat-same}
 use Rattle.gql_rules_variables.proofs.Noted.{is_some-position, noted}
-use Rattle.gql_rules_variables.specs.DisallowedVariableUsage.{misfit, disallowed_type, disallowed_fault, types_fault, disallowed_usage}
+use Rattle.gql_rules_variables.specs.DisallowedVariableUsage.{breaks, misfit, disallowed_type, disallowed_fault, types_fault, disallowed_usage}
 use Rattle.gql_rules_variables.specs.Judged.{Judged, fresh, fresh_row, or_first, judged_in, row_judged, rows_judged, told, row_told}
 use Rattle.gql_rules_variables.specs.Operations.{with_name, with_use, rows_noted, not_noted, fresh_rows, rows_told, own_row, names_after, operation_told, IsJudged}
-use Rattle.gql_rules_variables.specs.TypesInto.{is_allowed}
-use Rattle.gql_rules_variables.specs.UndefinedVariable.{first_variables, is_undefined, undefined_fault, undefined_variable, variable_called}
+use Rattle.gql_rules_variables.specs.UndefinedVariable.{is_undefined, undefined_fault, undefined_variable, variable_called}
 use Rattle.gql_rules_variables.specs.UnusedVariable.{is_used, unless_used, unused_variables}
 use Rattle.gql_rules_variables.specs.Uses.{Place, Use, operation_uses, fragment_uses}
 use Rattle.gql_rules_variables.specs.VariableFaults.{Reach, IsReach, first_told, use_faults, reaching, fragments_faults, reached_uses, operation_faults}
 use Rattle.gql_schema_types.specs.declared.schema.Schema.{Schema}
 
--- ---- a use, judged for some operations
-
-abbrev lacks : Use → Operation → Bool
-lacks used operation = is_undefined operation.variables used
-
-abbrev type_in : Use → Operation → Option TypeRef
-type_in used operation = disallowed_type operation.variables used
-
-abbrev pub judged_by : List Operation → Use → Judged
-judged_by operations used = record { used = used; undefined = list_any (lacks used) operations; variable = first_of (type_in used) operations }
-
-one_more : (operations : List Operation) (operation : Operation) (used : Use)
-    → judged_in operation.variables (judged_by operations used) ≡ judged_by (operations ++ operation ∷ []) used
-one_more operations operation used = λ i. record {
-  used = used;
-  undefined = sym (any-one_more (lacks used) operations operation) i;
-  variable = sym (first-one_more (type_in used) operations operation) i;
-}
-
-row-one_more : (operations : List Operation) (operation : Operation) (uses : List Use)
-    → row_judged operation.variables (map (judged_by operations) uses) ≡ map (judged_by (operations ++ operation ∷ [])) uses
-row-one_more operations operation [] = refl
-row-one_more operations operation (used ∷ uses) = λ i. one_more operations operation used i ∷ row-one_more operations operation uses i
-
--- ---- what is told of it
-
-type-told : (used : Use) (place : Option TypeRef) → used.place.ty ≡ place → (operations : List Operation)
-    → option_map_or (λ ty. option_map_or (types_fault used ty) place []) (first_of (type_in used) operations) []
-    ≡ first_told (λ operation. option_map_or (λ ty. option_map_or (types_fault used ty) place []) (type_in used operation) []) operations
-type-told used None is operations =
-    ap (λ o. option_map_or (λ ty. []) o []) (none-first (type_in used) none operations)
-    ∙ sym (none-told (λ operation. option_map_or (λ ty. []) (type_in used operation) []) (λ operation. ap (λ o. option_map_or (λ ty. []) o []) (none operation)) operations)
-  where
-    none : (operation : Operation) → type_in used operation ≡ None
-    none operation = by_variable (variable_called operation.variables used.name.text)
-      where
-        by_variable : (o : Option VariableDefinition) → option_and_then (misfit used.place) o ≡ None
-        by_variable None = refl
-        by_variable (Some variable) = ap (λ p. if option_map_or (λ ty. not (is_allowed variable used.place.has_default ty)) p false then Some variable.ty else None) is
-type-told used (Some place) is operations = first-told (type_in used) (λ ty. fault DisallowedVariableUsage (used.name.text ∷ type_text ty ∷ type_text place ∷ []) used.location None) operations
-
-use-told : (operations : List Operation) (used : Use) → told (judged_by operations used) ≡ use_faults operations used
-use-told operations used = λ i. any-told (lacks used) (undefined_fault used) operations i ++ type-told used used.place.ty refl operations i
-
-row-told : (operations : List Operation) (uses : List Use) → row_told (map (judged_by operations) uses) ≡ flat_map (use_faults operations) uses
-row-told operations [] = refl
-row-told operations (used ∷ uses) = λ i. use-told operations used i ++ row-told operations uses i
-
--- ---- the names that are used
-
 any-same : {X : Type 0} (p q : X → Bool) → ((x : X) → p x ≡ q x) → (xs : List X) → list_any p xs ≡ list_any q xs
 any-same p q same [] = refl
 any-same p q same (x ∷ xs) = λ i. same x i || any-same p q same xs i
-
-row-noted : (n : List ℕ) (names : List (List ℕ)) (operations : List Operation) (uses : List Use)
-    → list_any (bytes_eq n) (fold with_use names (map (judged_by operations) uses)) ≡ (list_any (bytes_eq n) names || is_used uses n)
-row-noted n names operations uses =
-    ap (list_any (bytes_eq n)) (fold-map with_use (judged_by operations) names uses) ∙ noted (λ (used : Use). used.name.text) n names uses
 
 or_assoc : (a b c : Bool) → ((a || b) || c) ≡ (a || (b || c))
 or_assoc true b c = refl
 or_assoc false b c = refl
 
 module _ (schema : Schema) where
+  -- ---- a use, judged for some operations
+
+  abbrev lacks : Use → Operation → Bool
+  lacks used operation = is_undefined operation.variables used
+
+  abbrev type_in : Use → Operation → Option TypeRef
+  type_in used operation = disallowed_type schema.types operation.variables used
+
+  abbrev pub judged_by : List Operation → Use → Judged
+  judged_by operations used = record { used = used; undefined = list_any (lacks used) operations; variable = first_of (type_in used) operations }
+
+  one_more : (operations : List Operation) (operation : Operation) (used : Use)
+      → judged_in schema.types operation.variables (judged_by operations used) ≡ judged_by (operations ++ operation ∷ []) used
+  one_more operations operation used = λ i. record {
+    used = used;
+    undefined = sym (any-one_more (lacks used) operations operation) i;
+    variable = sym (first-one_more (type_in used) operations operation) i;
+  }
+
+  row-one_more : (operations : List Operation) (operation : Operation) (uses : List Use)
+      → row_judged schema.types operation.variables (map (judged_by operations) uses) ≡ map (judged_by (operations ++ operation ∷ [])) uses
+  row-one_more operations operation [] = refl
+  row-one_more operations operation (used ∷ uses) = λ i. one_more operations operation used i ∷ row-one_more operations operation uses i
+
+  -- ---- what is told of it
+
+  type-told : (used : Use) (place : Option TypeRef) → used.place.ty ≡ place → (operations : List Operation)
+      → option_map_or (λ ty. option_map_or (types_fault used ty) place []) (first_of (type_in used) operations) []
+      ≡ first_told (λ operation. option_map_or (λ ty. option_map_or (types_fault used ty) place []) (type_in used operation) []) operations
+  type-told used None is operations =
+      ap (λ o. option_map_or (λ ty. []) o []) (none-first (type_in used) none operations)
+      ∙ sym (none-told (λ operation. option_map_or (λ ty. []) (type_in used operation) []) (λ operation. ap (λ o. option_map_or (λ ty. []) o []) (none operation)) operations)
+    where
+      none : (operation : Operation) → type_in used operation ≡ None
+      none operation = by_variable (variable_called operation.variables used.name.text)
+        where
+          by_variable : (o : Option VariableDefinition) → option_and_then (misfit schema.types used.place) o ≡ None
+          by_variable None = refl
+          by_variable (Some variable) = ap (λ p. if option_map_or (breaks schema.types variable used.place.has_default) p false then Some variable.ty else None) is
+  type-told used (Some place) is operations = first-told (type_in used) (λ ty. fault DisallowedVariableUsage (used.name.text ∷ type_text ty ∷ type_text place ∷ []) used.location None) operations
+
+  use-told : (operations : List Operation) (used : Use) → told (judged_by operations used) ≡ use_faults schema operations used
+  use-told operations used = λ i. any-told (lacks used) (undefined_fault used) operations i ++ type-told used used.place.ty refl operations i
+
+  row-told : (operations : List Operation) (uses : List Use) → row_told (map (judged_by operations) uses) ≡ flat_map (use_faults schema operations) uses
+  row-told operations [] = refl
+  row-told operations (used ∷ uses) = λ i. use-told operations used i ++ row-told operations uses i
+
+  -- ---- the names that are used
+  row-noted : (n : List ℕ) (names : List (List ℕ)) (operations : List Operation) (uses : List Use)
+      → list_any (bytes_eq n) (fold with_use names (map (judged_by operations) uses)) ≡ (list_any (bytes_eq n) names || is_used uses n)
+  row-noted n names operations uses =
+      ap (list_any (bytes_eq n)) (fold-map with_use (judged_by operations) names uses) ∙ noted (λ (used : Use). used.name.text) n names uses
+
   abbrev pub rows_for : List Reach → ℕ → List Fragment → List (List Judged)
   rows_for reaches v [] = []
   rows_for reaches v (fragment ∷ fragments) = map (judged_by (reaching reaches v)) (fragment_uses schema fragment) ∷ rows_for reaches (v + 1) fragments
@@ -114,13 +112,13 @@ module _ (schema : Schema) where
       by_test false = ap (map (λ (r : Reach). r.operation)) (append-nil (filter (λ (r : Reach). is_reached r.states v) reaches))
 
   one_row : (b : Bool) (operations : List Operation) (operation : Operation) (uses : List Use)
-      → (if b then row_judged operation.variables (map (judged_by operations) uses) else map (judged_by operations) uses)
+      → (if b then row_judged schema.types operation.variables (map (judged_by operations) uses) else map (judged_by operations) uses)
       ≡ map (judged_by (if b then operations ++ operation ∷ [] else operations)) uses
   one_row true operations operation uses = row-one_more operations operation uses
   one_row false operations operation uses = refl
 
   pub rows-one_more : (reaches : List Reach) (reach : Reach) (v : ℕ) (fragments : List Fragment)
-      → rows_judged reach.operation.variables reach.states v (rows_for reaches v fragments) ≡ rows_for (reaches ++ reach ∷ []) v fragments
+      → rows_judged schema.types reach.operation.variables reach.states v (rows_for reaches v fragments) ≡ rows_for (reaches ++ reach ∷ []) v fragments
   rows-one_more reaches reach v [] = refl
   rows-one_more reaches reach v (fragment ∷ fragments) =
       let uses = fragment_uses schema fragment in
@@ -170,11 +168,11 @@ module _ (schema : Schema) where
       → operation_told schema reach.operation reach.states (rows_for reaches 0 fragments) ≡ operation_faults schema fragments reach
   operation-told reaches reach fragments =
       let own = operation_uses schema reach.operation in
-      let of_uses : row_told (row_judged reach.operation.variables (own_row schema reach.operation)) ≡ flat_map (use_faults (reach.operation ∷ [])) own =
+      let of_uses : row_told (row_judged schema.types reach.operation.variables (own_row schema reach.operation)) ≡ flat_map (use_faults schema (reach.operation ∷ [])) own =
       ap row_told (row-one_more [] reach.operation own) ∙ row-told (reach.operation ∷ []) own in
       let of_variables = flat-same
       (λ (variable : VariableDefinition). unless_used (is_some (position (bytes_eq variable.name.text) (names_after schema reach.operation reach.states (rows_for reaches 0 fragments)))) variable)
       (λ (variable : VariableDefinition). unless_used (is_used (own ++ reached_uses schema reach.states 0 fragments) variable.name.text) variable)
       (λ variable. ap (λ b. unless_used b variable) (names-after variable.name.text reaches reach.operation reach.states fragments))
-      (first_variables reach.operation.variables) in
+      reach.operation.variables in
       λ i. of_uses i ++ of_variables i

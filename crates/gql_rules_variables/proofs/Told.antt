@@ -49,7 +49,7 @@ module _ (schema : Schema) (fragments : List Fragment) where
         reaches = all;
         of_operations = map-append (λ (r : Reach). r.operation) before.reaches (reach ∷ []) ∙ ap (λ l. l ++ operation ∷ []) before.of_operations;
         reached = All-append (IsReach fragments) before.reaches (reach ∷ []) before.reached (All-cons (IsReach fragments) reach [] now.reach (All-nil (IsReach fragments)));
-        rows_are = now.rows_are ∙ ap (rows_after operation now.states) before.rows_are ∙ rows-one_more schema before.reaches reach 0 fragments;
+        rows_are = now.rows_are ∙ ap (rows_after schema operation now.states) before.rows_are ∙ rows-one_more schema before.reaches reach 0 fragments;
         listed =
             now.listed
             ∙ ap (λ r. mid ++ operation_told schema operation now.states r) before.rows_are

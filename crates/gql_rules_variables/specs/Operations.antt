@@ -9,12 +9,12 @@ use Rattle.gql_document_types.specs.declared.fragment.Fragment.{Fragment}
 use Rattle.gql_document_types.specs.declared.operation.Operation.{Operation}
 use Rattle.gql_rules_fragments.specs.Reached.{is_reached}
 use Rattle.gql_rules_variables.specs.Judged.{Judged, fresh_row, row_judged, rows_judged, row_told}
-use Rattle.gql_rules_variables.specs.UndefinedVariable.{first_variables}
 use Rattle.gql_rules_variables.specs.UnusedVariable.{unless_used}
 use Rattle.gql_rules_variables.specs.Uses.{operation_uses, fragment_uses}
 use Rattle.gql_rules_variables.specs.VariableFaults.{Reach, IsReach}
 use Rattle.gql_rules_variables.specs.declared.variables.Variable.{Variable}
 use Rattle.gql_schema_types.specs.declared.schema.Schema.{Schema}
+use Rattle.gql_schema_types.specs.declared.types.ExtendedType.{ExtendedType}
 
 -- ---- variables by name
 
@@ -51,8 +51,8 @@ not_noted names variables =
 
 -- ---- uses in fragments
 
-abbrev pub judged_if : Bool → List VariableDefinition → List Judged → List Judged
-judged_if reached variables row = if reached then row_judged variables row else row
+abbrev pub judged_if : Bool → List ExtendedType → List VariableDefinition → List Judged → List Judged
+judged_if reached types variables row = if reached then row_judged types variables row else row
 
 abbrev pub fresh_rows : Schema → List Fragment → List (List Judged)
 fresh_rows schema fragments = map (λ fragment. fresh_row (fragment_uses schema fragment)) fragments
@@ -65,8 +65,8 @@ rows_told rows = flat_map row_told rows
 abbrev pub own_row : Schema → Operation → List Judged
 own_row schema operation = fresh_row (operation_uses schema operation)
 
-abbrev pub rows_after : Operation → List ℕ → List (List Judged) → List (List Judged)
-rows_after operation states rows = rows_judged operation.variables states 0 rows
+abbrev pub rows_after : Schema → Operation → List ℕ → List (List Judged) → List (List Judged)
+rows_after schema operation states rows = rows_judged schema.types operation.variables states 0 rows
 
 abbrev pub names_after : Schema → Operation → List ℕ → List (List Judged) → List (List ℕ)
 names_after schema operation states rows = rows_noted states 0 (fold with_use [] (own_row schema operation)) rows
@@ -74,8 +74,8 @@ names_after schema operation states rows = rows_noted states 0 (fold with_use []
 -- what is told of the uses in the operation itself, and of its variables
 abbrev pub operation_told : Schema → Operation → List ℕ → List (List Judged) → List DiagnosticData
 operation_told schema operation states rows =
-    row_told (row_judged operation.variables (own_row schema operation))
-    ++ not_noted (names_after schema operation states rows) (first_variables operation.variables)
+    row_told (row_judged schema.types operation.variables (own_row schema operation))
+    ++ not_noted (names_after schema operation states rows) operation.variables
 
 -- what an operation leaves of the uses in fragments and of the list
 pub record IsJudged
@@ -88,5 +88,5 @@ pub record IsJudged
     (new : List DiagnosticData) : Type 0 where
   pub states : List ℕ
   pub reach : IsReach fragments (record { operation = operation; states = states })
-  pub rows_are : judged ≡ rows_after operation states rows
+  pub rows_are : judged ≡ rows_after schema operation states rows
   pub listed : new ≡ old ++ operation_told schema operation states rows

@@ -11,7 +11,7 @@ use Rattle.gql_schema_types.specs.Entries.{entry, joined}
 abbrev pub variable_name : VariableDefinition → Named
 variable_name variable = variable.name
 
--- of each name the first; another one is told as second, and nothing else of it
+-- of each name the first: that is the one by which a use is judged
 abbrev pub first_variables : List VariableDefinition → List VariableDefinition
 first_variables variables = joined variable_name [] variables
 

@@ -8,7 +8,7 @@ use Rattle.gql_document_types.specs.declared.fragment.Fragment.{Fragment}
 use Rattle.gql_document_types.specs.declared.operation.Operation.{Operation}
 use Rattle.gql_rules_fragments.specs.Reached.{AreReached, is_reached}
 use Rattle.gql_rules_variables.specs.DisallowedVariableUsage.{disallowed_usage}
-use Rattle.gql_rules_variables.specs.UndefinedVariable.{first_variables, undefined_variable}
+use Rattle.gql_rules_variables.specs.UndefinedVariable.{undefined_variable}
 use Rattle.gql_rules_variables.specs.UnusedVariable.{unused_variables}
 use Rattle.gql_rules_variables.specs.Uses.{Use, operation_uses, fragment_uses}
 use Rattle.gql_schema_types.specs.declared.schema.Schema.{Schema}
@@ -30,17 +30,17 @@ abbrev pub first_told : {X D : Type 0} → (X → List D) → List X → List D
 first_told told [] = []
 first_told told (x ∷ xs) = or_else (told x) (first_told told xs)
 
--- what is wrong with a use that these operations reach: each rule is told once, for the first operation in which the use breaks it
-abbrev pub use_faults : List Operation → Use → List DiagnosticData
-use_faults operations used =
-    first_told (λ (operation : Operation). undefined_variable operation.variables used) operations
-    ++ first_told (λ (operation : Operation). disallowed_usage operation.variables used) operations
-
 -- the operations that reach the fragment of a number
 abbrev pub reaching : List Reach → ℕ → List Operation
 reaching reaches v = map (λ (reach : Reach). reach.operation) (filter (λ (reach : Reach). is_reached reach.states v) reaches)
 
 module _ (schema : Schema) where
+  -- what is wrong with a use that these operations reach: each rule is told once, for the first operation in which the use breaks it
+  abbrev pub use_faults : List Operation → Use → List DiagnosticData
+  use_faults operations used =
+      first_told (λ (operation : Operation). undefined_variable operation.variables used) operations
+      ++ first_told (λ (operation : Operation). disallowed_usage schema.types operation.variables used) operations
+
   -- with the uses in these fragments, numbered from v on
   abbrev pub fragments_faults : List Reach → ℕ → List Fragment → List DiagnosticData
   fragments_faults reaches v [] = []
@@ -57,7 +57,7 @@ module _ (schema : Schema) where
   abbrev pub operation_faults : List Fragment → Reach → List DiagnosticData
   operation_faults fragments reach =
       flat_map (use_faults (reach.operation ∷ [])) (operation_uses schema reach.operation)
-      ++ unused_variables (operation_uses schema reach.operation ++ reached_uses reach.states 0 fragments) (first_variables reach.operation.variables)
+      ++ unused_variables (operation_uses schema reach.operation ++ reached_uses reach.states 0 fragments) reach.operation.variables
 
 -- What is told of a document.
 pub record AreVariableFaults (schema : Schema) (document : ExecutableDocument) (told : List DiagnosticData) : Type 0 where

@@ -11,15 +11,20 @@ use gql_ast_operations::VariableDefinition;
 use gql_ast_print::print_type;
 use gql_ast_values::TypeRef;
 use gql_diag_messages::{DiagnosticData, Rule};
-use gql_rules_base::list_fault;
+use gql_rules_base::{Defined, is_defined, list_fault, named_type};
+use gql_schema_types::{ExtendedType, Table};
 use jb_text::{Listed, Memory};
 use std::alloc::Global;
 
 /// The type of the variable, if it may not stand there.
-pub(crate) fn misfit<'d>(place: &Place<'_>, variable: &'d VariableDefinition) -> Option<&'d TypeRef>
-    ensures { option_copied result ≡ spec.misfit (seen.place_of place.now) variable.now }
+pub(crate) fn misfit<'d>(
+    types: &Table<ExtendedType>,
+    place: &Place<'_>,
+    variable: &'d VariableDefinition,
+) -> Option<&'d TypeRef>
+    ensures { option_copied result ≡ spec.misfit types.now (seen.place_of place.now) variable.now }
 {
-    if is_disallowed(place, variable) {
+    if is_disallowed(types, place, variable) {
         Some(&variable.ty)
     } else {
         None
@@ -27,13 +32,37 @@ pub(crate) fn misfit<'d>(place: &Place<'_>, variable: &'d VariableDefinition) ->
 }
 
 /// Whether the variable may not stand there. Where no type is known, nothing is asked.
-fn is_disallowed(place: &Place<'_>, variable: &VariableDefinition) -> bool
-    ensures { result ≡ spec.is_disallowed (seen.place_of place.now) variable.now }
+fn is_disallowed(
+    types: &Table<ExtendedType>,
+    place: &Place<'_>,
+    variable: &VariableDefinition,
+) -> bool
+    ensures { result ≡ spec.is_disallowed types.now (seen.place_of place.now) variable.now }
 {
     match place.ty {
-        Some(ty) => !is_allowed(variable, place.has_default, ty),
+        Some(ty) => breaks(types, variable, place.has_default, ty),
         None => false,
     }
+}
+
+/// Whether the variable may not stand at this type. Nothing is asked of a type that is not defined.
+fn breaks(
+    types: &Table<ExtendedType>,
+    variable: &VariableDefinition,
+    has_default: bool,
+    ty: &TypeRef,
+) -> bool
+    ensures { result ≡ spec.breaks types.now variable.now has_default ty.now }
+{
+    are_defined(types, &variable.ty, ty) && !is_allowed(variable, has_default, ty)
+}
+
+/// Whether both types are defined.
+fn are_defined(types: &Table<ExtendedType>, variable: &TypeRef, place: &TypeRef) -> bool
+    ensures { result ≡ spec.are_defined types.now variable.now place.now }
+{
+    is_defined(Defined::Types, types, named_type(variable).as_str())
+        && is_defined(Defined::Types, types, named_type(place).as_str())
 }
 
 /// Lists a use, if it is not allowed: then this is the type of the variable.

@@ -12,6 +12,7 @@ use crate::variables::Variables;
 use gql_ast_operations::VariableDefinition;
 use gql_ast_values::TypeRef;
 use gql_diag_messages::DiagnosticData;
+use gql_schema_types::{ExtendedType, Table};
 use jb_map::KeyTable;
 use jb_text::{Listed, Memory};
 use std::alloc::Global;
@@ -49,7 +50,7 @@ pub(crate) fn judge_row<'d>(
     row: Listed<JudgedUse<'d>>,
     names: &mut KeyTable,
 ) -> Result<Listed<JudgedUse<'d>>, Memory>
-    ensures judged { IfOk result (λ judged. seen.row_of judged ≡ spec.row_judged variables.now.definitions.now (seen.row_of row.entry)) }
+    ensures judged { IfOk result (λ judged. seen.row_of judged ≡ spec.row_judged variables.now.types.now variables.now.definitions.now (seen.row_of row.entry)) }
     ensures names { OnOk result (names.new ≡ fold with_use names.old (seen.row_of row.entry)) }
 {
     let mut judged = Listed::new(alloc);
@@ -73,20 +74,24 @@ fn note_name(alloc: Global, it: &JudgedUse<'_>, names: &mut KeyTable) -> Result<
 
 /// Judges a use for an operation with these variables too.
 fn judge<'d>(variables: &Variables<'d>, it: &mut JudgedUse<'d>)
-    ensures { seen.judged_of it.new ≡ spec.judged_in variables.now.definitions.now (seen.judged_of it.old) }
+    ensures { seen.judged_of it.new ≡ spec.judged_in variables.now.types.now variables.now.definitions.now (seen.judged_of it.old) }
 {
     match variables.get(it.used.name.as_str()) {
-        Some(variable) => judge_defined(variable, it),
+        Some(variable) => judge_defined(variables.types, variable, it),
         None => it.undefined = true,
     }
 }
 
 /// Judges a use for an operation that defines its variable so.
-fn judge_defined<'d>(variable: &'d VariableDefinition, it: &mut JudgedUse<'d>)
-    ensures { seen.judged_of it.new ≡ spec.judged_with variable.now (seen.judged_of it.old) }
+fn judge_defined<'d>(
+    types: &Table<ExtendedType>,
+    variable: &'d VariableDefinition,
+    it: &mut JudgedUse<'d>,
+)
+    ensures { seen.judged_of it.new ≡ spec.judged_with types.now variable.now (seen.judged_of it.old) }
 {
     if it.variable.is_none() {
-        it.variable = misfit(&it.used.place, variable);
+        it.variable = misfit(types, &it.used.place, variable);
     }
 }
 

@@ -47,17 +47,17 @@ fn judge_marked<'d>(
     rows: Listed<Listed<JudgedUse<'d>>>,
     faults: &mut Listed<DiagnosticData>,
 ) -> Result<Listed<Listed<JudgedUse<'d>>>, Memory>
-    ensures judged { IfOk result (λ judged. seen.rows_of judged ≡ step.rows_after operation.now states.now (seen.rows_of rows.entry)) }
+    ensures judged { IfOk result (λ judged. seen.rows_of judged ≡ step.rows_after schema.now operation.now states.now (seen.rows_of rows.entry)) }
     ensures faults { OnOk result (faults.new ≡ faults.old ++ step.operation_told schema.now operation.now states.now (seen.rows_of rows.entry)) }
 {
-    let variables = Variables::new(alloc, &operation.variables)?;
+    let variables = Variables::new(alloc, &schema.types, &operation.variables)?;
     let uses = operation_uses(alloc, schema, operation)?;
     let own = fresh_row(alloc, uses)?;
     let mut names = KeyTable::new(alloc);
     let own = judge_row(alloc, &variables, own, &mut names)?;
     let judged = judge_rows(alloc, &variables, states, rows, &mut names)?;
     list_row(alloc, own.as_slice(), faults)?;
-    list_unused_variables(alloc, &names, &variables, faults)?;
+    list_unused_variables(alloc, &names, operation.variables.as_slice(), faults)?;
     Ok(judged)
 }
 

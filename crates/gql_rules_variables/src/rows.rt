@@ -41,7 +41,7 @@ pub(crate) fn judge_rows<'d>(
     rows: Listed<Listed<JudgedUse<'d>>>,
     names: &mut KeyTable,
 ) -> Result<Listed<Listed<JudgedUse<'d>>>, Memory>
-    ensures judged { IfOk result (λ judged. seen.rows_of judged ≡ spec.rows_judged variables.now.definitions.now states.now 0 (seen.rows_of rows.entry)) }
+    ensures judged { IfOk result (λ judged. seen.rows_of judged ≡ spec.rows_judged variables.now.types.now variables.now.definitions.now states.now 0 (seen.rows_of rows.entry)) }
     ensures names { OnOk result (names.new ≡ step.rows_noted states.now 0 names.old (seen.rows_of rows.entry)) }
 {
     let mut judged = Listed::new(alloc);
@@ -61,7 +61,7 @@ fn judge_if<'d>(
     row: Listed<JudgedUse<'d>>,
     names: &mut KeyTable,
 ) -> Result<Listed<JudgedUse<'d>>, Memory>
-    ensures judged { IfOk result (λ judged. seen.row_of judged ≡ step.judged_if reached variables.now.definitions.now (seen.row_of row.entry)) }
+    ensures judged { IfOk result (λ judged. seen.row_of judged ≡ step.judged_if reached variables.now.types.now variables.now.definitions.now (seen.row_of row.entry)) }
     ensures names { OnOk result (names.new ≡ step.noted_if reached names.old (seen.row_of row.entry)) }
 {
     if reached {

@@ -1,11 +1,9 @@
 //! A variable is used (GraphQL October 2021, section 5.8.4).
 
 ghost use Rattle.std.specs.Prelude.{◌≡◌, ◌++◌, OnOk};
-ghost use Rattle.gql_rules_variables.specs.Operations.{definitions_of, not_noted};
-ghost use Rattle.gql_rules_variables.specs.UndefinedVariable.{first_variables};
+ghost use Rattle.gql_rules_variables.specs.Operations.{not_noted};
 ghost use Rattle.gql_rules_variables.specs.UnusedVariable as spec;
 
-use crate::variables::{Variable, Variables};
 use gql_ast_operations::VariableDefinition;
 use gql_diag_messages::{DiagnosticData, Rule};
 use gql_rules_base::list_fault;
@@ -13,30 +11,18 @@ use jb_map::KeyTable;
 use jb_text::{Listed, Memory};
 use std::alloc::Global;
 
-/// Lists the variables whose names are not among those that are used, of each name the first.
+/// Lists the variables whose names are not among those that are used, each of several of one name too.
 pub(crate) fn list_unused_variables(
     alloc: Global,
     used: &KeyTable,
-    variables: &Variables<'_>,
+    variables: &[VariableDefinition],
     faults: &mut Listed<DiagnosticData>,
 ) -> Result<(), Memory>
-    ensures { OnOk result (faults.new ≡ faults.old ++ not_noted used.now (first_variables variables.now.definitions.now)) }
-{
-    list_each(alloc, used, variables.firsts(), faults)
-}
-
-/// Lists each of the variables whose name is not among those that are used.
-fn list_each(
-    alloc: Global,
-    used: &KeyTable,
-    variables: &[Variable<'_>],
-    faults: &mut Listed<DiagnosticData>,
-) -> Result<(), Memory>
-    ensures { OnOk result (faults.new ≡ faults.old ++ not_noted used.now (definitions_of variables.now)) }
+    ensures { OnOk result (faults.new ≡ faults.old ++ not_noted used.now variables.now) }
 {
     for variable in variables {
-        let is_used = used.find(variable.definition.name.as_str()).is_some();
-        list_unless_used(alloc, is_used, variable.definition, faults)?;
+        let is_used = used.find(variable.name.as_str()).is_some();
+        list_unless_used(alloc, is_used, variable, faults)?;
     }
     Ok(())
 }

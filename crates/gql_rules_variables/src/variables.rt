@@ -8,7 +8,7 @@ ghost use Rattle.gql_rules_variables.specs.Operations.{own_name, definition_of, 
 
 use gql_ast_base::Name;
 use gql_ast_operations::VariableDefinition;
-use gql_schema_types::{Named, Table};
+use gql_schema_types::{ExtendedType, Named, Table};
 use jb_text::{Listed, Memory};
 use std::alloc::{AllocError, Global};
 
@@ -26,12 +26,12 @@ impl<'d> Named for Variable<'d> {
     }
 }
 
-/// The variables of an operation, of each name the first, found by hash.
+/// The variables of an operation, of each name the first, found by hash, and the types of the schema.
 #[derive(Drop)]
 pub(crate) struct Variables<'d> {
+    pub(crate) types: &'d Table<ExtendedType>,
     definitions: &'d Listed<VariableDefinition>,
     table: Table<Variable<'d>>,
-    ghost are_firsts: { definitions_of table ≡ first_variables definitions.now },
     ghost known: { (name : List ℕ) → option_map definition_of (entry own_name name table) ≡ variable_called definitions.now name },
 }
 
@@ -39,19 +39,18 @@ impl<'d> Variables<'d> {
     /// The variables with these definitions. `Err` only for want of memory.
     pub(crate) fn new(
         alloc: Global,
+        types: &'d Table<ExtendedType>,
         definitions: &'d Listed<VariableDefinition>,
     ) -> Result<Variables<'d>, Memory>
-        ensures { IfOk result (λ made. made.definitions.now ≡ definitions.now) }
+        ensures types { IfOk result (λ made. made.types.now ≡ types.now) }
+        ensures definitions { IfOk result (λ made. made.definitions.now ≡ definitions.now) }
     {
         let table = table_of(alloc, definitions)?;
-        Ok(Variables { definitions, table })
-    }
-
-    /// Of each name the first.
-    pub(crate) fn firsts(&self) -> &[Variable<'d>]
-        ensures { definitions_of result.now ≡ first_variables self.now.definitions.now }
-    {
-        self.table.as_slice()
+        Ok(Variables {
+            types,
+            definitions,
+            table,
+        })
     }
 
     /// The variable of the name.

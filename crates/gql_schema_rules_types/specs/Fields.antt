@@ -7,6 +7,7 @@ use Rattle.gql_ast_definitions.specs.declared.schema_definition.DirectiveLocatio
 use Rattle.gql_diag_messages.specs.declared.diagnostic_data.DiagnosticData.{DiagnosticData}
 use Rattle.gql_rules_base.specs.TypeShape.{named_type}
 use Rattle.gql_rules_base.specs.Written.{is_written}
+use Rattle.gql_rules_base.specs.declared.known.Defined.TheVariants.{TypesAndScalars}
 use Rattle.gql_rules_values.specs.Directives.{directive_faults}
 use Rattle.gql_schema_rules_types.specs.InputValues.{arguments_faults}
 use Rattle.gql_schema_rules_types.specs.OutputType.{output_type}
@@ -19,7 +20,9 @@ module _ (schema : Schema) where
   type_faults field = undefined_definition schema.types (named_type field.ty) ++ output_type schema.types field
 
   abbrev pub parts_faults : TheField → List DiagnosticData
-  parts_faults field = arguments_faults schema field.arguments ++ directive_faults schema.types FieldDefinition schema.directive_definitions field.directives
+  parts_faults field =
+      arguments_faults schema field.arguments
+      ++ directive_faults TypesAndScalars schema.types FieldDefinition schema.directive_definitions field.directives
 
   abbrev pub written_field_faults : TheField → List DiagnosticData
   written_field_faults field = reserved_name field.name ++ (type_faults field ++ parts_faults field)
@@ -35,7 +38,7 @@ module _ (schema : Schema) where
   abbrev pub value_faults : EnumValueDefinition → List DiagnosticData
   value_faults value =
       if is_written value.location
-      then reserved_name value.value ++ directive_faults schema.types EnumValue schema.directive_definitions value.directives
+      then reserved_name value.value ++ directive_faults TypesAndScalars schema.types EnumValue schema.directive_definitions value.directives
       else []
 
   abbrev pub values_faults : List EnumValueDefinition → List DiagnosticData

@@ -1,8 +1,7 @@
 -- What is wrong with arguments and input fields where they are defined: sections 3.6.1 and 3.10 of GraphQL October 2021.
-use Rattle.std.specs.Prelude.{ℕ, Option, Some, List, [], ◌∷◌, ◌++◌, is_some, position, if◌then◌else◌}
+use Rattle.std.specs.Prelude.{Option, Some, List, [], ◌++◌, if◌then◌else◌}
 use Rattle.std.specs.List.{flat_map}
 use Rattle.std.specs.Option.{option_map_or}
-use Rattle.std.specs.Str.{bytes_eq}
 use Rattle.gql_ast_definitions.specs.declared.field_definition.InputValueDefinition.{InputValueDefinition}
 use Rattle.gql_ast_definitions.specs.declared.schema_definition.DirectiveLocation.{DirectiveLocation}
 use Rattle.gql_ast_definitions.specs.declared.schema_definition.DirectiveLocation.TheVariants.{ArgumentDefinition, InputFieldDefinition}
@@ -10,6 +9,7 @@ use Rattle.gql_ast_values.specs.declared.value.Value.{Value}
 use Rattle.gql_diag_messages.specs.declared.diagnostic_data.DiagnosticData.{DiagnosticData}
 use Rattle.gql_rules_base.specs.TypeShape.{named_type}
 use Rattle.gql_rules_base.specs.Written.{is_written}
+use Rattle.gql_rules_base.specs.declared.known.Defined.TheVariants.{TypesAndScalars}
 use Rattle.gql_rules_values.specs.Directives.{directive_faults}
 use Rattle.gql_rules_values.specs.Literals.{literal_faults}
 use Rattle.gql_rules_values.specs.UniqueInputValue.{unique_definitions}
@@ -18,14 +18,10 @@ use Rattle.gql_schema_rules_types.specs.ReservedName.{reserved_name}
 use Rattle.gql_schema_rules_types.specs.UndefinedDefinition.{undefined_definition}
 use Rattle.gql_schema_types.specs.declared.schema.Schema.{Schema}
 
--- a name that was seen stays as it is
-abbrev pub with_name : List (List ℕ) → List ℕ → List (List ℕ)
-with_name seen name = if is_some (position (bytes_eq name) seen) then seen else seen ++ name ∷ []
-
 module _ (schema : Schema) where
   -- the default has the type
   abbrev pub default_faults : InputValueDefinition → List DiagnosticData
-  default_faults value = option_map_or (literal_faults schema.types (Some value.ty)) value.default_value []
+  default_faults value = option_map_or (literal_faults TypesAndScalars schema.types (Some value.ty)) value.default_value []
 
   abbrev pub type_faults : InputValueDefinition → List DiagnosticData
   type_faults value = undefined_definition schema.types (named_type value.ty) ++ input_type schema.types value
@@ -34,20 +30,11 @@ module _ (schema : Schema) where
   abbrev pub input_value_faults : DirectiveLocation → InputValueDefinition → List DiagnosticData
   input_value_faults location value =
       reserved_name value.name ++ (type_faults value ++ (default_faults value
-      ++ directive_faults schema.types location schema.directive_definitions value.directives))
+      ++ directive_faults TypesAndScalars schema.types location schema.directive_definitions value.directives))
 
-  -- an argument whose name was not seen
-  abbrev pub first_faults : List (List ℕ) → InputValueDefinition → List DiagnosticData
-  first_faults seen value = if is_some (position (bytes_eq value.name.text) seen) then [] else input_value_faults ArgumentDefinition value
-
-  -- of each name the first
-  abbrev pub firsts_faults : List (List ℕ) → List InputValueDefinition → List DiagnosticData
-  firsts_faults seen [] = []
-  firsts_faults seen (value ∷ values) = first_faults seen value ++ firsts_faults (with_name seen value.name.text) values
-
-  -- the arguments of a field or a directive: what comes second is not looked into
+  -- the arguments of a field or a directive, each of several of one name too
   abbrev pub arguments_faults : List InputValueDefinition → List DiagnosticData
-  arguments_faults values = unique_definitions values ++ firsts_faults [] values
+  arguments_faults values = unique_definitions values ++ flat_map (input_value_faults ArgumentDefinition) values
 
   abbrev pub input_field_faults : InputValueDefinition → List DiagnosticData
   input_field_faults value = if is_written value.location then input_value_faults InputFieldDefinition value else []

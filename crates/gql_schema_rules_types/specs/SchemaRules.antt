@@ -8,6 +8,7 @@ use Rattle.gql_ast_definitions.specs.declared.schema_definition.DirectiveDefinit
 use Rattle.gql_ast_definitions.specs.declared.schema_definition.DirectiveLocation.TheVariants as at
 use Rattle.gql_diag_messages.specs.declared.diagnostic_data.DiagnosticData.{DiagnosticData}
 use Rattle.gql_rules_base.specs.Written.{is_written}
+use Rattle.gql_rules_base.specs.declared.known.Defined.TheVariants.{TypesAndScalars}
 use Rattle.gql_rules_values.specs.Directives.{directive_faults}
 use Rattle.gql_schema_rules_types.specs.DuplicateRootOperationType.{duplicate_root_operation_type}
 use Rattle.gql_schema_rules_types.specs.InputValues.{arguments_faults}
@@ -32,7 +33,7 @@ module _ (schema : Schema) where
   -- the schema as a whole
   abbrev pub schema_definition_faults : List DiagnosticData
   schema_definition_faults =
-      directive_faults schema.types at.Schema schema.directive_definitions schema.schema_definition.directives
+      directive_faults TypesAndScalars schema.types at.Schema schema.directive_definitions schema.schema_definition.directives
       ++ (query_root_operation_type schema.schema_definition ++ (roots_faults ++ duplicate_root_operation_type schema.schema_definition))
 
   -- a directive that is not built in

@@ -7,6 +7,7 @@ use Rattle.gql_ast_base.specs.Names.{Named}
 use Rattle.gql_ast_definitions.specs.declared.schema_definition.DirectiveLocation.TheVariants as at
 use Rattle.gql_diag_messages.specs.declared.diagnostic_data.DiagnosticData.{DiagnosticData}
 use Rattle.gql_rules_base.specs.Written.{is_written}
+use Rattle.gql_rules_base.specs.declared.known.Defined.TheVariants.{TypesAndScalars}
 use Rattle.gql_rules_values.specs.Directives.{directive_faults}
 use Rattle.gql_schema_rules_types.specs.EmptyFieldSet.{empty_field_set}
 use Rattle.gql_schema_rules_types.specs.EmptyInputValueSet.{empty_input_value_set}
@@ -50,39 +51,39 @@ module _ (schema : Schema) where
   members_faults names = flat_map member_faults names
 
   abbrev pub scalar_faults : ScalarType → List DiagnosticData
-  scalar_faults it = name_faults it.location it.name ++ directive_faults schema.types at.Scalar schema.directive_definitions it.directives
+  scalar_faults it = name_faults it.location it.name ++ directive_faults TypesAndScalars schema.types at.Scalar schema.directive_definitions it.directives
 
   abbrev pub object_faults : ObjectType → List DiagnosticData
   object_faults it =
       name_faults it.location it.name
       ++ (if_written it.location (empty_field_set it.name it.fields)
-      ++ (directive_faults schema.types at.Object schema.directive_definitions it.directives
+      ++ (directive_faults TypesAndScalars schema.types at.Object schema.directive_definitions it.directives
       ++ (listed_names_faults it.implements_interfaces ++ fields_faults schema it.fields)))
 
   abbrev pub interface_faults : InterfaceType → List DiagnosticData
   interface_faults it =
       name_faults it.location it.name
       ++ (if_written it.location (empty_field_set it.name it.fields)
-      ++ (directive_faults schema.types at.Interface schema.directive_definitions it.directives
+      ++ (directive_faults TypesAndScalars schema.types at.Interface schema.directive_definitions it.directives
       ++ (listed_names_faults it.implements_interfaces ++ fields_faults schema it.fields)))
 
   abbrev pub union_faults : UnionType → List DiagnosticData
   union_faults it =
       name_faults it.location it.name
       ++ (if_written it.location (empty_member_set it.name it.members)
-      ++ (directive_faults schema.types at.Union schema.directive_definitions it.directives ++ members_faults it.members))
+      ++ (directive_faults TypesAndScalars schema.types at.Union schema.directive_definitions it.directives ++ members_faults it.members))
 
   abbrev pub enum_faults : EnumType → List DiagnosticData
   enum_faults it =
       name_faults it.location it.name
       ++ (if_written it.location (empty_value_set it.name it.values)
-      ++ (directive_faults schema.types at.Enum schema.directive_definitions it.directives ++ values_faults schema it.values))
+      ++ (directive_faults TypesAndScalars schema.types at.Enum schema.directive_definitions it.directives ++ values_faults schema it.values))
 
   abbrev pub input_object_faults : InputObjectType → List DiagnosticData
   input_object_faults it =
       name_faults it.location it.name
       ++ (if_written it.location (empty_input_value_set it.name it.fields)
-      ++ (directive_faults schema.types at.InputObject schema.directive_definitions it.directives ++ input_fields_faults schema it.fields))
+      ++ (directive_faults TypesAndScalars schema.types at.InputObject schema.directive_definitions it.directives ++ input_fields_faults schema it.fields))
 
   abbrev pub type_faults : ExtendedType → List DiagnosticData
   type_faults (type.Scalar it) = scalar_faults it

@@ -10,7 +10,7 @@ use crate::reserved_name::list_reserved_name;
 use crate::undefined_definition::list_undefined_definition;
 use gql_ast_definitions::{DirectiveLocation, EnumValueDefinition, FieldDefinition};
 use gql_diag_messages::DiagnosticData;
-use gql_rules_base::{is_written, named_type};
+use gql_rules_base::{Defined, is_written, named_type};
 use gql_rules_values::list_directives;
 use gql_schema_types::Schema;
 use jb_text::{Listed, Memory};
@@ -86,6 +86,7 @@ fn list_parts(
     list_arguments_definition(alloc, schema, field.arguments.as_slice(), faults)?;
     list_directives(
         alloc,
+        Defined::TypesAndScalars,
         schema,
         DirectiveLocation::FieldDefinition,
         field.directives.as_slice(),
@@ -123,6 +124,7 @@ fn list_value(
     list_reserved_name(alloc, &value.value, faults)?;
     list_directives(
         alloc,
+        Defined::TypesAndScalars,
         schema,
         DirectiveLocation::EnumValue,
         value.directives.as_slice(),

@@ -1,6 +1,8 @@
 //! What is wrong with arguments and input fields where they are defined (GraphQL October 2021, sections 3.6.1 and 3.10).
 
-ghost use Rattle.std.specs.Prelude.{◌≡◌, ◌++◌, [], OnOk};
+ghost use Rattle.std.specs.Prelude.{◌≡◌, ◌++◌, OnOk};
+ghost use Rattle.std.specs.List.{flat_map};
+ghost use Rattle.gql_ast_definitions.specs.declared.schema_definition.DirectiveLocation.TheVariants.{ArgumentDefinition};
 ghost use Rattle.gql_schema_rules_types.specs.InputValues as spec;
 
 use crate::input_type::list_input_type;
@@ -8,14 +10,13 @@ use crate::reserved_name::list_reserved_name;
 use crate::undefined_definition::list_undefined_definition;
 use gql_ast_definitions::{DirectiveLocation, InputValueDefinition};
 use gql_diag_messages::DiagnosticData;
-use gql_rules_base::{is_written, named_type};
+use gql_rules_base::{Defined, is_written, named_type};
 use gql_rules_values::{list_directives, list_literal, list_unique_definitions};
 use gql_schema_types::Schema;
-use jb_map::KeyTable;
 use jb_text::{Listed, Memory};
 use std::alloc::Global;
 
-/// Lists what is wrong with the arguments of a field or a directive. What comes second is not looked into.
+/// Lists what is wrong with the arguments of a field or a directive. One that comes second of its name is looked into as well.
 pub(crate) fn list_arguments_definition(
     alloc: Global,
     schema: &Schema,
@@ -25,49 +26,28 @@ pub(crate) fn list_arguments_definition(
     ensures { OnOk result (faults.new ≡ faults.old ++ spec.arguments_faults schema.now values.now) }
 {
     list_unique_definitions(alloc, values, faults)?;
-    list_firsts(alloc, schema, values, faults)
+    list_arguments(alloc, schema, values, faults)
 }
 
-/// Lists what is wrong with the first argument of each name.
-fn list_firsts(
+/// Lists what is wrong with each argument by itself.
+fn list_arguments(
     alloc: Global,
     schema: &Schema,
     values: &[InputValueDefinition],
     faults: &mut Listed<DiagnosticData>,
 ) -> Result<(), Memory>
-    ensures { OnOk result (faults.new ≡ faults.old ++ spec.firsts_faults schema.now [] values.now) }
+    ensures { OnOk result (faults.new ≡ faults.old ++ flat_map (spec.input_value_faults schema.now ArgumentDefinition) values.now) }
 {
-    let mut seen = KeyTable::new(alloc);
     for value in values {
-        list_first(alloc, schema, value, &mut seen, faults)?;
+        list_input_value(
+            alloc,
+            schema,
+            DirectiveLocation::ArgumentDefinition,
+            value,
+            faults,
+        )?;
     }
     Ok(())
-}
-
-/// Lists what is wrong with an argument, if its name was not seen.
-fn list_first(
-    alloc: Global,
-    schema: &Schema,
-    value: &InputValueDefinition,
-    seen: &mut KeyTable,
-    faults: &mut Listed<DiagnosticData>,
-) -> Result<(), Memory>
-    ensures seen { OnOk result (seen.new ≡ spec.with_name seen.old value.now.name.text) }
-    ensures faults { OnOk result (faults.new ≡ faults.old ++ spec.first_faults schema.now seen.old value.now) }
-{
-    match seen.find(value.name.as_str()) {
-        Some(_) => Ok(()),
-        None => {
-            seen.push(alloc, value.name.as_str())?;
-            list_input_value(
-                alloc,
-                schema,
-                DirectiveLocation::ArgumentDefinition,
-                value,
-                faults,
-            )
-        }
-    }
 }
 
 /// Lists what is wrong with the fields of an input object that are not built in.
@@ -120,7 +100,14 @@ fn list_input_value(
     list_reserved_name(alloc, &value.name, faults)?;
     list_type(alloc, schema, value, faults)?;
     list_default(alloc, schema, value, faults)?;
-    list_directives(alloc, schema, location, value.directives.as_slice(), faults)
+    list_directives(
+        alloc,
+        Defined::TypesAndScalars,
+        schema,
+        location,
+        value.directives.as_slice(),
+        faults,
+    )
 }
 
 /// Lists what is wrong with the type of an argument or an input field.
@@ -146,7 +133,14 @@ fn list_default(
     ensures { OnOk result (faults.new ≡ faults.old ++ spec.default_faults schema.now value.now) }
 {
     match &value.default_value {
-        Some(default) => list_literal(alloc, &schema.types, default, &value.ty, faults),
+        Some(default) => list_literal(
+            alloc,
+            Defined::TypesAndScalars,
+            &schema.types,
+            default,
+            &value.ty,
+            faults,
+        ),
         None => Ok(()),
     }
 }

@@ -22,7 +22,7 @@ use gql_ast_definitions::{
     DirectiveLocation, EnumValueDefinition, FieldDefinition, InputValueDefinition,
 };
 use gql_diag_messages::DiagnosticData;
-use gql_rules_base::is_written;
+use gql_rules_base::{Defined, is_written};
 use gql_rules_values::list_directives;
 use gql_schema_types::{
     EnumType, ExtendedType, InputObjectType, InterfaceType, ObjectType, ScalarType, Schema,
@@ -76,6 +76,7 @@ fn list_scalar(
     list_type_name(alloc, it.location, &it.name, faults)?;
     list_directives(
         alloc,
+        Defined::TypesAndScalars,
         schema,
         DirectiveLocation::Scalar,
         it.directives.as_slice(),
@@ -95,6 +96,7 @@ fn list_object(
     list_no_fields(alloc, it.location, &it.name, it.fields.as_slice(), faults)?;
     list_directives(
         alloc,
+        Defined::TypesAndScalars,
         schema,
         DirectiveLocation::Object,
         it.directives.as_slice(),
@@ -116,6 +118,7 @@ fn list_interface(
     list_no_fields(alloc, it.location, &it.name, it.fields.as_slice(), faults)?;
     list_directives(
         alloc,
+        Defined::TypesAndScalars,
         schema,
         DirectiveLocation::Interface,
         it.directives.as_slice(),
@@ -137,6 +140,7 @@ fn list_union(
     list_no_members(alloc, it.location, &it.name, it.members.as_slice(), faults)?;
     list_directives(
         alloc,
+        Defined::TypesAndScalars,
         schema,
         DirectiveLocation::Union,
         it.directives.as_slice(),
@@ -157,6 +161,7 @@ fn list_enum(
     list_no_values(alloc, it.location, &it.name, it.values.as_slice(), faults)?;
     list_directives(
         alloc,
+        Defined::TypesAndScalars,
         schema,
         DirectiveLocation::Enum,
         it.directives.as_slice(),
@@ -177,6 +182,7 @@ fn list_input_object(
     list_no_input_fields(alloc, it.location, &it.name, it.fields.as_slice(), faults)?;
     list_directives(
         alloc,
+        Defined::TypesAndScalars,
         schema,
         DirectiveLocation::InputObject,
         it.directives.as_slice(),

@@ -15,6 +15,7 @@ use Rattle.gql_diag_messages.specs.declared.diagnostic_data.DiagnosticData.{Diag
 use Rattle.gql_rules_base.specs.Faults.{only_if, name_fault}
 use Rattle.gql_diag_messages.specs.declared.rule.Rule.TheVariants.{UndefinedDefinition, RootOperationObjectType}
 use Rattle.gql_rules_base.specs.Known.{is_known}
+use Rattle.gql_rules_base.specs.declared.known.Defined.TheVariants.{TypesAndScalars}
 use Rattle.gql_schema.specs.BuiltInSchema.{IsBuiltIn}
 use Rattle.gql_schema.specs.Builders.{Taken, built}
 use Rattle.gql_schema_build.specs.Considered.{considered}
@@ -101,7 +102,7 @@ no_root_faults schema holds =
     front_empty (parts_faults schema) holds.interfaces (front_empty (parts_faults schema ++ holds.interfaces) holds.input_objects
     (front_empty ((parts_faults schema ++ holds.interfaces) ++ holds.input_objects) holds.directives of_chains)) in
     let of_schema : S ≡ [] = front_empty S D (front_empty (S ++ D) T (front_empty ((S ++ D) ++ T) I of_parts)) in
-    let A = directive_faults schema.types at.Schema schema.directive_definitions schema.schema_definition.directives in
+    let A = directive_faults TypesAndScalars schema.types at.Schema schema.directive_definitions schema.schema_definition.directives in
     let Q = query_root_operation_type schema.schema_definition in
     let R = roots_faults schema in
     let U = duplicate_root_operation_type schema.schema_definition in

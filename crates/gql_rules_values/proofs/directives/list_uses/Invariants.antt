@@ -5,4 +5,4 @@ use Rattle.gql_rules_values.proofs.directives.list_uses.Given as goal
 
 -- what is listed and what is left make the whole
 abbrev pub invariant-loop-used : goal.invariant-loop-used
-invariant-loop-used l = l.faults ++ flat_map (use_faults l.schema.types l.location l.schema.directive_definitions) (drop l.used-index l.directives) ≡ l.fn.faults ++ flat_map (use_faults l.schema.types l.location l.schema.directive_definitions) l.directives
+invariant-loop-used l = l.faults ++ flat_map (use_faults l.defined l.schema.types l.location l.schema.directive_definitions) (drop l.used-index l.directives) ≡ l.fn.faults ++ flat_map (use_faults l.defined l.schema.types l.location l.schema.directive_definitions) l.directives

@@ -1,8 +1,0 @@
-use Rattle.std.proofs.Common.{◌≡◌, ◌++◌, drop}
-use Rattle.gql_rules_variables.specs.Operations.{definitions_of, not_noted}
-use Rattle.gql_rules_variables.proofs.unused_variable.list_each.Given as goal
-
--- what is told and what is left make the whole
-abbrev pub invariant-loop-variable : goal.invariant-loop-variable
-invariant-loop-variable l =
-    l.faults ++ not_noted l.used (definitions_of (drop l.variable-index l.variables)) ≡ l.fn.faults ++ not_noted l.used (definitions_of l.variables)
