@@ -6,7 +6,6 @@
 #![tactic(auto)]
 
 mod introspected;
-pub mod laws;
 mod standing;
 
 pub use introspected::{Introspected, is_introspection};
