@@ -15,4 +15,4 @@ pub mod Steps
 pub mod Values
 pub mod Views
 pub mod Ways
-pub mod Partial
+pub mod PartialAnswers

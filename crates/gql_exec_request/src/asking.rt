@@ -5,6 +5,7 @@ ghost use Rattle.gql_exec_resolve.specs.Meaning.{Answers};
 ghost use Rattle.gql_exec_places.specs.Resolved.{answered, Meaning};
 ghost use Rattle.gql_exec_world.specs.Asks as spec;
 ghost use Rattle.gql_exec_request.specs.Asking.{outcome_of};
+ghost use Rattle.gql_exec_request.specs.Executing as executing;
 ghost use Rattle.gql_exec_request.specs.Executing.{request_of};
 
 use crate::executing::Executing;
@@ -71,7 +72,7 @@ impl<'s> Executing<'s> {
             let text = Value::from_text(self.alloc, object_type.name.as_str())?;
             return Ok(Asked::Gave(ResolvedValue::Leaf(text)));
         }
-        if !self.introspection && is_introspection(self.schema(), object_type, name) {
+        if self.is_hidden(object_type, name) {
             let message = Text::from_str(self.alloc, "schema introspection is disabled")?;
             return Ok(Asked::Failed(FieldError { message }));
         }
@@ -83,6 +84,13 @@ impl<'s> Executing<'s> {
             arguments,
         );
         told(object.resolve_field(self.alloc, &info))
+    }
+
+    /// Whether the field of this name on this type tells of the schema (section 4.1) while introspection is off.
+    fn is_hidden(&self, object_type: &ObjectType, name: &str) -> bool
+        ensures { result ≡ executing.is_hidden self.now.introspection self.now.request.schema.now object_type.now name.now }
+    {
+        !self.introspection && is_introspection(self.schema(), object_type, name)
     }
 
     /// The definition of a field on this type, which every group that is collected has; else that on the type that it is

@@ -1,7 +1,7 @@
 use Rattle.std.proofs.Common.{true, ap, ◌∙◌}
 use Rattle.gql_exec_request.specs.Execution.{with_operation, with_implementers, with_values, with_introspection}
 use Rattle.gql_exec_request.specs.declared.execution.Given.TheVariants.{Coerced}
-use Rattle.gql_exec_request.proofs.Partial.{asked, partial-answer}
+use Rattle.gql_exec_request.proofs.PartialAnswers.{asked, partial-answer}
 use Rattle.gql_exec_request.proofs.partial.partial_execute.Goals as goal
 
 pub returns : goal.returns
