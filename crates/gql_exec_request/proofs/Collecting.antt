@@ -19,7 +19,8 @@ use Rattle.gql_exec_world.specs.RequestWorld.{plain_world, setting_on}
 use Rattle.gql_exec_world.specs.Runs.{RunsAs}
 use Rattle.gql_exec_world.proofs.Alike.{collected-distinct, collected-runs}
 use Rattle.gql_exec_world.proofs.Nests.{groups-below}
-use Rattle.gql_exec_request.specs.Executing.{Resolving, request_of}
+use Rattle.gql_exec_introspected.specs.ThingMeaning.{Resolving}
+use Rattle.gql_exec_request.specs.Executing.{request_of}
 use Rattle.gql_exec_request.specs.Trails.{group_of}
 use Rattle.gql_exec_request.specs.declared.executing.Executing.{Executing}
 use Rattle.gql_exec_request.proofs.Measures.{below-at, drop-item}

@@ -4,6 +4,7 @@ pub mod Done
 pub mod Fields
 pub mod Groups
 pub mod Heights
+pub mod Introspecting
 pub mod Items
 pub mod Keys
 pub mod Measures
@@ -14,3 +15,4 @@ pub mod Steps
 pub mod Values
 pub mod Views
 pub mod Ways
+pub mod PartialAnswers

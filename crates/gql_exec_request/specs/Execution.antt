@@ -1,5 +1,5 @@
 -- What an execution is of, and what it answers: sections 6.1 and 6.2 of GraphQL October 2021.
-use Rattle.std.specs.Prelude.{◌≡◌, ℕ, List, [], ◌∷◌, Option, Some, None, true, Result, Ok, Err, codes}
+use Rattle.std.specs.Prelude.{◌≡◌, ℕ, List, [], ◌∷◌, Option, Some, None, Bool, true, false, Result, Ok, Err, codes}
 use Rattle.std.specs.Borrow.{Bor}
 use Rattle.std.specs.Option.{option_copied}
 use Rattle.jb_text.specs.declared.refused.Refused.{Refused}
@@ -16,9 +16,11 @@ use Rattle.gql_schema_types.specs.declared.implementers.Implementers.{Implemente
 use Rattle.gql_schema_types.specs.declared.schema.Schema.{Schema}
 use Rattle.gql_schema_types.specs.declared.types.ObjectType.{ObjectType}
 use Rattle.gql_exec_variables.specs.RequestErrors.{request_error}
-use Rattle.gql_exec_world.specs.Request.{Members}
+use Rattle.gql_exec_introspected.specs.Thing.{of_user, type_of_thing}
+use Rattle.gql_exec_introspected.specs.ThingMeaning.{Resolving, thing_meaning}
+use Rattle.gql_exec_world.specs.Request.{Members, Request}
 use Rattle.gql_exec_world.specs.Response.{IsExecuted, IsExplained}
-use Rattle.gql_exec_request.specs.Executing.{Resolving, request_by}
+use Rattle.gql_exec_request.specs.Executing.{request_by}
 use Rattle.gql_exec_request.specs.declared.execution.Execution.{Execution}
 use Rattle.gql_exec_request.specs.declared.execution.Given.{Given}
 use Rattle.gql_exec_request.specs.declared.execution.Given.TheVariants.{Nothing, Coerced, Raw}
@@ -26,7 +28,8 @@ use Rattle.gql_exec_request.specs.declared.execution.Given.TheVariants.{Nothing,
 -- ---- how it is told what it is of
 
 abbrev pub started : Bor Schema → Bor ExecutableDocument → Execution
-started schema document = record { schema = schema; document = document; operation = None; implementers = None; given = Nothing }
+started schema document =
+    record { schema = schema; document = document; operation = None; implementers = None; given = Nothing; introspection = false }
 
 abbrev pub with_operation : Execution → Bor Operation → Execution
 with_operation execution operation = record execution { operation = Some operation }
@@ -36,6 +39,9 @@ with_implementers execution map = record execution { implementers = Some map }
 
 abbrev pub with_values : Execution → Given → Execution
 with_values execution given = record execution { given = given }
+
+abbrev pub with_introspection : Execution → Bool → Execution
+with_introspection execution enable = record execution { introspection = enable }
 
 abbrev pub HasNoOperation : Execution → Type 0
 HasNoOperation execution = execution.operation ≡ None
@@ -102,15 +108,31 @@ abbrev pub prepared : Execution → Result Prepared RequestError
 prepared execution =
     of_chosen execution.schema.now execution.given (operation_or execution.document.now.operations (option_copied execution.operation))
 
--- the response to what is executed is exactly what execution gives, and is explained; or the request is refused
-abbrev pub IsAnswer : {X : Type 0} → Schema → ExecutableDocument → (X → List ℕ) → Resolving X → X → Result Prepared RequestError
-    → Result ExecutionResponse (Refused RequestError) → Type 0
-IsAnswer schema document types resolves x wanted (Ok response) =
-    (p : Prepared) × (wanted ≡ Ok p)
-    × IsExecuted (request_by schema document p.variables types resolves) p.root x p.operation.selection_set.selections response
-    × IsExplained (request_by schema document p.variables types resolves) p.root x p.operation.selection_set.selections response
-IsAnswer schema document types resolves x wanted (Err (Fault fault)) = wanted ≡ Err fault
-IsAnswer schema document types resolves x wanted (Err Memory) = Unit {0}
+-- the request of an execution whose variables have these values
+abbrev pub request_in : {X : Type 0} → Execution → Members → (X → List ℕ) → Resolving X → Request X
+request_in execution variables types resolves =
+    request_by execution.introspection execution.schema.now execution.document.now variables types resolves
 
+-- the response to what is executed is exactly what execution gives, and is explained; or the request is refused
+abbrev pub IsAnswer : {X : Type 0} → Execution → (X → List ℕ) → Resolving X → X → Result Prepared RequestError
+    → Result ExecutionResponse (Refused RequestError) → Type 0
+IsAnswer execution types resolves x wanted (Ok response) =
+    (p : Prepared) × (wanted ≡ Ok p)
+    × IsExecuted (request_in execution p.variables types resolves) p.root x p.operation.selection_set.selections response
+    × IsExplained (request_in execution p.variables types resolves) p.root x p.operation.selection_set.selections response
+IsAnswer execution types resolves x wanted (Err (Fault fault)) = wanted ≡ Err fault
+IsAnswer execution types resolves x wanted (Err Memory) = Unit {0}
+
+-- over objects of one kind
+abbrev pub AnswersOver : {X : Type 0} → Execution → (X → List ℕ) → Resolving X → X → Result ExecutionResponse (Refused RequestError) → Type 0
+AnswersOver execution types resolves x answer = IsAnswer execution types resolves x (prepared execution) answer
+
+abbrev pub AnswersBy : {X : Type 0} → Bool → Execution → (X → List ℕ) → Resolving X → X → Result ExecutionResponse (Refused RequestError)
+    → Type 0
+AnswersBy true execution types resolves x answer =
+    AnswersOver execution (type_of_thing types) (thing_meaning resolves) (of_user execution.schema.now x) answer
+AnswersBy false execution types resolves x answer = AnswersOver execution types resolves x answer
+
+-- over the user's objects; and with introspection over these and its own, from the user's object under the schema
 abbrev pub Answers : {X : Type 0} → Execution → (X → List ℕ) → Resolving X → X → Result ExecutionResponse (Refused RequestError) → Type 0
-Answers execution types resolves x answer = IsAnswer execution.schema.now execution.document.now types resolves x (prepared execution) answer
+Answers execution types resolves x answer = AnswersBy execution.introspection execution types resolves x answer

@@ -3,3 +3,4 @@ pub mod Executing
 pub mod Asking
 pub mod Executed
 pub mod Execution
+pub mod Partial

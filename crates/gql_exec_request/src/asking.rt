@@ -5,8 +5,8 @@ ghost use Rattle.gql_exec_resolve.specs.Meaning.{Answers};
 ghost use Rattle.gql_exec_places.specs.Resolved.{answered, Meaning};
 ghost use Rattle.gql_exec_world.specs.Asks as spec;
 ghost use Rattle.gql_exec_request.specs.Asking.{outcome_of};
+ghost use Rattle.gql_exec_request.specs.Executing as executing;
 ghost use Rattle.gql_exec_request.specs.Executing.{request_of};
-ghost use Rattle.gql_schema_types.specs.Schemas as schemas;
 
 use crate::executing::Executing;
 use gql_ast_definitions::FieldDefinition;
@@ -14,6 +14,7 @@ use gql_coerce::{ArgumentFault, coerce_arguments};
 use gql_diag::JsonMap;
 use gql_document_types::Field;
 use gql_exec_groups::Group;
+use gql_exec_introspected::is_introspection;
 use gql_exec_resolve::{FieldError, ObjectValue, ResolveError, ResolveInfo, ResolvedValue};
 use gql_schema_types::ObjectType;
 use jb_text::{Memory, Refused, Text};
@@ -71,7 +72,7 @@ impl<'s> Executing<'s> {
             let text = Value::from_text(self.alloc, object_type.name.as_str())?;
             return Ok(Asked::Gave(ResolvedValue::Leaf(text)));
         }
-        if self.is_introspection(object_type, name) {
+        if self.is_hidden(object_type, name) {
             let message = Text::from_str(self.alloc, "schema introspection is disabled")?;
             return Ok(Asked::Failed(FieldError { message }));
         }
@@ -85,21 +86,11 @@ impl<'s> Executing<'s> {
         told(object.resolve_field(self.alloc, &info))
     }
 
-    /// Whether the field of this name on this type tells of the schema (section 4.1).
-    fn is_introspection(&self, object_type: &ObjectType, name: &str) -> bool
-        ensures { result ≡ spec.is_introspection self.now.request.schema.now object_type.now name.now }
+    /// Whether the field of this name on this type tells of the schema (section 4.1) while introspection is off.
+    fn is_hidden(&self, object_type: &ObjectType, name: &str) -> bool
+        ensures { result ≡ executing.is_hidden self.now.introspection self.now.request.schema.now object_type.now name.now }
     {
-        (name == "__schema" || name == "__type") && self.is_query_root(object_type.name.as_str())
-    }
-
-    /// Whether this is the name of the root type of queries.
-    fn is_query_root(&self, name: &str) -> bool
-        ensures { result ≡ schemas.is_query_root self.now.request.schema.now.schema_definition name.now }
-    {
-        match &self.schema().schema_definition.query {
-            Some(root) => name == root.as_str(),
-            None => false,
-        }
+        !self.introspection && is_introspection(self.schema(), object_type, name)
     }
 
     /// The definition of a field on this type, which every group that is collected has; else that on the type that it is

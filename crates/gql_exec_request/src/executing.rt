@@ -36,6 +36,8 @@ pub(crate) struct Executing<'s> {
     pub(crate) alloc: Global,
     pub(crate) request: RequestInfo<'s>,
     pub(crate) variables: &'s Valid<JsonMap>,
+    /// Whether fields that tell of the schema are asked for as any other.
+    pub(crate) introspection: bool,
 }
 
 impl<'s> Executing<'s> {

@@ -5,8 +5,9 @@ ghost use Rattle.gql_coerce.specs.Outcome.{told_as};
 ghost use Rattle.gql_coerce.specs.Variables.{coerced_variables};
 ghost use Rattle.gql_document_types.specs.ChosenOperation.{text_of};
 ghost use Rattle.gql_document_types.specs.Spreads.{spread_graph};
+ghost use Rattle.gql_exec_introspected.specs.Thing.{of_user, type_of_thing};
+ghost use Rattle.gql_exec_introspected.specs.ThingMeaning.{thing_meaning};
 ghost use Rattle.gql_exec_request.specs.Execution as spec;
-ghost use Rattle.gql_exec_request.specs.Executing.{request_by};
 ghost use Rattle.gql_exec_variables.specs.RequestErrors.{request_error};
 ghost use Rattle.gql_exec_request.specs.declared.execution.Given.TheVariants as given;
 ghost use Rattle.gql_exec_world.specs.Response.{IsExecuted, IsExplained};
@@ -16,6 +17,7 @@ use crate::executing::Executing;
 use crate::path::Path;
 use gql_diag::{JsonMap, RequestError, Valid};
 use gql_document_types::{ExecutableDocument, Operation};
+use gql_exec_introspected::Introspected;
 use gql_exec_resolve::{ObjectValue, RequestInfo};
 use gql_exec_variables::coerce_variable_values;
 use gql_response::ExecutionResponse;
@@ -41,6 +43,7 @@ pub struct Execution<'a> {
     operation: Option<&'a Operation>,
     implementers: Option<&'a ImplementersMap>,
     given: Given<'a>,
+    introspection: bool,
 }
 
 impl<'a> Execution<'a> {
@@ -56,6 +59,7 @@ impl<'a> Execution<'a> {
             operation: None,
             implementers: None,
             given: Given::Nothing,
+            introspection: false,
         }
     }
 
@@ -126,6 +130,18 @@ impl<'a> Execution<'a> {
         }
     }
 
+    /// The execution with introspection on, or off as it is unless it is set (section 4): where it is off, `__schema` and
+    /// `__type` are failures.
+    #[must_use]
+    pub fn enable_schema_introspection(self, enable: bool) -> Execution<'a>
+        ensures { result ≡ spec.with_introspection self.entry enable }
+    {
+        Execution {
+            introspection: enable,
+            ..self
+        }
+    }
+
     /// Executes the operation on the initial object, which is taken to be of the root type whatever type it names. Below
     /// the root an object is executed on the type that it names.
     ///
@@ -141,6 +157,35 @@ impl<'a> Execution<'a> {
     ) -> Result<ExecutionResponse, Refused<RequestError>>
         requires acyclic { (v : ℕ) → IsOnCycle (spread_graph self.now.document.now.fragments) v → ⊥ }
         ensures { spec.Answers self.now O.type_of O.resolves (O.seen initial.now) result }
+    {
+        if self.introspection {
+            self.execute_introspected(alloc, initial)
+        } else {
+            self.execute(alloc, initial)
+        }
+    }
+
+    /// The same over the user's objects and those of introspection, from the user's object under the schema.
+    fn execute_introspected<O: ObjectValue>(
+        &self,
+        alloc: Global,
+        initial: &O,
+    ) -> Result<ExecutionResponse, Refused<RequestError>>
+        requires { (v : ℕ) → IsOnCycle (spread_graph self.now.document.now.fragments) v → ⊥ }
+        ensures { spec.AnswersOver self.now (type_of_thing O.type_of) (thing_meaning O.resolves) (of_user self.now.schema.now (O.seen initial.now)) result }
+    {
+        let root = Introspected::root(self.schema, initial);
+        self.execute(alloc, &root)
+    }
+
+    /// The same over objects of one kind.
+    fn execute<O: ObjectValue>(
+        &self,
+        alloc: Global,
+        initial: &O,
+    ) -> Result<ExecutionResponse, Refused<RequestError>>
+        requires { (v : ℕ) → IsOnCycle (spread_graph self.now.document.now.fragments) v → ⊥ }
+        ensures { spec.AnswersOver self.now O.type_of O.resolves (O.seen initial.now) result }
     {
         match self.operation {
             Some(operation) => self.execute_operation(alloc, operation, initial),
@@ -159,7 +204,7 @@ impl<'a> Execution<'a> {
         initial: &O,
     ) -> Result<ExecutionResponse, Refused<RequestError>>
         requires { (v : ℕ) → IsOnCycle (spread_graph self.now.document.now.fragments) v → ⊥ }
-        ensures { spec.IsAnswer self.now.schema.now self.now.document.now O.type_of O.resolves (O.seen initial.now)
+        ensures { spec.IsAnswer self.now O.type_of O.resolves (O.seen initial.now)
             (spec.of_operation self.now.schema.now self.now.given operation.now) result }
     {
         let name = operation.object_type().as_str();
@@ -178,7 +223,7 @@ impl<'a> Execution<'a> {
         initial: &O,
     ) -> Result<ExecutionResponse, Refused<RequestError>>
         requires { (v : ℕ) → IsOnCycle (spread_graph self.now.document.now.fragments) v → ⊥ }
-        ensures { spec.IsAnswer self.now.schema.now self.now.document.now O.type_of O.resolves (O.seen initial.now)
+        ensures { spec.IsAnswer self.now O.type_of O.resolves (O.seen initial.now)
             (spec.with_variables operation.now root.now (spec.variables_of self.now.schema.now operation.now self.now.given)) result }
     {
         match self.given {
@@ -201,7 +246,7 @@ impl<'a> Execution<'a> {
         initial: &O,
     ) -> Result<ExecutionResponse, Refused<RequestError>>
         requires { (v : ℕ) → IsOnCycle (spread_graph self.now.document.now.fragments) v → ⊥ }
-        ensures { spec.IsAnswer self.now.schema.now self.now.document.now O.type_of O.resolves (O.seen initial.now)
+        ensures { spec.IsAnswer self.now O.type_of O.resolves (O.seen initial.now)
             (spec.with_variables operation.now root.now (told_as request_error (coerced_variables self.now.schema.now.types operation.now.variables values.now))) result }
     {
         match coerce_variable_values(alloc, self.schema, operation, values) {
@@ -220,7 +265,7 @@ impl<'a> Execution<'a> {
         initial: &O,
     ) -> Result<ExecutionResponse, Refused<RequestError>>
         requires { (v : ℕ) → IsOnCycle (spread_graph self.now.document.now.fragments) v → ⊥ }
-        ensures { spec.IsAnswer self.now.schema.now self.now.document.now O.type_of O.resolves (O.seen initial.now)
+        ensures { spec.IsAnswer self.now O.type_of O.resolves (O.seen initial.now)
             (spec.with_variables operation.now root.now (Ok values.now)) result }
     {
         match self.implementers {
@@ -244,7 +289,7 @@ impl<'a> Execution<'a> {
     ) -> Result<ExecutionResponse, Memory>
         requires { (v : ℕ) → IsOnCycle (spread_graph self.now.document.now.fragments) v → ⊥ }
         ensures { IfOk result (λ response.
-            let r = request_by self.now.schema.now self.now.document.now variables.now O.type_of O.resolves in
+            let r = spec.request_in self.now variables.now O.type_of O.resolves in
             IsExecuted r root.now (O.seen initial.now) operation.now.selection_set.selections response
             × IsExplained r root.now (O.seen initial.now) operation.now.selection_set.selections response) }
     {
@@ -257,6 +302,7 @@ impl<'a> Execution<'a> {
                 document: self.document,
             },
             variables,
+            introspection: self.introspection,
         };
         let sets = [&operation.selection_set];
         let mut errors = Listed::new(alloc);

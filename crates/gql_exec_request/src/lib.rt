@@ -1,4 +1,4 @@
-//! Execution of requests (GraphQL October 2021, section 6), without introspection.
+//! Execution of requests (GraphQL October 2021, section 6).
 //!
 //! An [`Execution`] is of one document on one schema. It is told which operation is meant and what its variables are, and
 //! then [`Execution::execute_sync`] asks a resolver for each field that the operation selects, completes what it is given
@@ -10,7 +10,9 @@ mod completed;
 mod executing;
 mod execution;
 mod faults;
+mod partial;
 mod path;
 mod place;
 
 pub use execution::Execution;
+pub use partial::partial_execute;

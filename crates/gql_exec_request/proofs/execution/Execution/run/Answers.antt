@@ -2,7 +2,7 @@ use Rattle.std.proofs.Common.{[], ◌∷◌, subst}
 use Rattle.gql_document_types.specs.Spreads.{spread_graph}
 use Rattle.gql_exec_world.specs.RequestWorld.{plain_world}
 use Rattle.gql_exec_request.specs.Executed.{Executes}
-use Rattle.gql_exec_request.specs.Executing.{request_by}
+use Rattle.gql_exec_request.specs.Execution.{request_in}
 use Rattle.gql_exec_request.proofs.Responses.{fragments-ranked, answered-by}
 use Rattle.gql_exec_request.proofs.Ways.{trail-root}
 use Rattle.gql_exec_request.proofs.execution.Execution.run.Goals as goal
@@ -11,7 +11,7 @@ pub returns : goal.returns
 returns g c =
     let document = c.args.self.now.document.now in
     let ranked = c.acyclic_graphs_have_ranks.ensures (spread_graph document.fragments) c.requires in
-    let r = request_by c.args.self.now.schema.now document c.args.variables.now g.O.ObjectValue.type_of g.O.ObjectValue.resolves in
+    let r = request_in c.args.self.now c.args.variables.now g.O.ObjectValue.type_of g.O.ObjectValue.resolves in
     let root = c.args.root.now in
     let x = g.O.ObjectValue.seen c.args.initial.now in
     let selections = c.args.operation.now.selection_set.selections in

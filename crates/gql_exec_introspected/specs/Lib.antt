@@ -1,0 +1,5 @@
+pub mod Thing
+pub mod Mapped
+pub mod ThingMeaning
+pub mod Request
+pub mod Seen

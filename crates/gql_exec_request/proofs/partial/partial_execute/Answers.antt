@@ -1,0 +1,18 @@
+use Rattle.std.proofs.Common.{true, ap, ◌∙◌}
+use Rattle.gql_exec_request.specs.Execution.{with_operation, with_implementers, with_values, with_introspection}
+use Rattle.gql_exec_request.specs.declared.execution.Given.TheVariants.{Coerced}
+use Rattle.gql_exec_request.proofs.PartialAnswers.{asked, partial-answer}
+use Rattle.gql_exec_request.proofs.partial.partial_execute.Goals as goal
+
+pub returns : goal.returns
+returns c =
+    let operation = c.args.operation in
+    let implementers = c.args.implementers_map in
+    let values = c.args.variable_values in
+    let is : c.enable_schema_introspection.result ≡ asked c.args.schema c.args.document operation implementers values =
+    c.enable_schema_introspection.ensures
+    ∙ ap (λ e. with_introspection e true) (c.coerced_variable_values.ensures
+    ∙ ap (λ e. with_values e (Coerced values)) (c.implementers_map.ensures
+    ∙ ap (λ e. with_implementers e implementers) (c.operation.ensures
+    ∙ ap (λ e. with_operation e operation) c.new.ensures))) in
+    partial-answer c.args.schema c.args.document operation implementers values c.enable_schema_introspection.result c.execute_sync.result is c.execute_sync.ensures
