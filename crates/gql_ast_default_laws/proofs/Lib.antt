@@ -1,0 +1,5 @@
+mod Rows
+pub mod Constants
+mod Kept
+mod Values
+mod Documents

@@ -1,0 +1,3 @@
+-- What coercion makes of validated documents.
+pub mod Unmarked
+pub mod Inputs
