@@ -34,15 +34,15 @@ module _ (schema : Bor Schema) (document : Bor ExecutableDocument) (operation : 
   by-root : (found : Option ObjectType) (answer : Result ExecutionResponse (Refused RequestError)) → answers found answer
       → IsPartialOn schema.now document.now operation.now values.now found answer
   by-root (Some U) (Ok response) given =
-      let same : given.0 ≡ prepared_on U = (let is : Ok (prepared_on U) ≡ Ok given.0 = given.1.0 in cc) in (
+      let same : given.0 ≡ prepared_on U = (let is : Ok (prepared_on U) ≡ Ok given.0 = given.1 in cc) in (
         U,
         refl,
-        subst (λ (p : Prepared). IsExecuted (request_in asked p.variables (type_of_thing no_name) (thing_meaning no_field)) p.root (of_user schema.now tt) p.operation.selection_set.selections response) same given.1.1.0,
-        subst (λ (p : Prepared). IsExplained (request_in asked p.variables (type_of_thing no_name) (thing_meaning no_field)) p.root (of_user schema.now tt) p.operation.selection_set.selections response) same given.1.1.1,
+        subst (λ (p : Prepared). IsExecuted (request_in asked p.variables (type_of_thing no_name) (thing_meaning no_field)) p.root (of_user schema.now tt) p.operation.selection_set.selections response) same given.2,
+        subst (λ (p : Prepared). IsExplained (request_in asked p.variables (type_of_thing no_name) (thing_meaning no_field)) p.root (of_user schema.now tt) p.operation.selection_set.selections response) same given.3,
       )
   by-root (Some U) (Err (Fault fault)) given = absurd (let is : Ok (prepared_on U) ≡ Err fault = given in cc)
   by-root (Some U) (Err Memory) given = tt
-  by-root None (Ok response) given = absurd (let is : Err undefined_root ≡ Ok given.0 = given.1.0 in cc)
+  by-root None (Ok response) given = absurd (let is : Err undefined_root ≡ Ok given.0 = given.1 in cc)
   by-root None (Err (Fault fault)) given = (refl, (let is : Err undefined_root ≡ Err fault = given in cc))
   by-root None (Err Memory) given = tt
 

@@ -7,4 +7,4 @@ use Rattle.gql_exec_request.proofs.execution.Execution.execute_introspected.Goal
 pub returns : goal.returns
 returns g c =
     subst (λ (thing : Thing g.O.ObjectValue.Seen). AnswersOver c.args.self.now (type_of_thing g.O.ObjectValue.type_of) (thing_meaning g.O.ObjectValue.resolves) thing c.execute.result)
-    c.root.ensures c.execute.ensures
+    c.root-root.ensures c.execute.ensures
