@@ -1,4 +1,4 @@
-//! Schemas, documents and objects of the tests, and answers as they are printed.
+//! Schemas, documents and objects of the tests, and answers as texts.
 
 ghost use Rattle.std.specs.Prelude.{◌≡◌, ℕ, ◌+◌, ◌^◌, ◌<◌, IfOk};
 ghost use Rattle.gql_document_types.specs.Spreads.{spread_graph};
@@ -9,10 +9,11 @@ use bytes::Bytes;
 use gql_diag::{ExecutionResponse, JsonMap, JsonValue, RequestError, Valid};
 use gql_document_types::ExecutableDocument;
 use gql_parser::Parser;
+use gql_refusal::refusal_of_request;
 use gql_schema_types::Schema;
 use gql_source::{FileIds, SourceMap};
 use jb_read::from_str;
-use jb_text::{Listed, Memory, Refused};
+use jb_text::Refused;
 use std::alloc::Global;
 use std::test::Fail;
 
@@ -57,7 +58,7 @@ pub(crate) fn object_of(alloc: Global, text: &str) -> Result<JsonMap, Fail> {
     }
 }
 
-/// A response as it is printed, and a refusal as the error of a response without data.
+/// A response as it is printed, or the refusal.
 pub(crate) fn printed(
     alloc: Global,
     sources: &SourceMap,
@@ -65,16 +66,7 @@ pub(crate) fn printed(
 ) -> Result<Bytes, Fail> {
     match answer {
         Ok(response) => Ok(response.to_bytes(alloc)?),
-        Err(Refused::Fault(error)) => Ok(refusal(alloc, sources, &error)?),
+        Err(Refused::Fault(error)) => Ok(refusal_of_request(alloc, &error, sources)?),
         Err(Refused::Memory) => Err("no memory")?,
     }
-}
-
-/// A refusal as the error of a response without data.
-fn refusal(alloc: Global, sources: &SourceMap, error: &RequestError) -> Result<Bytes, Memory> {
-    let error = error.to_graphql_error(alloc, sources)?;
-    let mut errors = Listed::new(alloc);
-    errors.push(error)?;
-    let response = ExecutionResponse { errors, root: None };
-    response.to_bytes(alloc)
 }

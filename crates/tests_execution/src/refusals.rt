@@ -14,27 +14,27 @@ const ROWS: &[(&str, &str, &str)] = &[
     (
         "type Query { f: Int }",
         "query A { f } query B { f }",
-        "{\"errors\":[{\"message\":\"document has 2 operations and no name was given\"}],\"data\":null}",
+        "{\"errors\":[{\"message\":\"document has 2 operations and no name was given\"}]}",
     ),
     (
         "type Query { f: Int }",
         "fragment F on Query { f }",
-        "{\"errors\":[{\"message\":\"document has 0 operations and no name was given\"}],\"data\":null}",
+        "{\"errors\":[{\"message\":\"document has 0 operations and no name was given\"}]}",
     ),
     (
         "schema { query: Node } interface Node { f: Int }",
         "query A { f } query B { f }",
-        "{\"errors\":[{\"message\":\"document has 2 operations and no name was given\"}],\"data\":null}",
+        "{\"errors\":[{\"message\":\"document has 2 operations and no name was given\"}]}",
     ),
     (
         "schema { query: Node } interface Node { f(a: Int): Int }",
         "query($v: Int!) { f(a: $v) }",
-        "{\"errors\":[{\"message\":\"Undefined root operation type\",\"extensions\":{\"APOLLO_SUSPECTED_VALIDATION_BUG\":true}}],\"data\":null}",
+        "{\"errors\":[{\"message\":\"Undefined root operation type\",\"extensions\":{\"APOLLO_SUSPECTED_VALIDATION_BUG\":true}}]}",
     ),
     (
         "type Query { f(a: Int): Int }",
         "query($v: Int!) { f(a: $v) }",
-        "{\"errors\":[{\"message\":\"missing value for non-null variable 'v'\",\"locations\":[{\"line\":1,\"column\":7}]}],\"data\":null}",
+        "{\"errors\":[{\"message\":\"missing value for non-null variable 'v'\",\"locations\":[{\"line\":1,\"column\":7}]}]}",
     ),
 ];
 

@@ -39,13 +39,13 @@ const ROWS: &[(Setting, &str)] = &[
     (Setting::Name("B"), "{\"data\":{\"g\":7}}"),
     (
         Setting::Name("C"),
-        "{\"errors\":[{\"message\":\"operation `C` is not defined\"}],\"data\":null}",
+        "{\"errors\":[{\"message\":\"operation `C` is not defined\"}]}",
     ),
     (Setting::Coerced("{}"), "{\"data\":{\"f\":7}}"),
     (Setting::Raw("{\"v\":1}"), "{\"data\":{\"f\":7}}"),
     (
         Setting::Raw("{}"),
-        "{\"errors\":[{\"message\":\"missing value for non-null variable 'v'\",\"locations\":[{\"line\":1,\"column\":9}]}],\"data\":null}",
+        "{\"errors\":[{\"message\":\"missing value for non-null variable 'v'\",\"locations\":[{\"line\":1,\"column\":9}]}]}",
     ),
 ];
 
