@@ -18,13 +18,16 @@ type_of _ = codes "Other"
 abbrev pub number : ℕ → Value
 number n = json.Number (pos n)
 
+abbrev pub word : Meaning Sample
+word = gives_leaf (json.String (codes "no"))
+
 -- each field of an object is the same
 abbrev pub gives : List ℕ → Sample → Meaning Sample
 gives name sample.Null = gives_leaf json.Null
 gives name sample.Seven = gives_leaf (number 7)
 gives name sample.Large = gives_leaf (number (2 ^ 31))
 gives name sample.Huge = gives_leaf (number (2 ^ 63))
-gives name sample.Word = gives_leaf (json.String (codes "no"))
+gives name sample.Word = word
 gives name sample.Leaf = gives_leaf (number 1)
 gives name sample.Stranger = gives_leaf (number 1)
 gives name sample.Abstract = gives_leaf (number 1)
@@ -34,7 +37,7 @@ gives name sample.HoldsCurious = gives_object sample.Curious
 gives name sample.HoldsStranger = gives_object sample.Stranger
 gives name sample.HoldsAbstract = gives_object sample.Abstract
 gives name sample.Empty = gives_list no_answer
-gives name sample.Gaps = gives_list (answer_then (gives_leaf (number 7)) (answer_then gives_skip (answer_then (gives_leaf (json.String (codes "no"))) no_answer)))
+gives name sample.Gaps = gives_list (answer_then (gives_leaf (number 7)) (answer_then gives_skip (answer_then word no_answer)))
 gives name sample.Breaks = gives_list (answer_then (gives_leaf (number 7)) (answer_then (fails_with (codes "!")) no_answer))
 gives name sample.Skips = gives_skip
 gives name sample.Fails = fails_with (codes "!")
