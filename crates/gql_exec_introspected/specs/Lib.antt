@@ -2,4 +2,5 @@ pub mod Thing
 pub mod Mapped
 pub mod ThingMeaning
 pub mod Request
+pub mod Restricted
 pub mod Seen

@@ -6,6 +6,7 @@
 #![tactic(auto)]
 
 mod introspected;
+pub mod laws;
 mod standing;
 
 pub use introspected::{Introspected, is_introspection};
