@@ -1,5 +1,5 @@
 -- What is answered to what is wanted, step by step.
-use Rattle.std.proofs.Common.{◌≡◌, ℕ, List, Option, Some, None, Result, Ok, Err, IfOk, IfErr, refl, sym, ap, subst}
+use Rattle.std.proofs.Common.{◌≡◌, ℕ, List, Option, Some, None, false, Result, Ok, Err, IfOk, IfErr, refl, sym, ap, subst}
 use Rattle.jb_text.specs.declared.refused.Refused.{Refused}
 use Rattle.jb_text.specs.declared.refused.Refused.TheVariants.{Fault, Memory}
 use Rattle.jb_print.specs.Compact.{compact}
@@ -12,7 +12,8 @@ use Rattle.gql_document_types.specs.ChosenOperation.{chosen, IsChosen as IsChose
 use Rattle.gql_document_types.specs.declared.document.ExecutableDocument.{ExecutableDocument}
 use Rattle.gql_document_types.specs.declared.operation.Operation.{Operation}
 use Rattle.gql_exec_request.specs.Execution.{Answers as ExecutionAnswers, IsAnswer as IsExecutionAnswer, Prepared, on_root, started, undefined_root, with_operation, with_values}
-use Rattle.gql_exec_request.specs.Executing.{Resolving, request_by}
+use Rattle.gql_exec_introspected.specs.ThingMeaning.{Resolving}
+use Rattle.gql_exec_request.specs.Executing.{request_by}
 use Rattle.gql_exec_request.specs.declared.execution.Execution.{Execution}
 use Rattle.gql_exec_request.specs.declared.execution.Given.TheVariants.{Coerced}
 use Rattle.gql_exec_variables.specs.RequestErrors.{request_error as fault_told}
@@ -42,19 +43,22 @@ use Rattle.gql_engine.proofs.Results.{same_ok, same_err, ok_or_err}
 
 module _ {X : Type 0} (types : X → List ℕ) (resolves : Resolving X) (root : X) where
   -- the response to what was prepared is that of the operation on its root type
-  pub executed_on : (S : Schema) (Q : ExecutableDocument) (o : Operation) (values : Bor Members) (found : Option ObjectType) (response : ExecutionResponse) (bytes : List ℕ)
-      → object_of S o.selection_set.ty.text ≡ found → IsExecutionAnswer S Q types resolves root (on_root S (Coerced values) o found) (Ok response)
-      → bytes ≡ compact (response_value response) → IsExecutionOf types resolves root S Q o values.now bytes
-  executed_on S Q o values None response bytes is h written = absurd (ok_or_err (on_root S (Coerced values) o None) h.0 undefined_root h.1 refl)
-  executed_on S Q o values (Some T) response bytes is h written =
-      let made : Prepared = record { operation = o; root = T; variables = values.now } in
-      let same : h.0 ≡ made = same_ok (on_root S (Coerced values) o (Some T)) h.0 made h.1 refl in
+  pub executed_on : (schema : Bor Schema) (document : Bor ExecutableDocument) (operation : Bor Operation) (values : Bor Members) (found : Option ObjectType)
+      (response : ExecutionResponse) (bytes : List ℕ) → object_of schema.now operation.now.selection_set.ty.text ≡ found
+      → IsExecutionAnswer (with_values (with_operation (started schema document) operation) (Coerced values)) types resolves root
+      (on_root schema.now (Coerced values) operation.now found) (Ok response)
+      → bytes ≡ compact (response_value response) → IsExecutionOf types resolves root schema.now document.now operation.now values.now bytes
+  executed_on schema document operation values None response bytes is h written =
+      absurd (ok_or_err (on_root schema.now (Coerced values) operation.now None) h.0 undefined_root h.1 refl)
+  executed_on schema document operation values (Some T) response bytes is h written =
+      let made : Prepared = record { operation = operation.now; root = T; variables = values.now } in
+      let same : h.0 ≡ made = same_ok (on_root schema.now (Coerced values) operation.now (Some T)) h.0 made h.1 refl in
       record {
         root_type = T;
         is_root = is;
         response = response;
-        executed = subst (λ (p : Prepared). IsExecuted (request_by S Q p.variables types resolves) p.root root p.operation.selection_set.selections response) same h.2;
-        explained = subst (λ (p : Prepared). IsExplained (request_by S Q p.variables types resolves) p.root root p.operation.selection_set.selections response) same h.3;
+        executed = subst (λ (p : Prepared). IsExecuted (request_by false schema.now document.now p.variables types resolves) p.root root p.operation.selection_set.selections response) same h.2;
+        explained = subst (λ (p : Prepared). IsExplained (request_by false schema.now document.now p.variables types resolves) p.root root p.operation.selection_set.selections response) same h.3;
         written = written;
       }
 
@@ -64,7 +68,7 @@ module _ {X : Type 0} (types : X → List ℕ) (resolves : Resolving X) (root : 
       → ExecutionAnswers execution types resolves root (Ok response) → IfOk result (λ bytes. bytes ≡ compact (response_value response))
       → IfOk result (IsExecutionOf types resolves root schema.now document.now operation.now values.now)
   executed_bytes schema document operation values execution is response (Ok bytes) h written =
-      executed_on schema.now document.now operation.now values (object_of schema.now operation.now.selection_set.ty.text) response bytes refl
+      executed_on schema document operation values (object_of schema.now operation.now.selection_set.ty.text) response bytes refl
       (subst (λ (e : Execution). ExecutionAnswers e types resolves root (Ok response)) is h) written
   executed_bytes schema document operation values execution is response (Err e) h written = tt
 

@@ -1,9 +1,10 @@
 -- What a response says.
-use Rattle.std.specs.Prelude.{◌≡◌, ℕ, List, Some}
+use Rattle.std.specs.Prelude.{◌≡◌, ℕ, false, List, Some}
 use Rattle.jb_print.specs.Compact.{compact}
 use Rattle.gql_document_types.specs.declared.document.ExecutableDocument.{ExecutableDocument}
 use Rattle.gql_document_types.specs.declared.operation.Operation.{Operation}
-use Rattle.gql_exec_request.specs.Executing.{Resolving, request_by}
+use Rattle.gql_exec_introspected.specs.ThingMeaning.{Resolving}
+use Rattle.gql_exec_request.specs.Executing.{request_by}
 use Rattle.gql_exec_world.specs.Response.{IsExecuted, IsExplained}
 use Rattle.gql_response.specs.Response.{response_value}
 use Rattle.gql_response.specs.declared.execution_response.ExecutionResponse.{ExecutionResponse}
@@ -24,8 +25,8 @@ pub record IsExecutionOf {X : Type 0} (type_of : X → List ℕ) (resolves : Res
   pub root_type : ObjectType
   pub is_root : IsRoot schema operation root_type
   pub response : ExecutionResponse
-  pub executed : IsExecuted (request_by schema document variables type_of resolves) root_type root operation.selection_set.selections response
-  pub explained : IsExplained (request_by schema document variables type_of resolves) root_type root operation.selection_set.selections response
+  pub executed : IsExecuted (request_by false schema document variables type_of resolves) root_type root operation.selection_set.selections response
+  pub explained : IsExplained (request_by false schema document variables type_of resolves) root_type root operation.selection_set.selections response
   pub written : bytes ≡ compact (response_value response)
 
 -- nothing is in the way of a response, and the bytes are that of the chosen operation with its coerced variables

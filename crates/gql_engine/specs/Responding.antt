@@ -4,7 +4,7 @@ use Rattle.jb_text.specs.declared.refused.Refused.{Refused}
 use Rattle.jb_text.specs.declared.refused.Refused.TheVariants.{Fault, Memory}
 use Rattle.gql_diag.specs.RequestFault.{request_error}
 use Rattle.gql_diag.specs.declared.request_error.RequestError.{RequestError}
-use Rattle.gql_exec_request.specs.Executing.{Resolving}
+use Rattle.gql_exec_introspected.specs.ThingMeaning.{Resolving}
 use Rattle.gql_refusal.specs.Refusal.{errors_of}
 use Rattle.gql_response.specs.declared.graphql_error.GraphQLError.{GraphQLError}
 use Rattle.gql_source.specs.File.{Files}
