@@ -1,0 +1,15 @@
+mod Empty
+mod Each
+mod Names
+mod Entries
+mod Scalars
+mod Found
+mod Tokens
+mod Readings
+mod Forests
+mod BuiltInText
+mod Settled
+mod Fields
+mod Schemas
+mod Documents
+mod Whole

@@ -1,0 +1,2 @@
+-- What coercion makes of validated documents.
+pub mod Marks

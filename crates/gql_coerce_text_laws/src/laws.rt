@@ -1,0 +1,34 @@
+//! Laws of the definitions alone.
+
+ghost use Rattle.std.specs.Prelude.{ℕ, List};
+ghost use Rattle.std.specs.List.{All};
+ghost use Rattle.gql_coerce_laws.specs.Inputs.{AreInputFields, IsInputVariable};
+ghost use Rattle.gql_coerce_text_laws.specs.Marks.{LeavesNoMark};
+ghost use Rattle.gql_document_text.specs.DocumentText.{DocumentText};
+ghost use Rattle.gql_document_types.specs.declared.document.ExecutableDocument.{ExecutableDocument as DocumentOf};
+ghost use Rattle.gql_schema_text.specs.SchemaText.{SchemaText};
+ghost use Rattle.gql_schema_types.specs.declared.schema.Schema.{Schema as SchemaOf};
+
+use gql_ast_default_laws::laws as default_laws;
+use gql_ast_laws::laws as tree_laws;
+use gql_coerce_laws::laws as coercion_laws;
+use gql_cst_grammar::laws as grammar_laws;
+use gql_schema_laws::laws as built_in_laws;
+
+/// In a schema that a text means, each input field is of an input type and has a constant default, if it has one; and so is and
+/// has each variable of a document that a text means against the schema. So no fault that comes of coercing values to the
+/// variables of an operation of the document is marked as a suspected fault of validation (GraphQL October 2021, sections
+/// 3.10, 5.8.2 and 6.1.2).
+pub fn validated_documents_leave_no_mark()
+    ensures fields { (text : List ℕ) (schema : SchemaOf) → SchemaText text schema → AreInputFields schema.types }
+    ensures variables { (query : List ℕ) (schema : SchemaOf) (document : DocumentOf) → DocumentText schema query document
+        → All (λ operation. All (IsInputVariable schema.types) operation.variables) document.operations }
+    ensures unmarked { (text query : List ℕ) (schema : SchemaOf) (document : DocumentOf) → SchemaText text schema
+        → DocumentText schema query document → All (LeavesNoMark schema) document.operations }
+{
+    grammar_laws::factored_is_declared();
+    tree_laws::texts_have_one_document();
+    built_in_laws::built_in_text_is_a_document();
+    default_laws::defaults_are_constant();
+    coercion_laws::input_types_leave_no_mark();
+}
