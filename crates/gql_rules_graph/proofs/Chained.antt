@@ -72,6 +72,32 @@ next_round g named marks through made below told = record {
         by_test true = sym (or_false (is_marked marks w))
         by_test false = through_is w
 
+-- ---- where nothing is marked
+none_marked : (marks : List Bool) → list_any (λ (mark : Bool). mark) marks ≡ false → (v : ℕ) → is_marked marks v ≡ false
+none_marked [] none v = ap mark_of (slice_get_past [] v (omega arith))
+none_marked (true ∷ marks) none v = absurd cc
+none_marked (false ∷ marks) none zero = refl
+none_marked (false ∷ marks) none (suc v) = none_marked marks none v
+
+unmarked : (marks : List Bool) (v : ℕ) → v < length marks → list_any (λ (mark : Bool). mark) marks ≡ false → slice_get marks v ≡ Some false
+unmarked [] v within none = absurd (omega (arith, within))
+unmarked (true ∷ marks) v within none = absurd cc
+unmarked (false ∷ marks) zero within none = refl
+unmarked (false ∷ marks) (suc v) within none = unmarked marks v (omega (arith, within)) none
+
+nowhere : (nodes : List ℕ) → list_any (λ (node : ℕ). false) nodes ≡ false
+nowhere [] = refl
+nowhere (node ∷ nodes) = nowhere nodes
+
+pub same_marks : (g : Graph) (named : ℕ) (marks : List Bool) → length marks ≡ length g → list_any (λ (mark : Bool). mark) marks ≡ false → Told (next_mark g named marks) marks (length g)
+same_marks g named marks as_many none = record {
+  as_many = as_many;
+  each = λ v within. unmarked marks v (omega (arith, as_many, within)) none ∙ ap Some (sym (nothing (next_names g named v)));
+}
+  where
+    nothing : (nodes : List ℕ) → any_marked marks nodes ≡ false
+    nothing nodes = any_same (is_marked marks) (λ (node : ℕ). false) (none_marked marks none) nodes ∙ nowhere nodes
+
 chain_next : (g : Graph) (named more v : ℕ) → has_chain g named (more + 1) v ≡ list_any (has_chain g named more) (next_names g named v)
 unfolding has_chain
 chain_next g named more v = ap (λ n. has_chain g named n v) (let h : more + 1 ≡ suc more = omega arith in h)

@@ -1,6 +1,7 @@
 //! Names that lead back to themselves, and chains of names that are too long.
 
 ghost use Rattle.std.specs.Prelude.{◌≡◌, ◌++◌, ℕ, length, IfOk, OnOk};
+ghost use Rattle.std.specs.List.{list_any};
 ghost use Rattle.gql_rules_graph.specs.Chains as spec;
 ghost use Rattle.gql_rules_graph.specs.Cycles.{Told};
 ghost use Rattle.gql_rules_graph.specs.Graph.{row};
@@ -106,9 +107,33 @@ fn chained(alloc: Global, graph: &Listed<Listed<usize>>, named: usize) -> Result
 {
     let mut marks = vec![in alloc; true; graph.len()]?;
     for _round in 0..MOST_NAMES {
-        marks = next_marks(alloc, graph, named, marks.as_slice())?;
+        marks = marks_of_longer(alloc, graph, named, marks)?;
     }
     Ok(marks)
+}
+
+/// The marks of chains of one name more. Where nothing is marked there are none, and no node has to be looked at.
+fn marks_of_longer(
+    alloc: Global,
+    graph: &Listed<Listed<usize>>,
+    named: usize,
+    marks: Vec<bool>,
+) -> Result<Vec<bool>, Memory>
+    requires { length marks.items ≡ length graph.now }
+    ensures { IfOk result (λ made. Told (spec.next_mark graph.now named marks.items) made.items (length graph.now)) }
+{
+    if any_mark(marks.as_slice()) {
+        next_marks(alloc, graph, named, marks.as_slice())
+    } else {
+        Ok(marks)
+    }
+}
+
+/// Whether any node is marked.
+fn any_mark(marks: &[bool]) -> bool
+    ensures { result ≡ list_any (λ mark. mark) marks.now }
+{
+    marks.iter().any(|mark| *mark)
 }
 
 /// Marks each node from which an edge leads to a marked name, or through another node to a marked one.

@@ -14,6 +14,5 @@ loop-round-init c =
 pub loop-round-preserved : goal.loop-round-preserved
 loop-round-preserved c =
     let g = c.args.graph.now in
-    let told : Told (next_mark g c.args.named c.loop-round.marks.items) c.in_ok-marks-2.marks.items (length g) =
-    subst (λ l. Told (next_mark g c.args.named l) c.in_ok-marks-2.marks.items (length g)) c.as_slice.ensures.value c.in_ok-marks-2.ensures in
+    let told : Told (next_mark g c.args.named c.loop-round.marks.items) c.in_ok-marks-2.marks.items (length g) = c.in_ok-marks-2.ensures in
     record { count = told.as_many; marks = more_names g c.args.named c.loop-round._round c.loop-round.marks.items c.in_ok-marks-2.marks.items told c.loop-round.invariant.marks }
