@@ -6,12 +6,12 @@ ghost use Rattle.gql_rules_values.specs.Arguments as spec;
 
 use crate::literals::{list_literal, list_untyped};
 use crate::required_argument::list_required_arguments;
-use crate::undefined_argument::{defined, list_undefined_argument};
+use crate::undefined_argument::list_undefined_argument;
 use crate::unique_argument::list_unique_argument;
 use gql_ast_definitions::InputValueDefinition;
 use gql_ast_values::Argument;
 use gql_diag_messages::DiagnosticData;
-use gql_rules_base::Defined;
+use gql_rules_base::{ByName, Defined};
 use gql_schema_types::{ExtendedType, Table};
 use gql_source::SourceSpan;
 use jb_text::{Listed, Memory};
@@ -40,16 +40,17 @@ pub fn list_arguments(
         ≡ faults.old ++ spec.argument_faults counted types.now call.now.directive call.now.name.now call.now.location definitions.now arguments.now) }
 {
     list_unique_argument(alloc, arguments, faults)?;
+    let definitions = ByName::new(alloc, definitions, arguments.len())?;
     list_each(
         alloc,
         counted,
         types,
         call.name,
-        definitions,
+        &definitions,
         arguments,
         faults,
     )?;
-    list_required_arguments(alloc, call, arguments, definitions, faults)
+    list_required_arguments(alloc, call, arguments, &definitions, faults)
 }
 
 /// Lists what is wrong with arguments of which none is known. `Err` only for want of memory.
@@ -72,7 +73,7 @@ fn list_each(
     counted: Defined,
     types: &Table<ExtendedType>,
     name: &str,
-    definitions: &[InputValueDefinition],
+    definitions: &ByName<'_, InputValueDefinition>,
     arguments: &[Argument],
     faults: &mut Listed<DiagnosticData>,
 ) -> Result<(), Memory>
@@ -90,14 +91,14 @@ fn list_argument(
     counted: Defined,
     types: &Table<ExtendedType>,
     name: &str,
-    definitions: &[InputValueDefinition],
+    definitions: &ByName<'_, InputValueDefinition>,
     argument: &Argument,
     faults: &mut Listed<DiagnosticData>,
 ) -> Result<(), Memory>
     ensures { OnOk result (faults.new ≡ faults.old ++ spec.one_argument counted types.now name.now definitions.now argument.now) }
 {
     list_undefined_argument(alloc, name, definitions, argument, faults)?;
-    match defined(definitions, argument.name.as_str()) {
+    match definitions.get(argument.name.as_str()) {
         Some(definition) => list_literal(
             alloc,
             counted,

@@ -25,4 +25,5 @@ mod value_types;
 pub use arguments::{Call, list_arguments};
 pub use directives::list_directives;
 pub use literals::list_literal;
+pub use unique_argument::list_unique_argument;
 pub use unique_input_value::list_unique_definitions;

@@ -1,8 +1,7 @@
 //! An argument that has to be given is given (GraphQL October 2021, section 5.4.2.1).
 
-ghost use Rattle.std.specs.Prelude.{◌≡◌, ◌++◌, ◌∷◌, [], None, IfOk, OnOk};
+ghost use Rattle.std.specs.Prelude.{◌≡◌, ◌<◌, ◌++◌, ◌∷◌, [], Some, None, not, length, slice_get, take, IfOk, OnOk};
 ghost use Rattle.std.specs.List.{list_any};
-ghost use Rattle.std.specs.Str.{bytes_eq};
 ghost use Rattle.gql_ast_print.specs.TypeText.{type_text};
 ghost use Rattle.gql_diag_messages.specs.declared.rule.Rule.TheVariants.{RequiredArgument};
 ghost use Rattle.gql_rules_base.specs.Faults as told;
@@ -14,7 +13,7 @@ use gql_ast_definitions::InputValueDefinition;
 use gql_ast_print::print_type;
 use gql_ast_values::Argument;
 use gql_diag_messages::{DiagnosticData, Rule};
-use gql_rules_base::{is_required, list_fault};
+use gql_rules_base::{ByName, is_required, list_fault};
 use jb_text::{Listed, Memory, Text};
 use std::alloc::Global;
 
@@ -23,33 +22,38 @@ pub(crate) fn list_required_arguments(
     alloc: Global,
     call: &Call<'_>,
     arguments: &[Argument],
-    definitions: &[InputValueDefinition],
+    definitions: &ByName<'_, InputValueDefinition>,
     faults: &mut Listed<DiagnosticData>,
 ) -> Result<(), Memory>
     ensures { OnOk result (faults.new ≡ faults.old ++ spec.required_arguments call.now.directive call.now.name.now call.now.location arguments.now definitions.now) }
 {
-    for index in 0..definitions.len() {
-        let earlier = &definitions[..index];
-        list_required_argument(alloc, call, arguments, earlier, &definitions[index], faults)?;
+    let all = definitions.as_slice();
+    let given = ByName::new(alloc, arguments, all.len())?;
+    for at in 0..all.len() {
+        list_required_argument(alloc, call, &given, definitions, at, &all[at], faults)?;
     }
     Ok(())
 }
 
-/// Lists an argument if it has to be given and is not. Of several definitions of a name the first counts.
+/// Lists the argument that is defined at `at`, if it has to be given and is not. Of several definitions of a name the first
+/// counts.
 fn list_required_argument(
     alloc: Global,
     call: &Call<'_>,
-    arguments: &[Argument],
-    earlier: &[InputValueDefinition],
+    given: &ByName<'_, Argument>,
+    definitions: &ByName<'_, InputValueDefinition>,
+    at: usize,
     definition: &InputValueDefinition,
     faults: &mut Listed<DiagnosticData>,
 ) -> Result<(), Memory>
+    requires within { at < length definitions.now }
+    requires there { slice_get definitions.now at ≡ Some definition.now }
     ensures { OnOk result (faults.new
-        ≡ faults.old ++ spec.required_argument call.now.directive call.now.name.now call.now.location arguments.now earlier.now definition.now) }
+        ≡ faults.old ++ spec.required_argument call.now.directive call.now.name.now call.now.location given.now (take at definitions.now) definition.now) }
 {
     if is_required(definition)
-        && !is_given(arguments, definition.name.as_str())
-        && !is_defined(earlier, definition.name.as_str())
+        && !given.contains(definition.name.as_str())
+        && is_first(definitions, at, definition)
     {
         list_lacking(alloc, call, definition, faults)
     } else {
@@ -57,22 +61,17 @@ fn list_required_argument(
     }
 }
 
-/// Whether one of these definitions has the name.
-fn is_defined(definitions: &[InputValueDefinition], name: &str) -> bool
-    ensures { result ≡ list_any (spec.is_called name.now) definitions.now }
+/// Whether the definition, which is the one at `at`, is the first of its name.
+fn is_first(
+    definitions: &ByName<'_, InputValueDefinition>,
+    at: usize,
+    definition: &InputValueDefinition,
+) -> bool
+    requires within { at < length definitions.now }
+    requires there { slice_get definitions.now at ≡ Some definition.now }
+    ensures { result ≡ not (list_any (spec.is_called definition.now.name.text) (take at definitions.now)) }
 {
-    definitions
-        .iter()
-        .any(|definition| name == definition.name.as_str())
-}
-
-/// Whether one of the arguments has this name.
-fn is_given(arguments: &[Argument], name: &str) -> bool
-    ensures { result ≡ list_any (λ argument. bytes_eq name.now argument.name.text) arguments.now }
-{
-    arguments
-        .iter()
-        .any(|argument| name == argument.name.as_str())
+    definitions.is_first(at)
 }
 
 /// Lists an argument that is not given.

@@ -1,8 +1,6 @@
 //! A literal at an input object type gives each field that has to be given (GraphQL October 2021, section 5.6.4).
 
 ghost use Rattle.std.specs.Prelude.{◌≡◌, ◌++◌, ◌∷◌, [], None, OnOk};
-ghost use Rattle.std.specs.List.{list_any};
-ghost use Rattle.std.specs.Str.{bytes_eq};
 ghost use Rattle.gql_ast_print.specs.TypeText.{type_text};
 ghost use Rattle.gql_diag_messages.specs.declared.rule.Rule.TheVariants.{RequiredField};
 ghost use Rattle.gql_rules_base.specs.Faults as told;
@@ -13,7 +11,7 @@ use gql_ast_definitions::InputValueDefinition;
 use gql_ast_print::print_type;
 use gql_ast_values::Value;
 use gql_diag_messages::{DiagnosticData, Rule};
-use gql_rules_base::{is_required, list_fault};
+use gql_rules_base::{ByName, is_required, list_fault};
 use jb_text::{Listed, Memory};
 use std::alloc::Global;
 
@@ -27,8 +25,9 @@ pub(crate) fn list_required_fields(
 ) -> Result<(), Memory>
     ensures { OnOk result (faults.new ≡ faults.old ++ spec.required_fields literal.now members.now fields.now) }
 {
+    let given = ByName::new(alloc, members, fields.len())?;
     for field in fields {
-        list_required_field(alloc, literal, members, field, faults)?;
+        list_required_field(alloc, literal, &given, field, faults)?;
     }
     Ok(())
 }
@@ -37,24 +36,17 @@ pub(crate) fn list_required_fields(
 fn list_required_field(
     alloc: Global,
     literal: &Value,
-    members: &[(Name, Value)],
+    members: &ByName<'_, (Name, Value)>,
     field: &InputValueDefinition,
     faults: &mut Listed<DiagnosticData>,
 ) -> Result<(), Memory>
     ensures { OnOk result (faults.new ≡ faults.old ++ spec.required_field literal.now members.now field.now) }
 {
-    if is_required(field) && !has_key(members, field.name.as_str()) {
+    if is_required(field) && !members.contains(field.name.as_str()) {
         list_lacking(alloc, literal, field, faults)
     } else {
         Ok(())
     }
-}
-
-/// Whether one of the members has this key.
-fn has_key(members: &[(Name, Value)], key: &str) -> bool
-    ensures { result ≡ list_any (λ member. bytes_eq key.now member.0.text) members.now }
-{
-    members.iter().any(|member| key == member.0.as_str())
 }
 
 /// Lists a field that the literal lacks.

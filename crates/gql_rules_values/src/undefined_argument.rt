@@ -1,13 +1,12 @@
 //! An argument that is given is defined (GraphQL October 2021, section 5.4.1).
 
 ghost use Rattle.std.specs.Prelude.{◌≡◌, ◌++◌, OnOk};
-ghost use Rattle.std.specs.Option.{option_copied};
 ghost use Rattle.gql_rules_values.specs.UndefinedArgument as spec;
 
 use gql_ast_definitions::InputValueDefinition;
 use gql_ast_values::Argument;
 use gql_diag_messages::{DiagnosticData, Rule};
-use gql_rules_base::list_fault;
+use gql_rules_base::{ByName, list_fault};
 use jb_text::{Listed, Memory};
 use std::alloc::Global;
 
@@ -15,13 +14,13 @@ use std::alloc::Global;
 pub(crate) fn list_undefined_argument(
     alloc: Global,
     name: &str,
-    definitions: &[InputValueDefinition],
+    definitions: &ByName<'_, InputValueDefinition>,
     argument: &Argument,
     faults: &mut Listed<DiagnosticData>,
 ) -> Result<(), Memory>
     ensures { OnOk result (faults.new ≡ faults.old ++ spec.undefined_argument name.now definitions.now argument.now) }
 {
-    if defined(definitions, argument.name.as_str()).is_some() {
+    if definitions.get(argument.name.as_str()).is_some() {
         Ok(())
     } else {
         list_fault(
@@ -33,16 +32,4 @@ pub(crate) fn list_undefined_argument(
             faults,
         )
     }
-}
-
-/// The definition of an argument: the first of its name.
-pub(crate) fn defined<'s>(
-    definitions: &'s [InputValueDefinition],
-    name: &str,
-) -> Option<&'s InputValueDefinition>
-    ensures { option_copied result ≡ spec.defined definitions.now name.now }
-{
-    definitions
-        .iter()
-        .find(|definition| name == definition.name.as_str())
 }

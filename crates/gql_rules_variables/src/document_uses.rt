@@ -23,8 +23,8 @@ pub(crate) fn operation_uses<'d>(
     ensures { IfOk result (λ uses. seen.uses_of uses ≡ spec.operation_uses schema.now operation.now) }
 {
     let mut uses = Listed::new(alloc);
-    add_directives(schema, &operation.directives, &mut uses)?;
-    add_set(schema, &operation.selection_set, &mut uses)?;
+    add_directives(alloc, schema, &operation.directives, &mut uses)?;
+    add_set(alloc, schema, &operation.selection_set, &mut uses)?;
     Ok(uses)
 }
 
@@ -37,26 +37,28 @@ pub(crate) fn fragment_uses<'d>(
     ensures { IfOk result (λ uses. seen.uses_of uses ≡ spec.fragment_uses schema.now fragment.now) }
 {
     let mut uses = Listed::new(alloc);
-    add_directives(schema, &fragment.directives, &mut uses)?;
-    add_set(schema, &fragment.selection_set, &mut uses)?;
+    add_directives(alloc, schema, &fragment.directives, &mut uses)?;
+    add_set(alloc, schema, &fragment.selection_set, &mut uses)?;
     Ok(uses)
 }
 
 /// Adds the uses in a selection set.
 #[cycle(selected)]
 fn add_set<'d>(
+    alloc: Global,
     schema: &'d Schema,
     set: &'d SelectionSet,
     uses: &mut Listed<Use<'d>>,
 ) -> Result<(), Memory>
     ensures { OnOk result (seen.uses_of uses.new ≡ seen.uses_of uses.old ++ flat_map (spec.node_uses schema.now) (nodes.set_nodes set.now)) }
 {
-    add_selections(schema, &set.ty, &set.selections, uses)
+    add_selections(alloc, schema, &set.ty, &set.selections, uses)
 }
 
 /// Adds the uses in selections in a set on this type.
 #[cycle(selected)]
 fn add_selections<'d>(
+    alloc: Global,
     schema: &'d Schema,
     ty: &Name,
     selections: &'d Listed<Selection>,
@@ -65,13 +67,14 @@ fn add_selections<'d>(
     ensures { OnOk result (seen.uses_of uses.new ≡ seen.uses_of uses.old ++ flat_map (spec.node_uses schema.now) (nodes.selections_nodes ty.now selections.now)) }
 {
     for selection in selections.as_slice() {
-        add_selection(schema, ty, selection, uses)?;
+        add_selection(alloc, schema, ty, selection, uses)?;
     }
     Ok(())
 }
 
 #[cycle(selected)]
 fn add_selection<'d>(
+    alloc: Global,
     schema: &'d Schema,
     ty: &Name,
     selection: &'d Selection,
@@ -80,14 +83,22 @@ fn add_selection<'d>(
     ensures { OnOk result (seen.uses_of uses.new ≡ seen.uses_of uses.old ++ flat_map (spec.node_uses schema.now) (nodes.selection_nodes selection.now ty.now)) }
 {
     match selection {
-        Selection::Field(field) => add_field(schema, ty, field, uses),
-        Selection::FragmentSpread(spread) => add_directives(schema, &spread.directives, uses),
-        Selection::InlineFragment(fragment) => add_inline_fragment(schema, ty, fragment, uses),
+        Selection::Field(field) => add_field(alloc, schema, ty, field, uses),
+        Selection::FragmentSpread(spread) => add_directives(
+            alloc,
+            schema,
+            &spread.directives,
+            uses,
+        ),
+        Selection::InlineFragment(fragment) => add_inline_fragment(
+            alloc, schema, ty, fragment, uses,
+        ),
     }
 }
 
 #[cycle(selected)]
 fn add_field<'d>(
+    alloc: Global,
     schema: &'d Schema,
     ty: &Name,
     field: &'d Field,
@@ -96,17 +107,19 @@ fn add_field<'d>(
     ensures { OnOk result (seen.uses_of uses.new ≡ seen.uses_of uses.old ++ flat_map (spec.node_uses schema.now) (nodes.field_nodes ty.now field.now)) }
 {
     add_arguments(
+        alloc,
         &schema.types,
         field.definition.arguments.as_slice(),
         &field.arguments,
         uses,
     )?;
-    add_directives(schema, &field.directives, uses)?;
-    add_set(schema, &field.selection_set, uses)
+    add_directives(alloc, schema, &field.directives, uses)?;
+    add_set(alloc, schema, &field.selection_set, uses)
 }
 
 #[cycle(selected)]
 fn add_inline_fragment<'d>(
+    alloc: Global,
     schema: &'d Schema,
     ty: &Name,
     fragment: &'d InlineFragment,
@@ -114,6 +127,6 @@ fn add_inline_fragment<'d>(
 ) -> Result<(), Memory>
     ensures { OnOk result (seen.uses_of uses.new ≡ seen.uses_of uses.old ++ flat_map (spec.node_uses schema.now) (nodes.inline_nodes ty.now fragment.now)) }
 {
-    add_directives(schema, &fragment.directives, uses)?;
-    add_set(schema, &fragment.selection_set, uses)
+    add_directives(alloc, schema, &fragment.directives, uses)?;
+    add_set(alloc, schema, &fragment.selection_set, uses)
 }

@@ -1,9 +1,6 @@
 //! The uses of variables in values, arguments and directives.
 
 ghost use Rattle.std.specs.Prelude.{◌≡◌, ◌++◌, map, OnOk};
-ghost use Rattle.std.specs.Option.{option_copied};
-ghost use Rattle.gql_schema_types.specs.Entries.{entry};
-ghost use Rattle.gql_rules_values.specs.UndefinedInputValue.{input_name};
 ghost use Rattle.gql_rules_variables.specs.Uses as spec;
 ghost use Rattle.gql_rules_variables.specs.Views as seen;
 
@@ -11,8 +8,10 @@ use crate::uses::{Place, Use};
 use gql_ast_base::Name;
 use gql_ast_definitions::InputValueDefinition;
 use gql_ast_values::{Argument, Directive, Value, ValueKind};
+use gql_rules_base::ByName;
 use gql_schema_types::{ExtendedType, Schema, Table};
 use jb_text::{Listed, Memory};
+use std::alloc::Global;
 
 /// Adds the uses in a value at a place, those inside it too.
 #[cycle(uses)]
@@ -77,6 +76,7 @@ fn add_members<'d>(
 
 /// Adds the uses in arguments that have these definitions.
 pub(crate) fn add_arguments<'d>(
+    alloc: Global,
     types: &'d Table<ExtendedType>,
     definitions: &'d [InputValueDefinition],
     arguments: &'d Listed<Argument>,
@@ -84,8 +84,9 @@ pub(crate) fn add_arguments<'d>(
 ) -> Result<(), Memory>
     ensures { OnOk result (seen.uses_of uses.new ≡ seen.uses_of uses.old ++ spec.arguments_uses types.now definitions.now arguments.now) }
 {
+    let defined = ByName::new(alloc, definitions, arguments.len())?;
     for argument in arguments.as_slice() {
-        add_argument(types, definitions, argument, uses)?;
+        add_argument(types, &defined, argument, uses)?;
     }
     Ok(())
 }
@@ -93,18 +94,19 @@ pub(crate) fn add_arguments<'d>(
 /// Adds the uses in an argument.
 fn add_argument<'d>(
     types: &'d Table<ExtendedType>,
-    definitions: &'d [InputValueDefinition],
+    definitions: &ByName<'d, InputValueDefinition>,
     argument: &'d Argument,
     uses: &mut Listed<Use<'d>>,
 ) -> Result<(), Memory>
     ensures { OnOk result (seen.uses_of uses.new ≡ seen.uses_of uses.old ++ spec.argument_uses types.now definitions.now argument.now) }
 {
-    let place = Place::of_input(defined(definitions, argument.name.as_str()));
+    let place = Place::of_input(definitions.get(argument.name.as_str()));
     add_value(types, place, &argument.value, uses)
 }
 
 /// Adds the uses in the arguments of directives.
 pub(crate) fn add_directives<'d>(
+    alloc: Global,
     schema: &'d Schema,
     directives: &'d Listed<Directive>,
     uses: &mut Listed<Use<'d>>,
@@ -112,13 +114,14 @@ pub(crate) fn add_directives<'d>(
     ensures { OnOk result (seen.uses_of uses.new ≡ seen.uses_of uses.old ++ spec.directives_uses schema.now directives.now) }
 {
     for used in directives.as_slice() {
-        add_directive(schema, used, uses)?;
+        add_directive(alloc, schema, used, uses)?;
     }
     Ok(())
 }
 
 /// Adds the uses in the arguments of a directive.
 fn add_directive<'d>(
+    alloc: Global,
     schema: &'d Schema,
     used: &'d Directive,
     uses: &mut Listed<Use<'d>>,
@@ -126,7 +129,7 @@ fn add_directive<'d>(
     ensures { OnOk result (seen.uses_of uses.new ≡ seen.uses_of uses.old ++ spec.directive_uses schema.now used.now) }
 {
     let definitions = directive_arguments(schema, used.name.as_str());
-    add_arguments(&schema.types, definitions, &used.arguments, uses)
+    add_arguments(alloc, &schema.types, definitions, &used.arguments, uses)
 }
 
 /// The arguments of the directive of the name, if it is defined.
@@ -137,16 +140,4 @@ fn directive_arguments<'d>(schema: &'d Schema, name: &str) -> &'d [InputValueDef
         Some(definition) => definition.arguments.as_slice(),
         None => &[],
     }
-}
-
-/// The definition of an argument: the first of its name.
-fn defined<'d>(
-    definitions: &'d [InputValueDefinition],
-    name: &str,
-) -> Option<&'d InputValueDefinition>
-    ensures { option_copied result ≡ entry input_name name.now definitions.now }
-{
-    definitions
-        .iter()
-        .find(|definition| name == definition.name.as_str())
 }
