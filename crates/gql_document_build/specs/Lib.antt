@@ -3,6 +3,7 @@ pub mod Build
 pub mod Builders
 pub mod BuiltSelections
 pub mod Definitions
+pub mod DistinctDefinitions
 pub mod Faults
 pub mod FaultsBelow
 pub mod FieldSets

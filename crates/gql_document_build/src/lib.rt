@@ -2,8 +2,9 @@
 //!
 //! An [`ExecutableDocumentBuilder`] takes documents and builds an [`ExecutableDocument`](gql_document_types::ExecutableDocument)
 //! of their operations and fragments (GraphQL October 2021, section 2.2), in which each field has its definition.
-//! [`build_field_set`] does so with selections alone. What the document is, is a definition apart from the way to it, and so
-//! is each fault: a rule has a file of its own here and in `specs/`, named after it.
+//! [`build_field_set`] does so with selections alone. [`distinct_definitions`] asks for no schema: it lists what is wrong with
+//! definitions whatever it is. What the document is, is a definition apart from the way to it, and so is each fault: a rule has
+//! a file of its own here and in `specs/`, named after it.
 #![tactic(auto)]
 
 mod ambiguous_anonymous_operation;
@@ -11,6 +12,7 @@ mod build;
 mod built_fragments;
 mod built_operations;
 mod built_selections;
+mod distinct;
 mod executable_definitions;
 mod executable_document_builder;
 mod fault;
@@ -35,6 +37,7 @@ mod undefined_root_operation;
 mod undefined_type_in_inline_fragment_type_condition;
 mod undefined_type_in_named_fragment_type_condition;
 
+pub use distinct::distinct_definitions;
 pub use executable_definitions::ExecutableDefinitions;
 pub use executable_document_builder::ExecutableDocumentBuilder;
 pub use field_set::build_field_set;

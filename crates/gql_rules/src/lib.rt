@@ -9,4 +9,5 @@ mod document_faults;
 mod taken;
 mod validate;
 
+pub use taken::take_faults;
 pub use validate::validate_document;
