@@ -1,0 +1,3 @@
+mod Mixed
+mod Sorts
+mod Steps

@@ -1,0 +1,2 @@
+pub mod MixedRead
+pub mod MixedBuilt
