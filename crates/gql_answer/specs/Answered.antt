@@ -1,0 +1,72 @@
+-- What a response says.
+use Rattle.std.specs.Prelude.{◌≡◌, ℕ, Bool, true, false, List, length, Some}
+use Rattle.jb_print.specs.Compact.{compact}
+use Rattle.gql_document_types.specs.declared.document.ExecutableDocument.{ExecutableDocument}
+use Rattle.gql_document_types.specs.declared.operation.Operation.{Operation}
+use Rattle.gql_exec_introspected.specs.Thing.{of_user, type_of_thing}
+use Rattle.gql_exec_introspected.specs.ThingMeaning.{Resolving, thing_meaning}
+use Rattle.gql_exec_request.specs.Executing.{request_by}
+use Rattle.gql_exec_world.specs.Response.{IsExecuted, IsExplained}
+use Rattle.gql_response.specs.Response.{response_value}
+use Rattle.gql_response.specs.declared.execution_response.ExecutionResponse.{ExecutionResponse}
+use Rattle.gql_schema_types.specs.Schemas.{object_of}
+use Rattle.gql_schema_types.specs.declared.schema.Schema.{Schema}
+use Rattle.gql_schema_types.specs.declared.types.ObjectType.{ObjectType}
+use Rattle.gql_answer.specs.Ready.{Ready}
+use Rattle.gql_answer.specs.Wanted.{Members, Wanted}
+use Rattle.gql_answer.specs.declared.response_bytes.Written.{Written}
+
+-- the object type that an operation begins at
+abbrev pub IsRoot : Schema → Operation → ObjectType → Type 0
+IsRoot schema operation root_type = object_of schema operation.selection_set.ty.text ≡ Some root_type
+
+-- The response is exactly what execution gives, with introspection or without it, from this object on the root type, and its errors
+-- and its data are explained (GraphQL October 2021, sections 6 and 7).
+pub record IsResponseOver {X : Type 0} (introspection : Bool) (type_of : X → List ℕ) (resolves : Resolving X) (root : X)
+    (schema : Schema) (document : ExecutableDocument) (operation : Operation) (variables : Members) (root_type : ObjectType)
+    (response : ExecutionResponse) : Type 0 where
+  pub executed :
+      IsExecuted (request_by introspection schema document variables type_of resolves) root_type root
+      operation.selection_set.selections response
+  pub explained :
+      IsExplained (request_by introspection schema document variables type_of resolves) root_type root
+      operation.selection_set.selections response
+
+-- with introspection over the user's objects and those of the library, from the user's object; without it over the user's (section 4)
+abbrev pub IsResponseBy : {X : Type 0} → Bool → (X → List ℕ) → Resolving X → X → Schema → ExecutableDocument → Operation → Members
+    → ObjectType → ExecutionResponse → Type 0
+IsResponseBy true type_of resolves root schema document operation variables root_type response =
+    IsResponseOver true (type_of_thing type_of) (thing_meaning resolves) (of_user schema root) schema document operation variables root_type response
+IsResponseBy false type_of resolves root schema document operation variables root_type response =
+    IsResponseOver false type_of resolves root schema document operation variables root_type response
+
+-- The bytes are exactly the response of the operation with these variables, and with this object as the root.
+pub record IsExecutionOf {X : Type 0} (introspection : Bool) (type_of : X → List ℕ) (resolves : Resolving X) (root : X)
+    (schema : Schema) (document : ExecutableDocument) (operation : Operation) (variables : Members) (bytes : List ℕ) : Type 0 where
+  pub root_type : ObjectType
+  pub is_root : IsRoot schema operation root_type
+  pub response : ExecutionResponse
+  pub is_response : IsResponseBy introspection type_of resolves root schema document operation variables root_type response
+  pub written : bytes ≡ compact (response_value response)
+
+-- nothing is in the way of a response, and the bytes are that of the chosen operation with its coerced variables
+pub record Answered {X : Type 0} (type_of : X → List ℕ) (resolves : Resolving X) (root : X) (wanted : Wanted) (bytes : List ℕ) : Type 0 where
+  pub ready : Ready wanted
+  pub executed : IsExecutionOf wanted.introspection type_of resolves root ready.meant.schema ready.meant.document ready.operation ready.variables bytes
+
+-- how many errors the response has
+abbrev pub errors_in : {X : Type 0} {type_of : X → List ℕ} {resolves : Resolving X} {root : X} {wanted : Wanted} {bytes : List ℕ}
+    → Answered type_of resolves root wanted bytes → ℕ
+errors_in answered = length answered.executed.response.errors
+
+-- ---- with the number of errors
+
+-- a response as it is written
+pub record IsPrint (response : ExecutionResponse) (written : Written) : Type 0 where
+  pub bytes : written.bytes ≡ compact (response_value response)
+  pub errors : written.errors ≡ length response.errors
+
+pub record IsResultOf {X : Type 0} (introspection : Bool) (type_of : X → List ℕ) (resolves : Resolving X) (root : X)
+    (schema : Schema) (document : ExecutableDocument) (operation : Operation) (variables : Members) (written : Written) : Type 0 where
+  pub is : IsExecutionOf introspection type_of resolves root schema document operation variables written.bytes
+  pub errors : written.errors ≡ length is.response.errors

@@ -1,0 +1,9 @@
+pub mod Wanted
+pub mod Depths
+pub mod Meant
+pub mod Ready
+pub mod Answered
+pub mod Unanswered
+pub mod Responding
+pub mod AnswerError
+pub mod Answering

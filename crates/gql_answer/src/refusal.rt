@@ -1,0 +1,92 @@
+//! Why there is no response to what is wanted, with the files that its places are in.
+
+ghost use Rattle.std.specs.Prelude.{◌≡◌, IfOk};
+ghost use Rattle.jb_print.specs.Compact.{compact};
+ghost use Rattle.gql_refusal.specs.Refusal.{refusal_value};
+ghost use Rattle.gql_answer.specs.Responding.{IsOfStep, of_texts, told, told_as};
+
+use crate::answer_error::{AnswerError, RequestKind};
+use crate::meaning::TextFaults;
+use bytes::Bytes;
+use gql_diag::{DiagnosticList, RequestError};
+use gql_refusal::{refusal_of_diagnostics, refusal_of_request};
+use gql_source::SourceMap;
+use jb_tree::{Memory, Refused};
+use std::alloc::Global;
+
+/// The first step that fails: what is wrong with a text, or the error of a later step.
+#[derive(Drop)]
+pub enum Refusal {
+    /// What is wrong with the schema's text.
+    Schema(DiagnosticList),
+    /// What is wrong with the query's text against the schema.
+    Document(DiagnosticList),
+    /// A later step fails, with this error, whose place is in these files.
+    Request {
+        kind: RequestKind,
+        error: RequestError,
+        sources: SourceMap,
+    },
+}
+
+impl Refusal {
+    /// The refusal as JSON. `Err` only for want of memory.
+    pub fn into_text(self, alloc: Global) -> Result<Bytes, Memory>
+        ensures { IfOk result (λ text. text ≡ compact (refusal_value (told self))) }
+    {
+        match self {
+            Refusal::Schema(list) | Refusal::Document(list) => refusal_of_diagnostics(alloc, list),
+            Refusal::Request { error, sources, .. } => refusal_of_request(alloc, &error, &sources),
+        }
+    }
+
+    /// The refusal as callers are told it. `Err` only for want of memory.
+    pub fn into_error(self, alloc: Global) -> Result<AnswerError, Memory>
+        ensures { IfOk result (λ error. error ≡ told_as self) }
+    {
+        match self {
+            Refusal::Schema(list) => Ok(AnswerError::Schema(list)),
+            Refusal::Document(list) => Ok(AnswerError::Document(list)),
+            Refusal::Request {
+                kind,
+                error,
+                sources,
+            } => {
+                let error = error.to_graphql_error(alloc, &sources)?;
+                Ok(AnswerError::Request { kind, error })
+            }
+        }
+    }
+}
+
+/// What is wrong with the texts.
+pub(crate) fn of_texts(faults: TextFaults) -> Refusal
+    ensures { result ≡ of_texts faults }
+{
+    match faults {
+        TextFaults::Schema(list) => Refusal::Schema(list),
+        TextFaults::Document(list) => Refusal::Document(list),
+    }
+}
+
+/// What a step is refused for, with a copy of these files.
+pub(crate) fn of_step(
+    alloc: Global,
+    kind: RequestKind,
+    refused: Refused<RequestError>,
+    sources: &SourceMap,
+) -> Refused<Refusal>
+    ensures { IsOfStep kind sources.now refused result }
+{
+    match refused {
+        Refused::Fault(error) => match sources.copy(alloc) {
+            Ok(sources) => Refused::Fault(Refusal::Request {
+                kind,
+                error,
+                sources,
+            }),
+            Err(_) => Refused::Memory,
+        },
+        Refused::Memory => Refused::Memory,
+    }
+}
