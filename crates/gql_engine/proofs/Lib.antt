@@ -1,7 +1,7 @@
-mod Results
-mod InTurn
-mod Causes
-mod Runs
-mod Responses
 mod Replies
+mod Outputs
+mod Words
 mod Promise
+mod Running
+mod Usage
+mod LongInput

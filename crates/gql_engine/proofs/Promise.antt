@@ -1,69 +1,80 @@
--- A valid request is refused for no cause.
-use Rattle.std.proofs.Common.{◌≡◌, ◌≤◌, ◌⊎◌, ℕ, zero, suc, true, false, List, ◌++◌, length, Option, Some, None, refl, ◌∙◌, sym, ap, subst, inl, inr, arith, length-append, append-nil}
-use Rattle.std.specs.Option.{IsSomeAnd}
-use Rattle.jb_io.specs.Sink.{Told}
-use Rattle.jb_io.specs.Source.{ReadsWhole, GivesMore}
-use Rattle.jb_serve.specs.Run.{Serves}
+-- What a run promises of words, by what the run of a task does.
+use Rattle.std.proofs.Common.{◌≡◌, ℕ, List, ◌++◌, length, Option, Some, None, ◌∙◌, ap, subst, inl, inr, arith, length-append, append-nil}
+use Rattle.jb_io.specs.Source.{GivesMore, ReadsWhole}
+use Rattle.gql_answer.specs.Ready.{Ready}
+use Rattle.gql_answer.specs.Unanswered.{Unanswered}
+use Rattle.gql_answer.proofs.Causes.{Laws, none_unanswered}
+use Rattle.gql_answer.proofs.Results.{same_ok, ok_or_err}
+use Rattle.gql_diag.specs.List.{Diagnostics}
 use Rattle.gql_response.specs.declared.graphql_error.GraphQLError.{GraphQLError}
-use Rattle.gql_engine.specs.declared.task.Task.{Task}
-use Rattle.gql_engine.specs.declared.task.Task.TheVariants.{Answer}
-use Rattle.gql_engine.specs.Meant.{Ready}
-use Rattle.gql_engine.specs.Program.{IsValidInput}
-use Rattle.gql_engine.specs.Reply.{Cause, no_text, no_request, refused, CauseIn, not_built, unanswered, IsValidRequest, Refuses}
-use Rattle.gql_engine.specs.Request.{Asked, asked, wanted_of}
-use Rattle.gql_engine.proofs.Causes.{Laws, none_unanswered}
-use Rattle.gql_engine.proofs.Results.{same_ok, ok_or_err}
+use Rattle.gql_request.specs.NotAsked.{IsAsked, NotAsked, no_text, no_request}
+use Rattle.gql_request.specs.Request.{Asked, asked}
+use Rattle.gql_answer.specs.Meant.{AreFaults, Meant, no_schema, no_document}
+use Rattle.gql_document_text.specs.DocumentText.{DocumentText}
+use Rattle.gql_schema_types.specs.declared.schema.Schema.{Schema}
+use Rattle.gql_engine.specs.declared.task.Task.TheVariants.{Request}
+use Rattle.gql_engine.specs.declared.task.Wish.{Wish}
+use Rattle.gql_engine.specs.declared.task.Wish.TheVariants.{Answer, Check}
+use Rattle.gql_engine.specs.Output.{IsDone, IsRefused}
+use Rattle.gql_engine.specs.Program.{IsInput}
+use Rattle.gql_engine.specs.Reply.{Cause, IsFaulty, MustDo, MustRefuse, Passes, not_asked, unanswered, no_request as refused_request, no_answer, faulty, wanted_of}
 
 -- ---- of the bytes of a request
 
-true_or_false : (request : Asked) → request.introspection ≡ true → request.introspection ≡ false → ⊥
-true_or_false request on off = cc (on, off)
+module _ (laws : Laws) (bytes : List ℕ) where
+  -- bytes are one request
+  one_request : (r s : Asked) → IsAsked bytes r → IsAsked bytes s → r ≡ s
+  one_request r s h k = same_ok (asked k.value) r s (ap asked (laws.one_value bytes k.value h.value k.read h.read) ∙ h.asks) k.asks
 
-no_cause_in : Laws → (request : Asked) {errors : List GraphQLError} → request.introspection ≡ false → Ready (wanted_of request) → CauseIn request errors → ⊥
-no_cause_in laws request off ready (not_built on) = true_or_false request on off
-no_cause_in laws request off ready (unanswered errors plain why) = none_unanswered (wanted_of request) laws ready why
+  -- or none
+  asked_or_not : (r : Asked) (message : List ℕ) → IsAsked bytes r → NotAsked bytes message → ⊥
+  asked_or_not r message h (no_text fault k) = laws.no_value bytes h.value fault h.read k
+  asked_or_not r message h (no_request value fault read k) =
+      ok_or_err (asked value) r fault (ap asked (laws.one_value bytes value h.value read h.read) ∙ h.asks) k
 
-no_cause : Laws → {bytes : List ℕ} {errors : List GraphQLError} → IsValidRequest bytes → Cause bytes errors → ⊥
-no_cause laws {bytes = bytes} p (no_text fault h) = laws.no_value bytes p.value fault p.read h
-no_cause laws {bytes = bytes} p (no_request v fault h err) =
-    ok_or_err (asked v) p.request fault (ap asked (laws.one_value bytes v p.value h p.read) ∙ p.asks) err
-no_cause laws {bytes = bytes} p (refused v request errors h asks why) =
-    let e : p.request ≡ request = same_ok (asked v) p.request request (ap asked (laws.one_value bytes v p.value h p.read) ∙ p.asks) asks in
-    no_cause_in laws p.request p.plain p.ready (subst (λ (r : Asked). CauseIn r errors) (sym e) why)
+  -- both texts mean something, or something is wrong with one
+  meant_or_faulty : (schema query : List ℕ) (list : Diagnostics) → Meant schema query → AreFaults schema query list → ⊥
+  meant_or_faulty schema query list m (no_schema l h) = laws.no_schema schema m.schema l m.are.is_schema h
+  meant_or_faulty schema query list m (no_document l h) =
+      laws.no_document h.schema query m.document l
+      (subst (λ (S : Schema). DocumentText S query m.document) (laws.one_schema schema m.schema h.schema m.are.is_schema h.is_schema) m.are.is_document) h.faults
+
+  -- a request is answered, or there is a cause of a refusal
+  answered_or_caused : (r : Asked) (errors : List GraphQLError) → IsAsked bytes r → Ready (wanted_of r) → Cause bytes errors → ⊥
+  answered_or_caused r errors h ready (not_asked message k) = asked_or_not r message h k
+  answered_or_caused r errors h ready (unanswered s told k why) =
+      none_unanswered (wanted_of r) laws ready (subst (λ (x : Asked). Unanswered (wanted_of x) told) (one_request s r k h) why)
+
+  -- nothing is wrong with the texts, or there are faults
+  passed_or_faulty : (list : Diagnostics) → Passes bytes → IsFaulty bytes list → ⊥
+  passed_or_faulty list p f =
+      meant_or_faulty p.request.schema p.request.query list p.meant
+      (subst (λ (x : Asked). AreFaults x.schema x.query list) (one_request f.request p.request f.asks p.asks) f.faults)
+
+  -- what must be done is not refused
+  pub not_refused : (wish : Wish) (text : List ℕ) → MustDo wish bytes → IsRefused (Request wish) bytes text → ⊥
+  not_refused Answer text must h = answered_or_caused must.0 h.holds.errors must.1 must.2 h.holds.cause
+  not_refused Check text must (inl h) = asked_or_not must.request h.holds.message must.asks h.holds.not_asked
+  not_refused Check text must (inr h) = passed_or_faulty h.list must h.faulty
+
+  -- and what must be refused is not done
+  pub not_done : (wish : Wish) (before after : ℕ) (text : List ℕ) → MustRefuse wish bytes → IsDone (Request wish) before after bytes text → ⊥
+  not_done Answer before after text (refused_request message k) h = asked_or_not h.holds.request message h.holds.asks k
+  not_done Answer before after text (no_answer r errors is asks why) h =
+      answered_or_caused h.holds.request errors h.holds.asks h.holds.answered.ready (unanswered r errors asks why)
+  not_done Answer before after text (faulty list is f) h = cc is
+  not_done Check before after text (refused_request message k) h = asked_or_not h.0.request message h.0.asks k
+  not_done Check before after text (no_answer r errors is asks why) h = cc is
+  not_done Check before after text (faulty list is f) h = passed_or_faulty list h.0 f
 
 -- ---- of what a source has left
 
-read_valid : (old new : Option (List ℕ)) (bytes : List ℕ) → IsValidInput old → ReadsWhole old new bytes → IsValidRequest bytes
-read_valid None new bytes p r = absurd p
-read_valid (Some xs) None bytes p r = absurd r.gave
-read_valid (Some xs) (Some ys) bytes p r = subst IsValidRequest (r.gave ∙ ap (λ (z : List ℕ). bytes ++ z) r.end ∙ append-nil bytes) p.1
+pub read_input : (Holds : List ℕ → Type 0) (old new : Option (List ℕ)) (bytes : List ℕ) → IsInput Holds old → ReadsWhole old new bytes → Holds bytes
+read_input Holds None new bytes p r = absurd p
+read_input Holds (Some xs) None bytes p r = absurd r.gave
+read_input Holds (Some xs) (Some ys) bytes p r = subst Holds (r.gave ∙ ap (λ (z : List ℕ). bytes ++ z) r.end ∙ append-nil bytes) p.1
 
-pub not_refused : Laws → (old new : Option (List ℕ)) (bytes text : List ℕ) → IsValidInput old → ReadsWhole old new bytes → Refuses bytes text → ⊥
-not_refused laws old new bytes text p r h = no_cause laws (read_valid old new bytes p r) h.cause
-
-pub not_more : (old new : Option (List ℕ)) → IsValidInput old → GivesMore old new → ⊥
-not_more None new p g = absurd p
-not_more (Some xs) None p g = absurd g.gave
-not_more (Some xs) (Some ys) p g = omega (arith, p.0, g.more, ap length g.gave, length-append g.bytes ys)
-
--- the statuses, but those that it does not have
-pub left_over : (status : ℕ) → status ≤ 6 → (status ≡ 1 → ⊥) → (status ≡ 2 → ⊥) → (status ≡ 6 → ⊥)
-    → (status ≡ 0) ⊎ ((status ≡ 3) ⊎ ((status ≡ 4) ⊎ (status ≡ 5)))
-left_over zero most a b c = inl refl
-left_over (suc zero) most a b c = absurd (a refl)
-left_over (suc (suc zero)) most a b c = absurd (b refl)
-left_over (suc (suc (suc zero))) most a b c = inr (inl refl)
-left_over (suc (suc (suc (suc zero)))) most a b c = inr (inr (inl refl))
-left_over (suc (suc (suc (suc (suc zero))))) most a b c = inr (inr (inr refl))
-left_over (suc (suc (suc (suc (suc (suc zero)))))) most a b c = absurd (c refl)
-left_over (suc (suc (suc (suc (suc (suc (suc n))))))) most a b c = absurd (omega (arith, most))
-
--- a program that was asked for an answer to a valid request
-pub answered_or_cut : Laws → (old new : Option (List ℕ)) (taken taken' : Option Told) (asks : Option Task) (status : ℕ) → status ≤ 6
-    → (status ≡ 2 → asks ≡ None) → (status ≡ 1 → IsSomeAnd asks (λ _. Serves Refuses old new taken taken')) → (status ≡ 6 → GivesMore old new)
-    → asks ≡ Some Answer → IsValidInput old → (status ≡ 0) ⊎ ((status ≡ 3) ⊎ ((status ≡ 4) ⊎ (status ≡ 5)))
-answered_or_cut laws old new taken taken' asks status most misused told long is p =
-    left_over status most
-    (λ e. let s = subst (λ (a : Option Task). IsSomeAnd a (λ _. Serves Refuses old new taken taken')) is (told e) in not_refused laws old new s.bytes s.text p s.read s.means)
-    (λ e. let n = misused e in cc (n, is))
-    (λ e. not_more old new p (long e))
+pub not_more : (Holds : List ℕ → Type 0) (old new : Option (List ℕ)) → IsInput Holds old → GivesMore old new → ⊥
+not_more Holds None new p g = absurd p
+not_more Holds (Some xs) None p g = absurd g.gave
+not_more Holds (Some xs) (Some ys) p g = omega (arith, p.0, g.more, ap length g.gave, length-append g.bytes ys)

@@ -1,12 +1,5 @@
-pub mod Wanted
-pub mod Meant
-pub mod Answered
-pub mod Unanswered
-pub mod AnswerError
-pub mod Answering
-pub mod Responding
-pub mod Request
-pub mod Reply
 pub mod Task
+pub mod Reply
+pub mod Output
 pub mod Program
 pub mod Resolving

@@ -1,26 +1,39 @@
--- What a request is answered with. Both relations hold between the bytes of the request and the text that is written.
-use Rattle.std.specs.Prelude.{◌≡◌, true, false, ℕ, List, [], ◌∷◌, ◌++◌, unwrap_or, Ok, Err, codes}
-use Rattle.std.specs.Fmt.{decimal}
+-- What a request is answered with. The relations hold between the bytes of the request and the text that is written, or what there is
+-- before it is written.
+use Rattle.std.specs.Prelude.{◌≡◌, ◌≤◌, ◌+◌, ℕ, List, [], ◌∷◌, unwrap_or}
 use Rattle.jb_tree.specs.declared.value.Value.{Value}
 use Rattle.jb_print.specs.Compact.{compact}
-use Rattle.jb_read.specs.declared.fault.ReadFault.{ReadFault}
 use Rattle.jb_read.specs.Spelling.{JsonText}
-use Rattle.jb_read.specs.Faults.{JsonFault}
-use Rattle.jb_read.specs.KindName.{kind_name}
-use Rattle.jb_serve.specs.Reply.{IsReply}
-use Rattle.jb_serve.specs.declared.command.Reply.{Reply}
-use Rattle.jb_serve.specs.declared.command.Reply.TheVariants.{Answer, Refusal}
+use Rattle.gql_answer.specs.Answered.{Answered, errors_in}
+use Rattle.gql_answer.specs.Depths.{depth_looks}
+use Rattle.gql_answer.specs.Ready.{Ready}
+use Rattle.gql_answer.specs.Unanswered.{Unanswered}
+use Rattle.gql_answer.specs.Wanted.{Wanted}
+use Rattle.gql_diag.specs.List.{Diagnostics}
 use Rattle.gql_exec_resolve.specs.Data.{Data}
 use Rattle.gql_exec_resolve.specs.DataMeaning.{data_meaning}
 use Rattle.gql_refusal.specs.Refusal.{message_error, refusal_value}
+use Rattle.gql_reports.specs.Reports.{reports_of}
+use Rattle.gql_request.specs.NotAsked.{IsAsked, NotAsked}
+use Rattle.gql_request.specs.Request.{Asked}
 use Rattle.gql_response.specs.declared.graphql_error.GraphQLError.{GraphQLError}
-use Rattle.gql_engine.specs.declared.answer_error.UnbuiltPart.TheVariants.{Options}
-use Rattle.gql_engine.specs.declared.request.RequestFault.{RequestFault}
-use Rattle.gql_engine.specs.AnswerError.{unbuilt_message}
-use Rattle.gql_engine.specs.Answered.{Answered}
-use Rattle.gql_engine.specs.Meant.{Ready}
-use Rattle.gql_engine.specs.Request.{Asked, asked, fault_message, wanted_of}
-use Rattle.gql_engine.specs.Unanswered.{Unanswered}
+use Rattle.gql_answer.specs.Meant.{AreFaults, Meant}
+use Rattle.gql_engine.specs.declared.reply.Reply.{Reply}
+use Rattle.gql_engine.specs.declared.reply.Reply.TheVariants.{Response, Passed, Reports, Refusal}
+use Rattle.gql_engine.specs.declared.task.Wish.{Wish}
+use Rattle.gql_engine.specs.declared.task.Wish.TheVariants.{Answer, Check}
+
+-- ---- a request that is to be answered
+
+-- what the request wants: it has no variables unless it gives some
+abbrev pub wanted_of : Asked → Wanted
+wanted_of request = record {
+  schema = request.schema;
+  query = request.query;
+  operation_name = request.operation_name;
+  variables = unwrap_or request.variables [];
+  introspection = request.introspection;
+}
 
 -- the root of a request's data
 abbrev pub root_of : Asked → Data
@@ -30,30 +43,17 @@ root_of request = record { type_name = []; members = unwrap_or request.root [] }
 abbrev pub AnswersAsked : Asked → List ℕ → Type 0
 AnswersAsked request text = Answered (λ object. object.type_name) data_meaning (root_of request) (wanted_of request) text
 
--- the bytes are the JSON text of a request that does not ask for introspection, and the text is a response to it
-pub record Answers (bytes text : List ℕ) : Type 0 where
-  pub value : Value
+-- the bytes are those of a request, and the text is a response to it; no more looks were counted than the depth check takes
+pub record Answers (before after : ℕ) (bytes text : List ℕ) : Type 0 where
   pub request : Asked
-  pub read : JsonText bytes value
-  pub asks : asked value ≡ Ok request
-  pub plain : request.introspection ≡ false
+  pub asks : IsAsked bytes request
   pub answered : AnswersAsked request text
-
-abbrev pub read_message : ReadFault → List ℕ
-read_message fault = codes "request: " ++ (kind_name fault.kind ++ (codes " at byte " ++ decimal fault.place))
-
--- why a request is refused, with the errors of each cause
-pub data CauseIn (request : Asked) : List GraphQLError → Type 0 where
-  not_built : request.introspection ≡ true → CauseIn request (message_error (unbuilt_message Options) ∷ [])
-  unanswered : (errors : List GraphQLError) → request.introspection ≡ false → Unanswered (wanted_of request) errors → CauseIn request errors
+  pub looks : after ≤ before + depth_looks request.introspection answered.ready.meant.document answered.ready.operation
 
 -- why the bytes are refused, with the errors of each cause
 pub data Cause (bytes : List ℕ) : List GraphQLError → Type 0 where
-  no_text : (fault : ReadFault) → JsonFault bytes fault → Cause bytes (message_error (read_message fault) ∷ [])
-  no_request : (value : Value) (fault : RequestFault) → JsonText bytes value → asked value ≡ Err fault
-      → Cause bytes (message_error (fault_message fault) ∷ [])
-  refused : (value : Value) (request : Asked) (errors : List GraphQLError) → JsonText bytes value → asked value ≡ Ok request
-      → CauseIn request errors → Cause bytes errors
+  not_asked : (message : List ℕ) → NotAsked bytes message → Cause bytes (message_error message ∷ [])
+  unanswered : (request : Asked) (errors : List GraphQLError) → IsAsked bytes request → Unanswered (wanted_of request) errors → Cause bytes errors
 
 -- the text says why the bytes are refused
 pub record Refuses (bytes text : List ℕ) : Type 0 where
@@ -61,27 +61,65 @@ pub record Refuses (bytes text : List ℕ) : Type 0 where
   pub cause : Cause bytes errors
   pub written : text ≡ compact (refusal_value errors)
 
--- the bytes are the JSON text of a request that does not ask for introspection, and nothing is in the way of a response
-pub record IsValidRequest (bytes : List ℕ) : Type 0 where
-  pub value : Value
+-- ---- a request that is to be checked
+
+-- both texts of the request mean something
+pub record Passes (bytes : List ℕ) : Type 0 where
   pub request : Asked
-  pub read : JsonText bytes value
-  pub asks : asked value ≡ Ok request
-  pub plain : request.introspection ≡ false
-  pub ready : Ready (wanted_of request)
+  pub asks : IsAsked bytes request
+  pub meant : Meant request.schema request.query
+
+-- the list is what is wrong with the first text of the request that means nothing
+pub record IsFaulty (bytes : List ℕ) (list : Diagnostics) : Type 0 where
+  pub request : Asked
+  pub asks : IsAsked bytes request
+  pub faults : AreFaults request.schema request.query list
+
+-- the text is the reports of that
+pub record AreReports (bytes text : List ℕ) : Type 0 where
+  pub list : Diagnostics
+  pub faulty : IsFaulty bytes list
+  pub written : text ≡ reports_of list
+
+-- the text says why the bytes are no request
+pub record SaysNotAsked (bytes text : List ℕ) : Type 0 where
+  pub message : List ℕ
+  pub not_asked : NotAsked bytes message
+  pub written : text ≡ compact (refusal_value (message_error message ∷ []))
+
+-- ---- which requests may not be refused, and which must be
+
+-- nothing is in the way of what is wished
+abbrev pub MustDo : Wish → List ℕ → Type 0
+MustDo Answer bytes = (request : Asked) × IsAsked bytes request × Ready (wanted_of request)
+MustDo Check bytes = Passes bytes
+
+-- there is a cause of a refusal
+pub data MustRefuse (wish : Wish) (bytes : List ℕ) : Type 0 where
+  no_request : (message : List ℕ) → NotAsked bytes message → MustRefuse wish bytes
+  no_answer : (request : Asked) (errors : List GraphQLError) → wish ≡ Answer → IsAsked bytes request → Unanswered (wanted_of request) errors
+      → MustRefuse wish bytes
+  faulty : (list : Diagnostics) → wish ≡ Check → IsFaulty bytes list → MustRefuse wish bytes
 
 -- ---- replies on the way
 
+abbrev pub IsReply : Wish → (before after : ℕ) → List ℕ → Reply → Type 0
+IsReply Answer before after bytes (Response written) = (is : Answers before after bytes written.bytes) × (written.errors ≡ errors_in is.answered)
+IsReply Answer before after bytes (Refusal text) = Refuses bytes text
+IsReply Check before after bytes Passed = Passes bytes
+IsReply Check before after bytes (Reports text) = AreReports bytes text
+IsReply Check before after bytes (Refusal text) = SaysNotAsked bytes text
+IsReply wish before after bytes reply = ⊥
+
 -- a reply to whatever bytes spell this value
-abbrev pub IsReplyTo : Value → Reply → Type 0
-IsReplyTo value reply = (bytes : List ℕ) → JsonText bytes value → IsReply Answers Refuses bytes reply
+abbrev pub IsReplyTo : Wish → (before after : ℕ) → Value → Reply → Type 0
+IsReplyTo wish before after value reply = (bytes : List ℕ) → JsonText bytes value → IsReply wish before after bytes reply
 
 -- a reply to whatever bytes spell this request
-abbrev pub IsReplyToAsked : Asked → Reply → Type 0
-IsReplyToAsked request reply =
-    (bytes : List ℕ) (value : Value) → JsonText bytes value → asked value ≡ Ok request → IsReply Answers Refuses bytes reply
+abbrev pub IsReplyToAsked : Wish → (before after : ℕ) → Asked → Reply → Type 0
+IsReplyToAsked wish before after request reply = (bytes : List ℕ) → IsAsked bytes request → IsReply wish before after bytes reply
 
 -- the refusal with one message
 abbrev pub IsRefusedWith : List ℕ → Reply → Type 0
-IsRefusedWith message (Answer text) = ⊥
 IsRefusedWith message (Refusal text) = text ≡ compact (refusal_value (message_error message ∷ []))
+IsRefusedWith message reply = ⊥

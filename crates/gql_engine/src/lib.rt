@@ -3,27 +3,28 @@
 //! [`answer`] takes the texts of a schema and a query and a resolver, and gives the bytes of the response; [`run`] is
 //! the whole program, over any source and sink. The contract of each says that what it gives or writes is a response
 //! to what the two texts mean, whose data and errors are explained, that each refusal has its cause, and that a valid
-//! request is answered, unless memory or a stream fails. Introspection alone is not built yet.
+//! request is answered, unless memory or a stream fails. The program also checks the texts of a request, and tries itself.
 #![tactic(auto)]
 
-mod answer_error;
-mod answering;
+mod output;
 pub mod program;
-mod refusal;
 mod reply;
-mod request;
-mod responding;
+mod status;
 mod task;
-mod uncounted;
-mod wanted;
 
-pub use answer_error::{AnswerError, RequestKind, UnbuiltPart, VariablesFault};
-pub use answering::answer;
-pub use gql_diag::{DiagnosticList, GraphQLError};
+pub use gql_answer::{AnswerError, RequestKind, VariablesFault, answer, answer_uncounted};
+pub use gql_diag::{DiagnosticList, ExecutionResponse, GraphQLError, RequestError, Valid};
+pub use gql_document_text::document_of_text;
+pub use gql_document_types::ExecutableDocument;
+pub use gql_exec_request::{Execution, partial_execute};
 pub use gql_exec_resolve::{
     DataObject, FieldError, ObjectValue, ResolveError, ResolveInfo, ResolvedValue,
 };
 pub use gql_exec_steps::Steps;
-pub use jb_tree::{ByteString, Listed, Number, Text, Value};
+pub use gql_parser::Parser;
+pub use gql_schema_text::schema_of_text;
+pub use gql_schema_types::Schema;
+pub use jb_read::from_bytes_whole;
+pub use jb_tree::{ByteString, Listed, Map, Number, Refused, Text, Value};
 pub use program::{run, run_in_memory};
-pub use uncounted::answer_uncounted;
+pub use status::{ANSWERED, MISUSED, NO_MEMORY, REFUSED, SINK_FAILED, SOURCE_FAILED, TOO_LONG};

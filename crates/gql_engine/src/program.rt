@@ -1,32 +1,38 @@
 //! The program: its words, its input and its output.
 
-ghost use Rattle.std.specs.Prelude.{◌≡◌, ◌≢◌, ◌≤◌, ◌⊎◌, ◌↔◌, IsTrue};
-ghost use Rattle.gql_engine.specs.Program.{AsksAnswer, IsLong, IsValidInput, usage};
-ghost use Rattle.gql_engine.specs.Reply.{Answers, Refuses};
+ghost use Rattle.std.specs.Prelude.{◌≡◌, ◌≢◌, ◌≤◌, ◌⊎◌, ℕ, List, Option, map, string_bytes, IfErr, IfOk};
+ghost use Rattle.gql_engine.specs.Program.{BreaksOff, IsInput, IsLong, IsUnread, MustDo, MustRefuse, Runs, Writes, WritesOutput, WritesUsage, usage};
+ghost use Rattle.gql_engine.specs.Output.{IsDone, IsRefused};
+ghost use Rattle.gql_engine.specs.Task.{Asks, IsNoCommand, ReadsInput};
+ghost use Rattle.gql_engine.specs.declared.task.Wish.{Wish as WishAsked};
+ghost use Rattle.gql_engine.specs.declared.task.Task.TheVariants as tasks;
 ghost use Rattle.jb_io.specs.Sink.{Takes, TakesFront};
-ghost use Rattle.jb_io.specs.Source.{GivesAtMost, GivesMore};
+ghost use Rattle.jb_io.specs.Source.{GivesAtMost, GivesMore, ReadsWhole};
 ghost use Rattle.jb_io.specs.Stream.{HasFailed};
-ghost use Rattle.jb_serve.specs.Run.{BreaksOff, Serves};
 
-use crate::task::task_asked;
+use crate::output::{Output, output_of, self_test};
+use crate::status::{ANSWERED, MISUSED, NO_MEMORY, REFUSED, SINK_FAILED, SOURCE_FAILED, TOO_LONG};
+use crate::task::{Task, Wish, task_asked};
+use bytes::Bytes;
 use gql_document_text::laws as document_laws;
 use gql_exec_steps::Steps;
 use gql_schema_text::laws as schema_laws;
-use jb_io::{Sink, Source, SureSink, SureSource};
+use jb_io::{InputFault, Sink, SinkFault, Source, SureSink, SureSource, read_to_end, write_all};
 use jb_read::laws;
-use jb_serve::serve;
-pub use jb_serve::{ANSWERED, MISUSED, NO_MEMORY, REFUSED, SINK_FAILED, SOURCE_FAILED, TOO_LONG};
+use jb_tree::{Memory, Refused};
 use std::alloc::Global;
 use std::sync::ledger::Ledger;
 
-const USAGE: &str = "usage: gql_program answer\n";
+const USAGE: &str = "usage: gql_program answer | check | selftest N\n";
 
 /// Runs the program over `words`, its arguments without its own name, and gives its exit status, from [`ANSWERED`]
 /// to [`TOO_LONG`].
 ///
-/// The words are looked at first, then `source` is read to its end, then the reply is computed, then it is written
-/// with one LF. Refusals and the usage line go to `sink` too. `steps` counts looks at selections; this far nothing is
-/// counted.
+/// The words are `answer`, `check`, or `selftest` and a number of at most 100000 in decimal. They are looked at first, then
+/// `source` is read to its end, then all is computed, then it is written. `answer` writes the response to the request that was
+/// read; `check` writes `ok`, or the reports of what is wrong with the request's texts; `selftest` reads nothing, answers a
+/// request of its own, and writes how long the response is. Refusals, reports and the usage line go to `sink` too. `steps`
+/// counts the looks of the depth check, which is made where the request asks for introspection.
 pub fn run<S: Source, K: Sink, L: Ledger>(
     alloc: Global,
     words: &[String],
@@ -38,36 +44,49 @@ pub fn run<S: Source, K: Sink, L: Ledger>(
 
     // The words.
     ensures misused { result ≡ MISUSED
-        → ¬ AsksAnswer words.now × Takes (K.taken sink.old) (K.taken sink.new) usage }
-    ensures unasked { ¬ AsksAnswer words.now → (result ≡ MISUSED)
+        → IsNoCommand (map string_bytes words.now) × Takes (K.taken sink.old) (K.taken sink.new) usage }
+    ensures unasked { IsNoCommand (map string_bytes words.now) → (result ≡ MISUSED)
         ⊎ ((result ≡ SINK_FAILED) × TakesFront (K.taken sink.old) (K.taken sink.new) usage) }
-    ensures unread { ¬ AsksAnswer words.now → source.new ≡ source.old }
+    ensures unread { ¬ ReadsInput (map string_bytes words.now) → source.new ≡ source.old }
 
     // The output.
-    ensures answered { result ≡ ANSWERED → Serves Answers
+    ensures answered { result ≡ ANSWERED → Writes (λ task. IsDone task steps.old steps.new) (map string_bytes words.now)
         (S.left source.old) (S.left source.new) (K.taken sink.old) (K.taken sink.new) }
-    ensures refused { result ≡ REFUSED → Serves Refuses
+    ensures refused { result ≡ REFUSED → Writes IsRefused (map string_bytes words.now)
         (S.left source.old) (S.left source.new) (K.taken sink.old) (K.taken sink.new) }
     ensures nothing_written { (result ≡ NO_MEMORY) ⊎ ((result ≡ SOURCE_FAILED) ⊎ (result ≡ TOO_LONG))
         → sink.new ≡ sink.old }
 
     // The causes.
-    ensures source_failed { result ≡ SOURCE_FAILED → HasFailed (S.faults source.old) (S.faults source.new) }
-    ensures too_long { result ≡ TOO_LONG → GivesMore (S.left source.old) (S.left source.new) }
-    ensures within { result ≢ TOO_LONG → AsksAnswer words.now → GivesAtMost (S.left source.old) (S.left source.new) }
+    ensures source_failed { result ≡ SOURCE_FAILED
+        → ReadsInput (map string_bytes words.now) × HasFailed (S.faults source.old) (S.faults source.new) }
+    ensures too_long { result ≡ TOO_LONG
+        → ReadsInput (map string_bytes words.now) × GivesMore (S.left source.old) (S.left source.new) }
+    ensures within { result ≢ TOO_LONG → ReadsInput (map string_bytes words.now)
+        → GivesAtMost (S.left source.old) (S.left source.new) }
     ensures sink_failed { result ≡ SINK_FAILED → HasFailed (K.faults sink.old) (K.faults sink.new) }
-    ensures broken_off { result ≡ SINK_FAILED → AsksAnswer words.now → BreaksOff Answers Refuses
+    ensures broken_off { result ≡ SINK_FAILED → ¬ IsNoCommand (map string_bytes words.now)
+        → BreaksOff (λ task. IsDone task steps.old steps.new) IsRefused (map string_bytes words.now)
         (S.left source.old) (S.left source.new) (K.taken sink.old) (K.taken sink.new) }
 
-    // A valid request is answered, unless memory, the source or the sink fails.
-    ensures valid { AsksAnswer words.now → IsValidInput (S.left source.old)
+    // What is wished of a request is done where nothing is in its way, and it is refused where there is a cause, unless memory,
+    // the source or the sink fails. A self-test is done unless memory or the sink fails.
+    ensures done { (wish : WishAsked) → Asks (map string_bytes words.now) (tasks.Request wish)
+        → IsInput (MustDo wish) (S.left source.old)
         → (result ≡ ANSWERED) ⊎ ((result ≡ NO_MEMORY) ⊎ ((result ≡ SOURCE_FAILED) ⊎ (result ≡ SINK_FAILED))) }
-    ensures uncounted { steps.new ≡ steps.old }
+    ensures caused { (wish : WishAsked) → Asks (map string_bytes words.now) (tasks.Request wish)
+        → IsInput (MustRefuse wish) (S.left source.old)
+        → (result ≡ REFUSED) ⊎ ((result ≡ NO_MEMORY) ⊎ ((result ≡ SOURCE_FAILED) ⊎ (result ≡ SINK_FAILED))) }
+    ensures self_tested { (items : ℕ) → Asks (map string_bytes words.now) (tasks.SelfTest items)
+        → (result ≡ ANSWERED) ⊎ ((result ≡ NO_MEMORY) ⊎ (result ≡ SINK_FAILED)) }
 {
     laws::each_text_has_one_answer();
     schema_laws::texts_have_one_schema();
     document_laws::texts_have_one_document_each();
-    serve(alloc, task_asked(words), USAGE, source, sink)
+    match task_asked(words) {
+        Some(task) => run_task(alloc, task, source, sink, steps),
+        None => write_usage(sink),
+    }
 }
 
 /// [`run`] in memory, where neither reading nor writing fails: the status is never [`SOURCE_FAILED`] or
@@ -79,25 +98,115 @@ pub fn run_in_memory<L: Ledger>(
     sink: &mut SureSink,
     steps: &mut Steps<L>,
 ) -> u8
-    ensures misused { result ≡ MISUSED ↔ ¬ AsksAnswer words.now }
+    ensures misused { result ≡ MISUSED → IsNoCommand (map string_bytes words.now) }
+    ensures unasked { IsNoCommand (map string_bytes words.now) → result ≡ MISUSED }
     ensures read { result ≢ SOURCE_FAILED }
     ensures written { result ≢ SINK_FAILED }
-    ensures answered { result ≡ ANSWERED → Serves Answers
+    ensures answered { result ≡ ANSWERED → Writes (λ task. IsDone task steps.old steps.new) (map string_bytes words.now)
         (⟦<SureSource as Source>⟧.left source.old) (⟦<SureSource as Source>⟧.left source.new)
         (⟦<SureSink as Sink>⟧.taken sink.old) (⟦<SureSink as Sink>⟧.taken sink.new) }
-    ensures refused { result ≡ REFUSED → Serves Refuses
+    ensures refused { result ≡ REFUSED → Writes IsRefused (map string_bytes words.now)
         (⟦<SureSource as Source>⟧.left source.old) (⟦<SureSource as Source>⟧.left source.new)
         (⟦<SureSink as Sink>⟧.taken sink.old) (⟦<SureSink as Sink>⟧.taken sink.new) }
 
     // A long input is refused, and no other.
     ensures long { result ≡ TOO_LONG → IsLong (⟦<SureSource as Source>⟧.left source.old) }
-    ensures too_long { AsksAnswer words.now → IsLong (⟦<SureSource as Source>⟧.left source.old)
+    ensures too_long { ReadsInput (map string_bytes words.now) → IsLong (⟦<SureSource as Source>⟧.left source.old)
         → (result ≡ TOO_LONG) ⊎ (result ≡ NO_MEMORY) }
 
-    // A valid request is answered, unless memory fails.
-    ensures valid { AsksAnswer words.now → IsValidInput (⟦<SureSource as Source>⟧.left source.old)
+    // What is wished of a request is done where nothing is in its way, unless memory fails.
+    ensures done { (wish : WishAsked) → Asks (map string_bytes words.now) (tasks.Request wish)
+        → IsInput (MustDo wish) (⟦<SureSource as Source>⟧.left source.old)
         → (result ≡ ANSWERED) ⊎ (result ≡ NO_MEMORY) }
-    ensures uncounted { steps.new ≡ steps.old }
 {
     run(alloc, words, source, sink, steps)
+}
+
+/// The run of a task.
+fn run_task<S: Source, K: Sink, L: Ledger>(
+    alloc: Global,
+    task: Task,
+    source: &mut S,
+    sink: &mut K,
+    steps: &mut Steps<L>,
+) -> u8
+    ensures untouched { (items : ℕ) → task ≡ tasks.SelfTest items → source.new ≡ source.old }
+    ensures ran { Runs task steps.old steps.new (S.left source.old) (S.left source.new) (S.faults source.old) (S.faults source.new)
+        (K.taken sink.old) (K.taken sink.new) (K.faults sink.old) (K.faults sink.new) (sink.new ≡ sink.old) result }
+{
+    match task {
+        Task::Request(wish) => run_request(alloc, wish, source, sink, steps),
+        Task::SelfTest { items } => run_self_test(alloc, items, sink, steps),
+    }
+}
+
+/// The run that does with a request what is wished.
+fn run_request<S: Source, K: Sink, L: Ledger>(
+    alloc: Global,
+    wish: Wish,
+    source: &mut S,
+    sink: &mut K,
+    steps: &mut Steps<L>,
+) -> u8
+    ensures { Runs (tasks.Request wish) steps.old steps.new (S.left source.old) (S.left source.new) (S.faults source.old) (S.faults source.new)
+        (K.taken sink.old) (K.taken sink.new) (K.faults sink.old) (K.faults sink.new) (sink.new ≡ sink.old) result }
+{
+    match read_input(alloc, source) {
+        Ok(input) => {
+            let output = output_of(alloc, wish, &input, steps);
+            write_output(sink, output)
+        }
+        Err(status) => status,
+    }
+}
+
+/// The run of a self-test, which reads nothing.
+fn run_self_test<K: Sink, L: Ledger>(
+    alloc: Global,
+    items: u32,
+    sink: &mut K,
+    steps: &mut Steps<L>,
+) -> u8
+    ensures { (left left' : Option (List ℕ)) (faults faults' : ℕ)
+        → Runs (tasks.SelfTest items) steps.old steps.new left left' faults faults'
+        (K.taken sink.old) (K.taken sink.new) (K.faults sink.old) (K.faults sink.new) (sink.new ≡ sink.old) result }
+{
+    let output = self_test(alloc, items, steps);
+    write_output(sink, output)
+}
+
+/// Reads a source to its end, or gives the status that says why it was not read.
+fn read_input<S: Source>(alloc: Global, source: &mut S) -> Result<Bytes, u8>
+    ensures read { IfOk result (ReadsWhole (S.left source.old) (S.left source.new)) }
+    ensures unread { IfErr result (IsUnread (S.left source.old) (S.left source.new) (S.faults source.old) (S.faults source.new)) }
+{
+    match read_to_end(alloc, source) {
+        Ok(bytes) => Ok(bytes),
+        Err(Refused::Memory) => Err(NO_MEMORY),
+        Err(Refused::Fault(InputFault::SourceFailed)) => Err(SOURCE_FAILED),
+        Err(Refused::Fault(InputFault::TooLong)) => Err(TOO_LONG),
+    }
+}
+
+/// Writes an output, where there is one, and gives the status.
+fn write_output<K: Sink>(sink: &mut K, output: Result<Output, Memory>) -> u8
+    ensures { WritesOutput K.taken K.faults output sink.old sink.new result }
+{
+    match output {
+        Ok(output) => match write_all(sink, output.text.as_slice()) {
+            Ok(()) => output.status,
+            Err(SinkFault) => SINK_FAILED,
+        },
+        Err(_) => NO_MEMORY,
+    }
+}
+
+/// Writes the usage line, and gives the status.
+fn write_usage<K: Sink>(sink: &mut K) -> u8
+    ensures { WritesUsage (K.taken sink.old) (K.taken sink.new) (K.faults sink.old) (K.faults sink.new) result }
+{
+    match write_all(sink, USAGE.as_bytes()) {
+        Ok(()) => MISUSED,
+        Err(SinkFault) => SINK_FAILED,
+    }
 }

@@ -1,7 +1,0 @@
-use Rattle.gql_engine.proofs.Replies.{refused_text}
-use Rattle.gql_engine.proofs.reply.TaskCommand.reply.Goals as goal
-
-pub returns-in_ok-read_message-in-Err-Fault : goal.returns-in_ok-read_message-in-Err-Fault
-returns-in_ok-read_message-in-Err-Fault c =
-    refused_text c.in_ok-read_message-in-Err-Fault.field-0 c.refused-in-Err-Fault.result c.args.bytes.now c.in-Err-Fault.fault
-    (rw c.in-Err-Fault.field-0-is at c.in-Err-Fault.ensures.broken) c.in_ok-read_message-in-Err-Fault.ensures c.refused-in-Err-Fault.ensures

@@ -1,0 +1,65 @@
+-- What a task writes.
+use Rattle.std.specs.Prelude.{◌≡◌, ℕ, List, [], ◌∷◌, ◌++◌, length, ◌⊎◌, codes}
+use Rattle.std.specs.Fmt.{decimal}
+use Rattle.gql_answer.specs.Answered.{errors_in}
+use Rattle.gql_answer.specs.declared.response_bytes.Written.{Written}
+use Rattle.gql_request.specs.SelfTest.{self_test}
+use Rattle.gql_engine.specs.Reply.{Answers, AreReports, Passes, Refuses, SaysNotAsked}
+use Rattle.gql_engine.specs.declared.output.Output.{Output}
+use Rattle.gql_engine.specs.declared.reply.Reply.{Reply}
+use Rattle.gql_engine.specs.declared.reply.Reply.TheVariants.{Response, Passed, Reports, Refusal}
+use Rattle.gql_engine.specs.declared.status.TheConstants.{ANSWERED, REFUSED}
+use Rattle.gql_engine.specs.declared.task.Task.{Task}
+use Rattle.gql_engine.specs.declared.task.Task.TheVariants.{Request, SelfTest}
+use Rattle.gql_engine.specs.declared.task.Wish.TheVariants.{Answer, Check}
+
+-- a text as it is written, with its LF
+abbrev pub line : List ℕ → List ℕ
+line text = text ++ 10 ∷ []
+
+-- the text is one line, of which this holds
+pub record Line (Holds : List ℕ → Type 0) (text : List ℕ) : Type 0 where
+  pub within : List ℕ
+  pub holds : Holds within
+  pub is : text ≡ line within
+
+-- how long the response to the self-test's request is, and how many errors it has
+abbrev pub summary : ℕ → ℕ → ℕ → List ℕ
+summary items bytes errors =
+    codes "selftest " ++ (decimal items ++ (codes ": " ++ (decimal bytes ++ (codes " bytes, " ++ (decimal errors ++ codes " errors")))))
+
+pub record Measures (before after items : ℕ) (text : List ℕ) : Type 0 where
+  pub response : List ℕ
+  pub answers : Answers before after (self_test items) response
+  pub told : text ≡ summary items (length response) (errors_in answers.answered)
+
+-- what was asked for: the response, `ok` where nothing is wrong with the texts, or the summary
+abbrev pub IsDone : Task → (before after : ℕ) → List ℕ → List ℕ → Type 0
+IsDone (Request Answer) before after bytes text = Line (Answers before after bytes) text
+IsDone (Request Check) before after bytes text = Passes bytes × (text ≡ line (codes "ok"))
+IsDone (SelfTest items) before after bytes text = Line (Measures before after items) text
+
+-- why it is refused, or what is wrong with the texts; a self-test is not refused
+abbrev pub IsRefused : Task → List ℕ → List ℕ → Type 0
+IsRefused (Request Answer) bytes text = Line (Refuses bytes) text
+IsRefused (Request Check) bytes text = Line (SaysNotAsked bytes) text ⊎ AreReports bytes text
+IsRefused (SelfTest items) bytes text = ⊥
+
+-- ---- on the way
+
+-- the status tells which of both
+pub record IsOutput (task : Task) (before after : ℕ) (bytes : List ℕ) (output : Output) : Type 0 where
+  pub either : (output.status ≡ ANSWERED) ⊎ (output.status ≡ REFUSED)
+  pub done : output.status ≡ ANSWERED → IsDone task before after bytes output.text
+  pub refused : output.status ≡ REFUSED → IsRefused task bytes output.text
+
+-- the output for a reply
+abbrev pub IsOutputOf : Reply → Output → Type 0
+IsOutputOf (Response written) output = (output.status ≡ ANSWERED) × (output.text ≡ line written.bytes)
+IsOutputOf Passed output = (output.status ≡ ANSWERED) × (output.text ≡ line (codes "ok"))
+IsOutputOf (Reports text) output = (output.status ≡ REFUSED) × (output.text ≡ text)
+IsOutputOf (Refusal text) output = (output.status ≡ REFUSED) × (output.text ≡ line text)
+
+-- the output of a self-test with this response
+abbrev pub IsMeasured : ℕ → Written → Output → Type 0
+IsMeasured items written output = (output.status ≡ ANSWERED) × (output.text ≡ line (summary items (length written.bytes) written.errors))
