@@ -3,86 +3,34 @@
 
 Each must end with a status of its own, and with the one wanted where that can be told apart from the program: a request
 that is no JSON text is refused, one that is whole is answered. A program that the gate has built is given room that grows
-with its input alone. `checks/hostile.py all` tries every one, and so does a run over programs that are built."""
-import json
+with its input alone; it is also given a source and a sink that fail, and less and less memory. `checks/hostile.py all` tries
+every request, and so does a run over programs that are built."""
+import os
+import resource
+import subprocess
 import sys
 
-from shared.trying import built, try_cases
+from shared.hostile_requests import ANSWERED, REFUSED, REQUESTS, changed, cut, fields, large, of_some_size
+from shared.trying import PATIENCE, built, try_cases
 
-ANSWERED, REFUSED, TOO_LONG = 0, 1, 6
+NO_MEMORY, SOURCE_FAILED, SINK_FAILED = 3, 4, 5
 
-REQUESTS = [
-    '{"schema":"type Query{a:A}type A{x:Int}","query":"{a{x}}","data":{"a":{"x":7}}}',
-    '{"query":"{s}","schema":"type Query{s:String}","data":{"s":{"__error":"\\u00e9\\\\"}}}',
-    ' { "data" : null , "schema" : "type Query { i : Int }" , "query" : "{ i }" , "x" : [ -1 , true ] } ',
-]
-CHANGED = [0, 9, 32, 34, 44, 48, 91, 92, 123, 125, 128, 255]
-LIMIT = 16_777_216
+# Programs run slowly under `rt try`: without the word `all`, one of so many is tried.
+STEP = 29
 
-# Programs run slowly under `rt try`, and a run of all takes six minutes: without the word `all`, one of so many is tried.
-STEP = 7
-
-
-def is_json(text):
-    """Whether the bytes are a JSON text with no floats."""
-    try:
-        json.loads(text.decode("utf-8"), parse_float=refuse, parse_constant=refuse)
-    except (ValueError, RecursionError):
-        return False
-    return True
-
-
-def refuse(text):
-    raise ValueError(text)
-
-
-def fields(count):
-    return " ".join(f"f{number}" for number in range(count))
-
-
-def large_request(count):
-    """A query of so many fields over a type and an object that have them."""
-    schema = "type Query {" + " ".join(f"f{number}:Int" for number in range(count)) + "}"
-    data = {f"f{number}": number for number in range(count)}
-    return json.dumps({"schema": schema, "query": "{" + fields(count) + "}", "data": data}).encode()
-
-
-def nested_sets(depth):
-    """A request whose selection sets nest so deep."""
-    query = "{a" * (depth - 1) + "{x}" + "}" * (depth - 1)
-    return json.dumps({"schema": "type Query{a:Query x:Int}", "query": query, "data": {"a": {"a": None}}}).encode()
-
-
-def padded(length):
-    """A request of so many bytes, most of them white space."""
-    return REQUESTS[0].encode() + b" " * (length - len(REQUESTS[0].encode()))
-
-
-def nested_json(depth):
-    """A request with a member that is nested so deep, the request itself included."""
-    return REQUESTS[0].encode()[:-1] + b',"x":' + b"[" * (depth - 1) + b"]" * (depth - 1) + b"}"
+# The room for data that the least run is given, in bytes; by how much it is made larger at a time; how often in a row it has to
+# suffice.
+LEAST_ROOM = 1 << 17
+ROOM_STEP = 1 << 17
+ENOUGH = 4
 
 
 def engine_cases(step):
     """Name, bytes and wanted statuses of each request, of the cut and changed ones each `step`-th."""
-    for number, request in enumerate(REQUESTS):
-        whole = request.encode()
-        end = len(whole.rstrip())
-        for cut in range(0, len(whole) + 1, step):
-            yield f"cut{number}-{cut}", whole[:cut], [ANSWERED if cut >= end else REFUSED]
-    whole = REQUESTS[0].encode()
-    for place in range(0, len(whole), step):
-        for byte in CHANGED:
-            changed = whole[:place] + bytes([byte]) + whole[place + 1 :]
-            yield f"changed{place}-{byte}", changed, [ANSWERED, REFUSED] if is_json(changed) else [REFUSED]
-    yield "nested127", nested_json(127), [ANSWERED]
-    yield "nested128", nested_json(128), [REFUSED]
-    yield "longest", padded(LIMIT), [ANSWERED]
-    yield "too-long", padded(LIMIT + 1), [TOO_LONG]
-    yield "sets500", nested_sets(500), [ANSWERED]
-    yield "sets501", nested_sets(501), [REFUSED]
+    yield from cut(step)
+    yield from changed(step)
     # `rt try` cuts an output of more than a MiB off.
-    yield "fields", large_request(100_000 if built("gql_program") else 50_000), [ANSWERED]
+    yield from large(100_000 if built("gql_program") else 50_000)
 
 
 def syntax_cases():
@@ -102,9 +50,9 @@ def syntax_cases():
     yield "fields", ("{" + fields(100_000) + "}").encode(), [ANSWERED]
 
 
-def main():
-    step = 1 if sys.argv[1:] == ["all"] or built("gql_program") else STEP
-    passed = failed = 0
+def requests_failed(step):
+    """How many requests passed, and a line for each that did not."""
+    passed, lines = 0, []
     programs = [("gql_program", "answer", list(engine_cases(step))), ("gql_syntax_program", "document", list(syntax_cases()))]
     for program, word, cases in programs:
         found, _as_wanted = try_cases(program, word, [(name, text, None) for name, text, _statuses in cases])
@@ -112,10 +60,58 @@ def main():
             if found.get(name) in wanted:
                 passed += 1
             else:
-                failed += 1
-                print(f"hostile: {name}: {found.get(name, 'did not run')}, wanted {wanted}")
-    print(f"hostile: {passed} passed, {failed} failed")
-    return 1 if failed or not passed else 0
+                lines.append(f"{name}: {found.get(name, 'did not run')}, wanted {wanted}")
+    return passed, lines
+
+
+def run(path, text, room=None, **streams):
+    """The status and the output of the program, where it may take so much memory for data; the stack is not limited."""
+    limit = (lambda: resource.setrlimit(resource.RLIMIT_DATA, (room, room))) if room else None
+    streams = {"stdout": subprocess.PIPE} | ({} if text is None else {"input": text}) | streams
+    made = subprocess.run([path, "answer"], stderr=subprocess.PIPE, check=False, timeout=PATIENCE, preexec_fn=limit, **streams)
+    return made.returncode, made.stdout
+
+
+def devices_failed(path):
+    """The same of a source that cannot be read and of a sink that is full."""
+    folder = os.open("/", os.O_RDONLY)
+    unread = run(path, None, stdin=folder)
+    os.close(folder)
+    with open("/dev/full", "wb") as full:
+        unwritten, _nothing = run(path, REQUESTS[0].encode(), stdout=full)
+    lines = [f"a source that fails: {unread}"] if unread != (SOURCE_FAILED, b"") else []
+    lines += [f"a sink that fails: {unwritten}"] if unwritten != SINK_FAILED else []
+    return 2 - len(lines), lines
+
+
+def memory_failed(path):
+    """The same of each room in which the program begins, up to one that suffices: it writes nothing, or the answer."""
+    passed, lines = 0, []
+    for name, request in of_some_size():
+        whole = run(path, request)
+        room, sufficed, has_begun = LEAST_ROOM, 0, False
+        while sufficed < ENOUGH:
+            made = run(path, request, room)
+            # In less room the system ends the program before it begins, or refuses its words.
+            has_begun |= made in (whole, (NO_MEMORY, b""))
+            sufficed = sufficed + 1 if made == whole else 0
+            if has_begun and made not in (whole, (NO_MEMORY, b"")):
+                lines.append(f"{name} in {room} bytes: {made}")
+            passed += has_begun
+            room += ROOM_STEP
+    return passed - len(lines), lines
+
+
+def main():
+    path = built("gql_program")
+    found = [requests_failed(1 if sys.argv[1:] == ["all"] or path else STEP)]
+    if path:
+        found += [devices_failed(path), memory_failed(path)]
+    passed, lines = sum(it for it, _ in found), [line for _, some in found for line in some]
+    for line in lines:
+        print(f"hostile: {line}")
+    print(f"hostile: {passed} passed, {len(lines)} failed")
+    return 1 if lines or not passed else 0
 
 
 if __name__ == "__main__":

@@ -1,15 +1,25 @@
 #!/usr/bin/env python3
-"""Runs the program on the worked requests of checks/rows.json, and compares its status and its output with each row."""
+"""Runs the program on the worked requests of checks/rows.json, and compares its status and its output with each row. A row's
+words are `answer` where it names none."""
+import itertools
 import json
 import sys
 
 from shared.trying import ROOT, try_cases
 
 
+def words(row):
+    return row.get("words", "answer")
+
+
 def main():
     rows = json.loads((ROOT / "checks" / "rows.json").read_text(encoding="utf-8"))
-    cases = [(row["name"], (row["input"] * row.get("times", 1)).encode(), row["output"]) for row in rows]
-    statuses, as_wanted = try_cases("gql_program", "answer", cases)
+    statuses, as_wanted = {}, set()
+    for said, group in itertools.groupby(sorted(rows, key=words), words):
+        cases = [(row["name"], (row["input"] * row.get("times", 1)).encode(), row["output"]) for row in group]
+        found, right = try_cases("gql_program", said, cases)
+        statuses |= found
+        as_wanted |= right
     passed = failed = 0
     for row in rows:
         name = row["name"]

@@ -25,24 +25,24 @@ def built(program):
     return path if path.stat().st_mtime >= last else None
 
 
-def try_cases(program, word, cases):
+def try_cases(program, words, cases):
     """The status of each case by its name, and the names of those that wrote what they should.
 
-    A case is its name, its input in bytes, and what the program should write, or None where that is not asked. The program
+    The words are what the program is given besides its input, with blanks between them. A case is its name, its input in bytes, and what the program should write, or None where that is not asked. The program
     that the gate has built is run; where there is none, `rt try` builds one without a proof. A case that did not run has no
     status.
     """
     path = built(program)
-    return run_cases(path, word, cases) if path else rt_try_cases(program, word, cases)
+    return run_cases(path, words, cases) if path else rt_try_cases(program, words, cases)
 
 
-def run_cases(path, word, cases):
+def run_cases(path, words, cases):
     """The same of a program that is built, with room that grows with the input alone."""
     statuses, as_wanted = {}, set()
     for name, text, wanted in cases:
         room = ROOM + ROOM_A_BYTE * len(text)
         run = subprocess.run(
-            [path, word],
+            [path, *words.split()],
             input=text,
             capture_output=True,
             check=False,
@@ -56,14 +56,14 @@ def run_cases(path, word, cases):
     return statuses, as_wanted
 
 
-def rt_try_cases(program, word, cases):
+def rt_try_cases(program, words, cases):
     """The same of the program under `rt try`, which runs slowly."""
     with tempfile.TemporaryDirectory() as folder:
         for name, text, wanted in cases:
             (pathlib.Path(folder) / name).write_bytes(text)
             if wanted is not None:
                 (pathlib.Path(folder) / f"{name}.stdout").write_text(wanted, encoding="utf-8")
-        command = ["rt", "try", "--cases", folder, "--", word]
+        command = ["rt", "try", "--cases", folder, "--", *words.split()]
         run = subprocess.run(command, cwd=ROOT / "crates" / program, capture_output=True, text=True, check=False)
     said = run.stdout + run.stderr
     statuses = {name: int(status) for name, status in re.findall(r"(?m)^case=(\S+) .*?status=(\d+)", said)}
