@@ -1,0 +1,3 @@
+pub mod Layers
+mod Sizes
+mod Untyped
