@@ -75,9 +75,9 @@ def many_fields(count):
     return request(schema, "{" + fields(count) + "}", data={f"f{number}": number for number in range(count)})
 
 
-def many_items(count, item):
-    """A list of so many items."""
-    return request("type Query{l:[Int]x:[A]}type A{y:Int}", "{l x{y}}", data={"l": list(range(count)), "x": [item] * count})
+def many_items(count):
+    """A list of so many numbers, and one of so many objects."""
+    return request("type Query{l:[Int]x:[A]}type A{y:Int}", "{l x{y}}", data={"l": list(range(count)), "x": [{"y": 1}] * count})
 
 
 def many_errors(count):
@@ -94,9 +94,9 @@ def many_variables(count):
 
 def many_arguments(count):
     """A field of so many arguments, all given."""
-    defined = "".join(f"a{number}:Int" for number in range(count))
-    given = "".join(f"a{number}:1" for number in range(count))
-    return request("type Query{f(" + defined.replace("Int", "Int ") + "):Int}", "{f(" + given.replace(":1", ":1 ") + ")}", data={"f": 1})
+    defined = " ".join(f"a{number}:Int" for number in range(count))
+    given = " ".join(f"a{number}:1" for number in range(count))
+    return request("type Query{f(" + defined + "):Int}", "{f(" + given + ")}", data={"f": 1})
 
 
 def many_types(count):
@@ -137,7 +137,7 @@ def large(count):
     yield "doubling", doubling(31, False), [ANSWERED]
     yield "doubling-depth", doubling(31, True), [ANSWERED]
     yield "fields", many_fields(count), [ANSWERED]
-    yield "items", many_items(count, {"y": 1}), [ANSWERED]
+    yield "items", many_items(count), [ANSWERED]
     yield "errors", many_errors(count), [ANSWERED]
     yield "variables", many_variables(count), [ANSWERED]
     yield "arguments", many_arguments(count // 10), [ANSWERED]
@@ -147,7 +147,7 @@ def large(count):
 def of_some_size():
     """Five requests that take a few megabytes each."""
     yield "fields", many_fields(2_000)
-    yield "items", many_items(4_000, {"y": 1})
+    yield "items", many_items(4_000)
     yield "errors", many_errors(2_000)
     yield "variables", many_variables(1_000)
     yield "types", many_types(500)
