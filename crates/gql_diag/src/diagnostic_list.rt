@@ -52,6 +52,15 @@ impl DiagnosticList {
         Ok(())
     }
 
+    /// Adds these diagnostics at the end, in their order. Refused for want of memory, the list is as it was.
+    pub fn append(&mut self, mut items: Vec<DiagnosticData>) -> Result<(), Memory>
+        ensures appended { OnOk result (self.new ≡ record self.old { items = self.old.items ++ items.items }) }
+        ensures unchanged { OnErr result (self.new ≡ self.old) }
+    {
+        self.items.append(&mut items)?;
+        Ok(())
+    }
+
     /// Sorts the diagnostics by their places: by file and offset, those without a place first. At one place they go
     /// by the rows of the tables of rules, then by their names as bytes, then by the place of the other definition or
     /// field. A text that is no sentence, and a limit of the parser, come before all rows, and a chain that is too

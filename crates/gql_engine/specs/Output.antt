@@ -8,7 +8,7 @@ use Rattle.gql_engine.specs.Reply.{Answers, AreReports, Passes, Refuses, SaysNot
 use Rattle.gql_engine.specs.declared.output.Output.{Output}
 use Rattle.gql_engine.specs.declared.reply.Reply.{Reply}
 use Rattle.gql_engine.specs.declared.reply.Reply.TheVariants.{Response, Passed, Reports, Refusal}
-use Rattle.gql_engine.specs.declared.status.TheConstants.{ANSWERED, REFUSED}
+use Rattle.jb_serve.specs.declared.serving.TheConstants.{ANSWERED, REFUSED}
 use Rattle.gql_engine.specs.declared.task.Task.{Task}
 use Rattle.gql_engine.specs.declared.task.Task.TheVariants.{Request, SelfTest}
 use Rattle.gql_engine.specs.declared.task.Wish.TheVariants.{Answer, Check}

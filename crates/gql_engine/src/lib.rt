@@ -9,7 +9,6 @@
 mod output;
 pub mod program;
 mod reply;
-mod status;
 mod task;
 
 pub use gql_answer::{AnswerError, RequestKind, VariablesFault, answer, answer_uncounted};
@@ -25,6 +24,6 @@ pub use gql_parser::Parser;
 pub use gql_schema_text::schema_of_text;
 pub use gql_schema_types::Schema;
 pub use jb_read::from_bytes_whole;
+pub use jb_serve::{ANSWERED, MISUSED, NO_MEMORY, REFUSED, SINK_FAILED, SOURCE_FAILED, TOO_LONG};
 pub use jb_tree::{ByteString, Listed, Map, Number, Refused, Text, Value};
 pub use program::{run, run_in_memory};
-pub use status::{ANSWERED, MISUSED, NO_MEMORY, REFUSED, SINK_FAILED, SOURCE_FAILED, TOO_LONG};

@@ -5,12 +5,12 @@ ghost use Rattle.gql_engine.specs.Output.{IsMeasured, IsOutput, IsOutputOf, line
 ghost use Rattle.gql_engine.specs.declared.task.Task.TheVariants as tasks;
 
 use crate::reply::{Reply, reply_to};
-use crate::status::{ANSWERED, REFUSED};
 use crate::task::Wish;
 use bytes::{Bytes, BytesMut};
 use gql_answer::Written;
 use gql_exec_steps::Steps;
 use gql_request::self_test_text;
+use jb_serve::{ANSWERED, REFUSED};
 use jb_tree::Memory;
 use std::alloc::{AllocError, Global};
 use std::sync::ledger::Ledger;

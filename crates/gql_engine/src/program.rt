@@ -11,7 +11,6 @@ ghost use Rattle.jb_io.specs.Source.{GivesAtMost, GivesMore, ReadsWhole};
 ghost use Rattle.jb_io.specs.Stream.{HasFailed};
 
 use crate::output::{Output, output_of, self_test};
-use crate::status::{ANSWERED, MISUSED, NO_MEMORY, REFUSED, SINK_FAILED, SOURCE_FAILED, TOO_LONG};
 use crate::task::{Task, Wish, task_asked};
 use bytes::Bytes;
 use gql_document_text::laws as document_laws;
@@ -19,6 +18,7 @@ use gql_exec_steps::Steps;
 use gql_schema_text::laws as schema_laws;
 use jb_io::{InputFault, Sink, SinkFault, Source, SureSink, SureSource, read_to_end, write_all};
 use jb_read::laws;
+use jb_serve::{ANSWERED, MISUSED, NO_MEMORY, REFUSED, SINK_FAILED, SOURCE_FAILED, TOO_LONG};
 use jb_tree::{Memory, Refused};
 use std::alloc::Global;
 use std::sync::ledger::Ledger;

@@ -70,18 +70,8 @@ pub(crate) fn told(
     ensures sources { IfOk result (λ list. list.sources ≡ sources.now) }
 {
     let mut list = DiagnosticList::new(alloc, sources.copy(alloc)?);
-    push_all(&mut list, firsts)?;
-    push_all(&mut list, others)?;
+    list.append(firsts)?;
+    list.append(others)?;
     list.sort()?;
     Ok(list)
-}
-
-/// Adds diagnostics at the end of a list.
-fn push_all(list: &mut DiagnosticList, items: Vec<DiagnosticData>) -> Result<(), Memory>
-    ensures { OnOk result (list.new ≡ record list.old { items = list.old.items ++ items.items }) }
-{
-    for item in items {
-        list.push(item)?;
-    }
-    Ok(())
 }

@@ -6,8 +6,6 @@
 #![tactic(auto)]
 
 mod document_faults;
-mod taken;
 mod validate;
 
-pub use taken::take_faults;
 pub use validate::validate_document;

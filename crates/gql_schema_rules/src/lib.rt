@@ -12,4 +12,5 @@ mod taken;
 mod validate;
 
 pub use checks::{check_arguments, check_directives, check_literal};
+pub use taken::take_faults;
 pub use validate::validate_schema;

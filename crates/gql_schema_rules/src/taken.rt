@@ -9,8 +9,8 @@ use gql_diag::DiagnosticList;
 use gql_diag_messages::DiagnosticData;
 use jb_text::{Listed, Memory};
 
-/// Takes these faults, and sorts the list. Refused for want of memory, it has taken some of them.
-pub(crate) fn take_faults(
+/// Takes these faults, and sorts the list. `Err` only for want of memory: then the list has taken some of them.
+pub fn take_faults(
     faults: Listed<DiagnosticData>,
     errors: &mut DiagnosticList,
 ) -> Result<(), Memory>

@@ -96,9 +96,7 @@ fn list_of(
     ensures { IfOk result (λ made. made ≡ record { sources = sources; items = items.items }) }
 {
     let mut made = DiagnosticList::new(alloc, sources);
-    for item in items {
-        made.push(item)?;
-    }
+    made.append(items)?;
     Ok(made)
 }
 
