@@ -6,7 +6,8 @@ use Rattle.gql_diag_messages.specs.declared.diagnostic_data.DiagnosticData.{Diag
 use Rattle.gql_document_build.specs.DistinctDefinitions.{definition_faults, distinct_definitions}
 use Rattle.gql_document_build.specs.declared.executable_definitions.ExecutableDefinitions.{ExecutableDefinitions}
 use Rattle.gql_rules_untyped.specs.UntypedDocument.{untyped_document}
-use Rattle.gql_rules_untyped.specs.UntypedFaults.{AreDocumentFaults, AreFirstOrAll, AreUntypedFaults}
+use Rattle.gql_rules.specs.DocumentFaults.{AreFirstOrAll}
+use Rattle.gql_rules_untyped.specs.UntypedFaults.{AreDocumentFaults, AreUntypedFaults}
 
 pub not_empty : (b : Bool) (faults : List DiagnosticData) → (faults ≡ [] → b ≡ true) → b ≡ false → faults ≢ []
 not_empty b faults is test none = false≢true (sym test ∙ is none)

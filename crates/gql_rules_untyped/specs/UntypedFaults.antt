@@ -1,10 +1,11 @@
 -- All that is wrong with definitions, whatever the schema: sections 5.1.1, 5.2, 5.4.2, 5.5 and 5.8 of GraphQL October 2021.
-use Rattle.std.specs.Prelude.{◌≡◌, List, [], ◌∷◌, ◌++◌}
+use Rattle.std.specs.Prelude.{◌≡◌, List, ◌++◌}
 use Rattle.std.specs.List.{flat_map}
 use Rattle.gql_ast.specs.declared.definition.Definition.{Definition}
 use Rattle.gql_diag_messages.specs.declared.diagnostic_data.DiagnosticData.{DiagnosticData}
 use Rattle.gql_document_build.specs.DistinctDefinitions.{definition_faults, distinct_definitions}
 use Rattle.gql_document_types.specs.declared.document.ExecutableDocument.{ExecutableDocument}
+use Rattle.gql_rules.specs.DocumentFaults.{AreFirstOrAll}
 use Rattle.gql_rules_fragments.specs.SpreadFaults.{AreSpreadFaults}
 use Rattle.gql_rules_fragments.specs.UnusedFragment.{AreUnused}
 use Rattle.gql_rules_nodes.specs.Nodes.{nodes}
@@ -22,11 +23,6 @@ pub record AreOtherFaults (document : ExecutableDocument) (faults : List Diagnos
   pub variables : List DiagnosticData
   pub are_variables : AreVariableFaults no_schema document variables
   pub whole : faults ≡ ((unused ++ variables) ++ unique_variables document.operations) ++ flat_map node_arguments (nodes document)
-
--- some diagnostics alone; or, where there are none, such ones
-abbrev pub AreFirstOrAll : (List DiagnosticData → Type 0) → List DiagnosticData → List DiagnosticData → Type 0
-AreFirstOrAll AreOthers [] faults = AreOthers faults
-AreFirstOrAll AreOthers (first ∷ firsts) faults = faults ≡ first ∷ firsts
 
 -- what is wrong with the spreads of a document alone, or else what the other rules say
 pub record AreDocumentFaults (document : ExecutableDocument) (faults : List DiagnosticData) : Type 0 where

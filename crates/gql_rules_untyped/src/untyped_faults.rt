@@ -2,6 +2,7 @@
 
 ghost use Rattle.std.specs.Prelude.{◌≡◌, ◌++◌, List, IfOk, OnOk};
 ghost use Rattle.gql_diag_messages.specs.declared.diagnostic_data.DiagnosticData as item;
+ghost use Rattle.gql_rules.specs.DocumentFaults.{AreFirstOrAll};
 ghost use Rattle.gql_rules_untyped.specs.NoSchema.{no_schema as no_schema_of};
 ghost use Rattle.gql_rules_untyped.specs.UntypedDocument.{untyped_document as document_of};
 ghost use Rattle.gql_rules_untyped.specs.UntypedFaults as spec;
@@ -45,7 +46,7 @@ fn faults_unless_any(
     definitions: ExecutableDefinitions,
     firsts: Listed<DiagnosticData>,
 ) -> Result<Listed<DiagnosticData>, Memory>
-    ensures { IfOk result (λ faults. spec.AreFirstOrAll (spec.AreDocumentFaults (document_of definitions)) firsts faults) }
+    ensures { IfOk result (λ faults. AreFirstOrAll (spec.AreDocumentFaults (document_of definitions)) firsts faults) }
 {
     if firsts.is_empty() {
         distinct_faults(alloc, definitions)
@@ -83,7 +84,7 @@ fn others_unless_any(
     document: &ExecutableDocument,
     firsts: Listed<DiagnosticData>,
 ) -> Result<Listed<DiagnosticData>, Memory>
-    ensures { IfOk result (λ faults. spec.AreFirstOrAll (spec.AreOtherFaults document.now) firsts faults) }
+    ensures { IfOk result (λ faults. AreFirstOrAll (spec.AreOtherFaults document.now) firsts faults) }
 {
     if firsts.is_empty() {
         other_faults(alloc, document)

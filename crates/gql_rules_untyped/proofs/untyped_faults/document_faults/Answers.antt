@@ -2,7 +2,8 @@ use Rattle.std.proofs.Common.{◌++◌, ap, ◌∙◌}
 use Rattle.std.proofs.lemmas.Result.{IfOk-weaker}
 use Rattle.gql_rules_untyped.proofs.Layers.{of_same}
 use Rattle.gql_rules_untyped.proofs.untyped_faults.document_faults.Goals as goal
-use Rattle.gql_rules_untyped.specs.UntypedFaults.{AreFirstOrAll, AreDocumentFaults, AreOtherFaults}
+use Rattle.gql_rules.specs.DocumentFaults.{AreFirstOrAll}
+use Rattle.gql_rules_untyped.specs.UntypedFaults.{AreDocumentFaults, AreOtherFaults}
 
 pub returns : goal.returns
 returns c =
