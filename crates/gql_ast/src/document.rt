@@ -14,10 +14,18 @@ use jb_text::{Listed, Memory};
 use std::alloc::Global;
 
 /// A document: its definitions, and the files that their locations speak of.
-#[derive(Drop)]
 pub struct Document {
     pub sources: SourceMap,
     pub definitions: Listed<Definition>,
+}
+
+impl Drop for Document {
+    fn drop(self) {
+        let Document {
+            sources: _,
+            definitions: _,
+        } = self;
+    }
 }
 
 impl Document {
@@ -39,6 +47,19 @@ impl Document {
             sources,
             definitions,
         })
+    }
+
+    /// The files and the definitions themselves. It takes no memory.
+    #[must_use]
+    pub fn into_parts(self) -> (SourceMap, Listed<Definition>)
+        ensures sources { result.0 ≡ self.sources }
+        ensures definitions { result.1 ≡ self.definitions }
+    {
+        let Document {
+            sources,
+            definitions,
+        } = self;
+        (sources, definitions)
     }
 }
 

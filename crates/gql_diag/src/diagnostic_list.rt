@@ -17,10 +17,19 @@ use std::marker::Model;
 /// Diagnostics, and the files that they are of.
 ///
 /// A contract sees a record with `sources` and `items`.
-#[derive(Debug, Drop)]
+#[derive(Debug)]
 pub struct DiagnosticList {
     sources: SourceMap,
     items: Vec<DiagnosticData>,
+}
+
+impl Drop for DiagnosticList {
+    fn drop(self) {
+        let DiagnosticList {
+            sources: _,
+            items: _,
+        } = self;
+    }
 }
 
 impl Model for DiagnosticList {

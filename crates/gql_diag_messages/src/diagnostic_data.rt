@@ -10,10 +10,19 @@ use jb_text::{Memory, Text};
 use std::alloc::Global;
 
 /// What is wrong with a schema or a document, and where.
-#[derive(Debug, Drop)]
+#[derive(Debug)]
 pub struct DiagnosticData {
     pub location: Option<SourceSpan>,
     pub details: Details,
+}
+
+impl Drop for DiagnosticData {
+    fn drop(self) {
+        let DiagnosticData {
+            location: _,
+            details: _,
+        } = self;
+    }
 }
 
 impl DiagnosticData {

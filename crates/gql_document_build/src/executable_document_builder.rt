@@ -15,7 +15,6 @@ use jb_text::{Listed, Memory, Refused};
 use std::alloc::{AllocError, Global};
 
 /// Builds an executable document of documents, against a schema. Clauses speak of what it has taken.
-#[derive(Drop)]
 pub struct ExecutableDocumentBuilder<'s> {
     alloc: Global,
     schema: &'s Schema,
@@ -23,6 +22,19 @@ pub struct ExecutableDocumentBuilder<'s> {
     definitions: ExecutableDefinitions,
     faults: Listed<DiagnosticData>,
     refused: bool,
+}
+
+impl Drop for ExecutableDocumentBuilder<'_> {
+    fn drop(self) {
+        let ExecutableDocumentBuilder {
+            alloc: _,
+            schema: _,
+            sources: _,
+            definitions: _,
+            faults: _,
+            refused: _,
+        } = self;
+    }
 }
 
 impl<'s> ExecutableDocumentBuilder<'s> {
@@ -143,10 +155,7 @@ impl<'s> ExecutableDocumentBuilder<'s> {
         ensures { OnOk result (spec.taken self.new ≡ spec.with_document (spec.taken self.old) document errors type_system_definitions_are_errors) }
     {
         let alloc = self.alloc;
-        let Document {
-            sources,
-            definitions,
-        } = document;
+        let (sources, definitions) = document.into_parts();
         take_list(errors, &mut self.sources, &mut self.faults)?;
         list_type_systems(
             alloc,

@@ -9,7 +9,6 @@ use jb_text::Listed;
 
 /// Operations and fragments (GraphQL October 2021, section 2.2), each in order of definition. No two fragments have one
 /// name.
-#[derive(Drop)]
 pub struct ExecutableDocument {
     pub sources: SourceMap,
     pub operations: Listed<Operation>,
@@ -17,8 +16,26 @@ pub struct ExecutableDocument {
 }
 
 /// Selections on one type, without an operation around them.
-#[derive(Drop)]
 pub struct FieldSet {
     pub sources: SourceMap,
     pub selection_set: SelectionSet,
+}
+
+impl Drop for ExecutableDocument {
+    fn drop(self) {
+        let ExecutableDocument {
+            sources: _,
+            operations: _,
+            fragments: _,
+        } = self;
+    }
+}
+
+impl Drop for FieldSet {
+    fn drop(self) {
+        let FieldSet {
+            sources: _,
+            selection_set: _,
+        } = self;
+    }
 }

@@ -11,12 +11,22 @@ use jb_text::{Listed, Memory};
 use std::alloc::Global;
 
 /// A fragment with a name (GraphQL October 2021, section 2.8). The type of its set is the one that it is on.
-#[derive(Drop)]
 pub struct Fragment {
     pub name: Name,
     pub directives: Listed<Directive>,
     pub selection_set: SelectionSet,
     pub location: Option<SourceSpan>,
+}
+
+impl Drop for Fragment {
+    fn drop(self) {
+        let Fragment {
+            name: _,
+            directives: _,
+            selection_set: _,
+            location: _,
+        } = self;
+    }
 }
 
 impl Named for Fragment {

@@ -11,7 +11,6 @@ use jb_text::{Listed, Memory};
 use std::alloc::Global;
 
 /// An operation (GraphQL October 2021, section 2.3). The type of its set is the root type for operations of its kind.
-#[derive(Drop)]
 pub struct Operation {
     pub operation_type: OperationType,
     pub name: Option<Name>,
@@ -19,6 +18,19 @@ pub struct Operation {
     pub directives: Listed<Directive>,
     pub selection_set: SelectionSet,
     pub location: Option<SourceSpan>,
+}
+
+impl Drop for Operation {
+    fn drop(self) {
+        let Operation {
+            operation_type: _,
+            name: _,
+            variables: _,
+            directives: _,
+            selection_set: _,
+            location: _,
+        } = self;
+    }
 }
 
 impl Operation {

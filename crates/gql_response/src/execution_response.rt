@@ -26,10 +26,16 @@ const FIRST_ROOM: usize = 256;
 /// What an execution gives (GraphQL October 2021, section 7.1): the errors in the order in which they came, and the
 /// data. `root` is `None` where the data are null. Responses are compared part by part; the order of the pairs of maps
 /// does not count.
-#[derive(PartialEq, Eq, Drop)]
+#[derive(PartialEq, Eq)]
 pub struct ExecutionResponse {
     pub errors: Listed<GraphQLError>,
     pub root: Option<Map>,
+}
+
+impl Drop for ExecutionResponse {
+    fn drop(self) {
+        let ExecutionResponse { errors: _, root: _ } = self;
+    }
 }
 
 impl ExecutionResponse {

@@ -15,12 +15,23 @@ use std::alloc::Global;
 /// An error of a response (GraphQL October 2021, section 7.1.2): what went wrong, where in the documents, at which
 /// place of the data, and what else is said of it. Errors are compared part by part; the order of the pairs of
 /// `extensions` does not count.
-#[derive(PartialEq, Eq, Drop)]
+#[derive(PartialEq, Eq)]
 pub struct GraphQLError {
     pub message: Text,
     pub locations: Listed<LineColumn>,
     pub path: Listed<ResponseDataPathSegment>,
     pub extensions: Map,
+}
+
+impl Drop for GraphQLError {
+    fn drop(self) {
+        let GraphQLError {
+            message: _,
+            locations: _,
+            path: _,
+            extensions: _,
+        } = self;
+    }
 }
 
 impl GraphQLError {

@@ -23,10 +23,8 @@ pub(crate) fn built_in(alloc: Global) -> Result<(BuiltIn, SourceMap), Memory>
     ensures definitions { IfOk result (λ made. spec.IsBuiltIn made.0) }
     ensures sources { IfOk result (λ made. made.1 ≡ spec.built_in_sources) }
 {
-    let Document {
-        sources,
-        definitions,
-    } = document(alloc, FileId::BUILT_IN, BUILT_IN_PATH, BUILT_IN_TEXT)?;
+    let document = document(alloc, FileId::BUILT_IN, BUILT_IN_PATH, BUILT_IN_TEXT)?;
+    let (sources, definitions) = document.into_parts();
     let mut system = TypeSystem::new(alloc);
     system.take_all(definitions)?;
     let TypeSystem {

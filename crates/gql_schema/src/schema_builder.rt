@@ -14,7 +14,6 @@ use jb_text::{Listed, Memory, Refused};
 use std::alloc::{AllocError, Global};
 
 /// Builds a schema of documents. Clauses speak of what it has taken.
-#[derive(Drop)]
 pub struct SchemaBuilder {
     alloc: Global,
     sources: SourceMap,
@@ -23,6 +22,20 @@ pub struct SchemaBuilder {
     faults: Listed<DiagnosticData>,
     ignores: bool,
     refused: bool,
+}
+
+impl Drop for SchemaBuilder {
+    fn drop(self) {
+        let SchemaBuilder {
+            alloc: _,
+            sources: _,
+            built_in: _,
+            user: _,
+            faults: _,
+            ignores: _,
+            refused: _,
+        } = self;
+    }
 }
 
 impl SchemaBuilder {
@@ -158,10 +171,7 @@ impl SchemaBuilder {
         ensures { OnOk result (spec.taken self.new ≡ spec.with_document (spec.taken self.old) document errors executable_definitions_are_errors) }
     {
         let alloc = self.alloc;
-        let Document {
-            sources,
-            definitions,
-        } = document;
+        let (sources, definitions) = document.into_parts();
         take_list(errors, &mut self.sources, &mut self.faults)?;
         list_executable(
             alloc,

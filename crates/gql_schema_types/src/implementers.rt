@@ -24,9 +24,14 @@ pub struct Implementers {
 }
 
 /// The types that implement each interface, as [`Schema::implementers_map`] makes it.
-#[derive(Drop)]
 pub struct ImplementersMap {
     by_interface: Pairs<Implementers>,
+}
+
+impl Drop for ImplementersMap {
+    fn drop(self) {
+        let ImplementersMap { by_interface: _ } = self;
+    }
 }
 
 impl Model for ImplementersMap {

@@ -14,11 +14,20 @@ use std::marker::Model;
 
 /// The fields that types have besides their own (GraphQL October 2021, sections 2.9.1 and 4.1). A schema keeps them so
 /// that it can lend them; all values are the same.
-#[derive(Drop)]
 pub struct MetaFields {
     type_name: FieldDefinition,
     schema: FieldDefinition,
     ty: FieldDefinition,
+}
+
+impl Drop for MetaFields {
+    fn drop(self) {
+        let MetaFields {
+            type_name: _,
+            schema: _,
+            ty: _,
+        } = self;
+    }
 }
 
 impl Model for MetaFields {

@@ -13,7 +13,6 @@ use gql_source::{SourceMap, SourceSpan};
 use jb_text::{Listed, Text};
 
 /// The root types of a schema and what is said of it as a whole (GraphQL October 2021, section 3.3).
-#[derive(Drop)]
 pub struct SchemaDefinition {
     pub description: Option<Text>,
     pub directives: Listed<Directive>,
@@ -24,13 +23,37 @@ pub struct SchemaDefinition {
 }
 
 /// A schema (section 3.2): its types and directives, each in order of definition.
-#[derive(Drop)]
 pub struct Schema {
     pub sources: SourceMap,
     pub schema_definition: SchemaDefinition,
     pub directive_definitions: Table<DirectiveDefinition>,
     pub types: Table<ExtendedType>,
     pub meta_fields: MetaFields,
+}
+
+impl Drop for SchemaDefinition {
+    fn drop(self) {
+        let SchemaDefinition {
+            description: _,
+            directives: _,
+            query: _,
+            mutation: _,
+            subscription: _,
+            location: _,
+        } = self;
+    }
+}
+
+impl Drop for Schema {
+    fn drop(self) {
+        let Schema {
+            sources: _,
+            schema_definition: _,
+            directive_definitions: _,
+            types: _,
+            meta_fields: _,
+        } = self;
+    }
 }
 
 impl SchemaDefinition {
