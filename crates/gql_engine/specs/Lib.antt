@@ -3,3 +3,4 @@ pub mod Reply
 pub mod Output
 pub mod Program
 pub mod Resolving
+pub mod Executing

@@ -12,8 +12,10 @@ mod reply;
 mod task;
 
 pub use gql_answer::{AnswerError, RequestKind, VariablesFault, answer, answer_uncounted};
+pub use gql_ast::Document;
 pub use gql_diag::{DiagnosticList, ExecutionResponse, GraphQLError, RequestError, Valid};
 pub use gql_document_text::document_of_text;
+pub use gql_document_text::laws::valid_documents_run;
 pub use gql_document_types::ExecutableDocument;
 pub use gql_exec_request::{Execution, partial_execute};
 pub use gql_exec_resolve::{
@@ -21,9 +23,13 @@ pub use gql_exec_resolve::{
 };
 pub use gql_exec_steps::Steps;
 pub use gql_parser::Parser;
+pub use gql_parser_mixed::ParseMixed;
+pub use gql_refusal::{refusal_of_diagnostics, refusal_of_request};
+pub use gql_rules_untyped::validate_standalone;
 pub use gql_schema_text::schema_of_text;
 pub use gql_schema_types::Schema;
+pub use gql_source::{FileIds, SourceMap};
 pub use jb_read::from_bytes_whole;
 pub use jb_serve::{ANSWERED, MISUSED, NO_MEMORY, REFUSED, SINK_FAILED, SOURCE_FAILED, TOO_LONG};
-pub use jb_tree::{ByteString, Listed, Map, Number, Refused, Text, Value};
+pub use jb_tree::{ByteString, Listed, Map, Memory, Number, Refused, Text, Value};
 pub use program::{run, run_in_memory};
