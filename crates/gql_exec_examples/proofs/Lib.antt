@@ -1,6 +1,8 @@
 -- The examples, computed.
 mod Opened
 mod Computed
+mod Counting
+mod Doubling
 pub mod FailedItem
 pub mod InnerNull
 pub mod RootNull

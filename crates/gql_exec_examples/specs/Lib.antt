@@ -1,3 +1,5 @@
 pub mod Parts
 pub mod Example
 pub mod Examples
+pub mod Doubling
+pub mod Counting

@@ -2,11 +2,14 @@ pub mod Enough
 pub mod Followed
 pub mod GroupFacts
 pub mod Keys
-pub mod Put
 pub mod Measure
 pub mod Numbers
+pub mod Once
 pub mod OnTheWay
+pub mod Put
 pub mod SameFacts
+pub mod Standings
+pub mod Unentered
 pub mod Variants
 pub mod WalkFacts
 pub mod WithinGroups

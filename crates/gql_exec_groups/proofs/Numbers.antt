@@ -110,13 +110,13 @@ shape_own (Selection-F.Field it) = 1
 shape_own (Selection-F.FragmentSpread it) = 1
 shape_own (Selection-F.InlineFragment it) = 1 + size it.selection_set.selections
 
-own-field : (f : Field) → own (selection.Field f) ≡ 1
+pub own-field : (f : Field) → own (selection.Field f) ≡ 1
 own-field f = search (rules, the_lemmas)
 
-own-spread : (s : FragmentSpread) → own (selection.FragmentSpread s) ≡ 1
+pub own-spread : (s : FragmentSpread) → own (selection.FragmentSpread s) ≡ 1
 own-spread s = search (rules, the_lemmas)
 
-own-inline : (i : InlineFragment) → own (selection.InlineFragment i) ≡ 1 + size i.selection_set.selections
+pub own-inline : (i : InlineFragment) → own (selection.InlineFragment i) ≡ 1 + size i.selection_set.selections
 own-inline i = search (rules, the_lemmas)
 
 pub own-shape : (x : Selection) → own x ≡ shape_own (out-Selection x)

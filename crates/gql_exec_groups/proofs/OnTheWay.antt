@@ -1,13 +1,14 @@
 -- A walk on its way: with the fields of what is left it has those of the whole.
-use Rattle.std.proofs.Common.{◌≡◌, ◌<◌, Bool, List, [], ◌∷◌, ◌++◌, map, refl, sym, ap, ◌∙◌, subst, append_assoc}
+use Rattle.std.proofs.Common.{arith, ◌≡◌, ◌+◌, ◌<◌, ◌≤◌, Bool, List, [], ◌∷◌, ◌++◌, map, refl, sym, ap, ◌∙◌, subst, append_assoc}
 use Rattle.std.specs.Borrow.{Bor}
 use Rattle.std.proofs.lemmas.List.{reverse-append, append-nil}
 use Rattle.gql_document_types.specs.declared.selection.Field.{Field}
 use Rattle.gql_document_types.specs.declared.selection.Selection.{Selection, out-Selection}
 use Rattle.gql_exec_groups.specs.Flat.{field_of}
 use Rattle.gql_exec_groups.specs.Setting.{Setting}
-use Rattle.gql_exec_groups.specs.Walk.{Walk, lists_of, fields_of, walk_of, put_before, with_list, gone_into, with_selection, with_first, Walks, walked_all, walked_on, WalksAll, no_more, list_first}
-use Rattle.gql_exec_groups.proofs.Measure.{weight, first_less}
+use Rattle.gql_exec_groups.specs.Sizes.{sets_size, outer_size, fragments_size}
+use Rattle.gql_exec_groups.specs.Walk.{Walk, looks_at, lists_of, fields_of, walk_of, put_before, with_list, gone_into, with_selection, with_first, Walks, walked_all, walked_on, WalksAll, no_more, list_first}
+use Rattle.gql_exec_groups.proofs.Measure.{left_over, weight, looks-within, unentered-within, first_looks, first_outer, first_less}
 
 module _ (s : Setting) where
   abbrev pub IsOnTheWay : List Bool → List (List Selection) → Walk → Type 0
@@ -81,6 +82,31 @@ module _ (s : Setting) (marks : List Bool) (pending popped : List (Bor (List Sel
   weighs_less =
       subst (λ w. weight s new < weight s w) (sym (taken_up marks pending popped fields list is))
       (subst (λ w. weight s w < weight s (record (walk_of marks popped fields) { left = list.now ∷ lists_of popped })) (sym made) (first_less s list.now (walk_of marks popped fields)))
+
+  -- a look more, and one less that can be taken
+  pub looks_less : looks_at list.now + left_over s new ≤ left_over s (walk_of marks pending fields)
+  looks_less =
+      subst (λ w. looks_at list.now + left_over s new ≤ left_over s w) (sym (taken_up marks pending popped fields list is))
+      (subst (λ w. looks_at list.now + left_over s w ≤ left_over s (record (walk_of marks popped fields) { left = list.now ∷ lists_of popped })) (sym made)
+      (first_looks s list.now (walk_of marks popped fields)))
+
+  -- and of the lists themselves at most that one less
+  pub outer_less : outer_size (lists_of pending) ≤ looks_at list.now + outer_size new.left
+  outer_less =
+      subst (λ l. outer_size l ≤ looks_at list.now + outer_size new.left) (sym (ap (λ (w : Walk). w.left) (taken_up marks pending popped fields list is)))
+      (subst (λ (w : Walk). outer_size (list.now ∷ lists_of popped) ≤ looks_at list.now + outer_size w.left) (sym made)
+      (first_outer s list.now (walk_of marks popped fields)))
+
+-- what is looked at was left
+pub looks-left : (s : Setting) (marks : List Bool) (pending popped : List (Bor (List Selection))) (fields : List (Bor Field)) (list : Bor (List Selection))
+    → pending ≡ popped ++ list ∷ [] → looks_at list.now ≤ left_over s (walk_of marks pending fields)
+looks-left s marks pending popped fields list is =
+    omega (arith, looks-within list.now, ap (λ (w : Walk). sets_size w.left) (taken_up marks pending popped fields list is))
+
+-- what can be looked at when a walk begins
+pub begins_within : (s : Setting) (marks : List Bool) (start : List (List Selection)) (fields : List Field)
+    → left_over s (record { marks = marks; left = start; fields = fields }) ≤ sets_size start + fragments_size s.fragments
+begins_within s marks start fields = omega (arith, unentered-within s.fragments marks)
 
 pub way_begins : (s : Setting) (marks : List Bool) (start : List (List Selection)) → IsOnTheWay s marks start (record { marks = marks; left = start; fields = [] })
 way_begins s marks start = λ rest w. w

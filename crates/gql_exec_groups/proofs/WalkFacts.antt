@@ -20,9 +20,9 @@ use Rattle.gql_exec_groups.specs.Ranks.{AreRanked}
 use Rattle.gql_exec_groups.specs.Same.{SameFirst}
 use Rattle.gql_exec_groups.specs.Setting.{Setting}
 use Rattle.gql_exec_groups.specs.Walk.{number_of, is_new, mark, marked, gone_into, Walks, walked_all, walked_on, WalksAll, no_more, list_first}
-use Rattle.gql_exec_groups.proofs.Measure.{new-mark}
 use Rattle.gql_exec_groups.proofs.Numbers.{AreBelow, shape_numbers, first-below, rest-below, when-below, below-all, contents-below, body-is, body-none}
 use Rattle.gql_exec_groups.proofs.SameFacts.{same-append, same-known, same-twice}
+use Rattle.gql_exec_groups.proofs.Unentered.{new-mark}
 
 -- Flat selections as a relation.
 pub data IsFlat (s : Setting) : List Selection → List Field → Type 0 where

@@ -1,6 +1,7 @@
 -- Groups on the way: fields that are put into groups one after another.
 use Rattle.std.specs.Prelude.{ℕ, if◌then◌else◌, List, [], ◌∷◌, ◌++◌, map, Some, slice_get, slice_set}
 use Rattle.std.specs.Borrow.{Bor}
+use Rattle.std.specs.List.{flat_map}
 use Rattle.std.specs.Option.{option_map_or}
 use Rattle.std.specs.Str.{bytes_eq}
 use Rattle.gql_ast_base.specs.Names.{Named}
@@ -16,6 +17,10 @@ group_seen group = record { key = response_key group.first.now; first = Some gro
 
 abbrev pub groups_seen : List Group → List FieldGroup
 groups_seen groups = map group_seen groups
+
+-- the fields of all groups
+abbrev pub fields_in_groups : List FieldGroup → List Field
+fields_in_groups groups = flat_map (λ (group : FieldGroup). group.fields) groups
 
 abbrev pub key_name : Key → Named
 key_name key = response_name key.field.now

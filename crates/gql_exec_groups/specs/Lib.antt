@@ -8,4 +8,5 @@ pub mod Ranks
 pub mod Same
 pub mod Setting
 pub mod Sizes
+pub mod Standing
 pub mod Walk

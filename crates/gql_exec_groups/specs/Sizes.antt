@@ -1,5 +1,5 @@
 -- How many selections stand in a set, with those inside inline fragments and without those inside fields.
-use Rattle.std.specs.Prelude.{ℕ, ◌+◌, List, [], ◌∷◌, map}
+use Rattle.std.specs.Prelude.{ℕ, ◌+◌, List, [], ◌∷◌, map, length}
 use Rattle.gql_document_types.specs.declared.fragment.Fragment.{Fragment}
 use Rattle.gql_document_types.specs.declared.selection.Selection.{Selection, fold-Selection}
 use Rattle.gql_document_types.specs.declared.selection.Selection.TheOpen.{Selection-F, Field-F, InlineFragment-F, SelectionSet-F}
@@ -28,5 +28,14 @@ own = fold-Selection ℕ ℕ ℕ ℕ own_selection own_field own_inline own_set
 abbrev pub size : List Selection → ℕ
 size selections = added (map own selections)
 
+-- those of several sets
+abbrev pub sets_size : List (List Selection) → ℕ
+sets_size sets = added (map size sets)
+
+-- those of the sets alone, without what is inside inline fragments
+abbrev pub outer_size : List (List Selection) → ℕ
+outer_size sets = added (map (λ (selections : List Selection). length selections) sets)
+
+-- those of all fragments
 abbrev pub fragments_size : List Fragment → ℕ
 fragments_size fragments = added (map (λ (fragment : Fragment). size fragment.selection_set.selections) fragments)

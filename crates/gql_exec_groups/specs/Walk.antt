@@ -38,6 +38,11 @@ put_before (x ∷ xs) left = (x ∷ xs) ∷ left
 abbrev pub with_list : List Selection → Walk → Walk
 with_list selections walk = record walk { left = put_before selections walk.left }
 
+-- how many selections are looked at when a list is taken up: its first, if it has one
+abbrev pub looks_at : List Selection → ℕ
+looks_at [] = 0
+looks_at (x ∷ xs) = 1
+
 module _ (s : Setting) where
   abbrev pub number_of : FragmentSpread → Option ℕ
   number_of spread = position (is_called fragment_name spread.fragment_name.text) s.fragments

@@ -1,37 +1,48 @@
 //! Walks through selections that enter each fragment once.
 
-ghost use Rattle.std.specs.Prelude.{◌≡◌, ℕ, IfOk, OnOk};
+ghost use Rattle.std.specs.Prelude.{◌≡◌, ◌≤◌, ℕ, ◌+◌, ◌++◌, IfOk, OnOk};
 ghost use Rattle.gql_exec_groups.specs.Flat.{flat_sets};
 ghost use Rattle.gql_exec_groups.specs.Ranks.{AreRanked};
 ghost use Rattle.gql_exec_groups.specs.Same.{SameFirst};
+ghost use Rattle.gql_exec_groups.specs.Sizes.{fragments_size, outer_size, sets_size};
+ghost use Rattle.gql_exec_groups.specs.Standing.{NoneMoreOften, fields_in_all, fields_in_fragments};
 ghost use Rattle.gql_exec_groups.specs.Walk as walk;
 ghost use Rattle.gql_exec_groups.specs.Collected.{setting, setting_of, sets_of};
 
 use crate::applies::{applies, applies_if};
 use crate::directives::is_kept;
+use crate::pieces::Pieces;
 use gql_document_types::{
-    ExecutableDocument, Field, Fragment, FragmentSpread, InlineFragment, Selection, SelectionSet,
+    ExecutableDocument, Field, Fragment, FragmentSpread, InlineFragment, Selection,
 };
+use gql_exec_steps::Steps;
 use gql_schema_types::{ObjectType, Schema, Table};
 use jb_text::{Listed, Memory};
 use jb_tree::Map;
 use std::alloc::Global;
+use std::sync::ledger::Ledger;
 
 /// The fields that selection sets ask of an object type, in order (GraphQL October 2021, section 6.3.2): those that are kept
 /// by `@skip` and `@include`, those of fragments that apply among them. Each fragment is entered once, so they are the
 /// fields of the sets with each fragment written out, repeats aside. A fragment that is not defined has no fields. `Err`
-/// only for want of memory. The time is linear in the selections that are looked at.
-pub fn selected_fields<'d>(
+/// only for want of memory. Each selection that is looked at counts one step.
+pub(crate) fn selected_fields<'d, L: Ledger>(
     alloc: Global,
     schema: &Schema,
     document: &'d ExecutableDocument,
     object_type: &ObjectType,
-    sets: &[&'d SelectionSet],
+    pieces: &Pieces<'d>,
     variables: &Map,
+    steps: &mut Steps<L>,
 ) -> Result<Listed<&'d Field>, Memory>
     requires { (rank : ℕ → ℕ) × AreRanked document.now.fragments rank }
-    ensures { IfOk result (λ fields. SameFirst (walk.fields_of fields)
-        (flat_sets (setting document.now.fragments schema.now object_type.now variables.now) (sets_of sets.now))) }
+    ensures fields { IfOk result (λ fields. SameFirst (walk.fields_of fields)
+        (flat_sets (setting document.now.fragments schema.now object_type.now variables.now) (sets_of pieces.now))) }
+    ensures once { IfOk result (λ fields. NoneMoreOften (walk.fields_of fields)
+        (fields_in_all (sets_of pieces.now) ++ fields_in_fragments document.now.fragments)) }
+    ensures looks { steps.new ≤ steps.old + (sets_size (sets_of pieces.now) + fragments_size document.now.fragments) }
+    ensures rises { steps.old ≤ steps.new }
+    ensures counted { OnOk result (steps.old + outer_size (sets_of pieces.now) ≤ steps.new) }
 {
     let collector = Collector {
         fragments: &document.fragments,
@@ -40,19 +51,16 @@ pub fn selected_fields<'d>(
         variables,
     };
     let mut marks = vec![in alloc; false; document.fragments.len()]?;
-    let pending = laid_aside(alloc, sets)?;
-    collector.collect(alloc, pending, marks.as_mut_slice())
+    let pending = laid_aside(alloc, pieces)?;
+    collector.collect(alloc, pending, marks.as_mut_slice(), steps)
 }
 
 /// The selections of these sets, the first one last.
-fn laid_aside<'d>(
-    alloc: Global,
-    sets: &[&'d SelectionSet],
-) -> Result<Listed<&'d [Selection]>, Memory>
-    ensures { IfOk result (λ pending. walk.lists_of pending ≡ sets_of sets.now) }
+fn laid_aside<'d>(alloc: Global, pieces: &Pieces<'d>) -> Result<Listed<&'d [Selection]>, Memory>
+    ensures { IfOk result (λ pending. walk.lists_of pending ≡ sets_of pieces.now) }
 {
     let mut pending = Listed::new(alloc);
-    for set in sets.iter().rev() {
+    for set in pieces.as_slice().iter().rev() {
         pending.push(set.selections.as_slice())?;
     }
     Ok(pending)
@@ -69,33 +77,40 @@ struct Collector<'d, 'v> {
 
 impl<'d, 'v> Collector<'d, 'v> {
     /// The fields of lists that are laid aside.
-    fn collect(
+    fn collect<L: Ledger>(
         &self,
         alloc: Global,
         mut pending: Listed<&'d [Selection]>,
         marks: &mut [bool],
+        steps: &mut Steps<L>,
     ) -> Result<Listed<&'d Field>, Memory>
-        ensures { IfOk result (λ fields. walk.WalksAll (setting_of self.now) marks.old (walk.lists_of pending.entry) (walk.fields_of fields)) }
+        ensures fields { IfOk result (λ fields. walk.WalksAll (setting_of self.now) marks.old (walk.lists_of pending.entry) (walk.fields_of fields)) }
+        ensures looks { steps.new ≤ steps.old + (sets_size (walk.lists_of pending.entry) + fragments_size self.now.fragments.now) }
+        ensures rises { steps.old ≤ steps.new }
+        ensures counted { OnOk result (steps.old + outer_size (walk.lists_of pending.entry) ≤ steps.new) }
     {
         let mut fields = Listed::new(alloc);
         while let Some(list) = pending.pop() {
-            self.take_first(list, marks, &mut pending, &mut fields)?;
+            self.take_first(list, marks, &mut pending, &mut fields, steps)?;
         }
         Ok(fields)
     }
 
-    /// Goes on to the first of these selections, and lays the others aside.
-    fn take_first(
+    /// Looks at the first of these selections, if there is one, and lays the others aside.
+    fn take_first<L: Ledger>(
         &self,
         selections: &'d [Selection],
         marks: &mut [bool],
         pending: &mut Listed<&'d [Selection]>,
         fields: &mut Listed<&'d Field>,
+        steps: &mut Steps<L>,
     ) -> Result<(), Memory>
-        ensures { OnOk result (walk.walk_of marks.new pending.new fields.new ≡ walk.with_first (setting_of self.now) selections.now (walk.walk_of marks.old pending.old fields.old)) }
+        ensures walk { OnOk result (walk.walk_of marks.new pending.new fields.new ≡ walk.with_first (setting_of self.now) selections.now (walk.walk_of marks.old pending.old fields.old)) }
+        ensures looks { steps.new ≡ steps.old + walk.looks_at selections.now }
     {
         match selections.split_first() {
             Some((first, others)) => {
+                steps.tick();
                 lay_aside(others, pending)?;
                 self.meet(first, marks, pending, fields)
             }

@@ -6,8 +6,9 @@ ghost use Rattle.gql_exec_groups.specs.Collected.{sets_of};
 ghost use Rattle.gql_exec_groups.specs.Groups as spec;
 ghost use Rattle.gql_exec_groups.specs.Walk.{fields_of};
 
+use crate::pieces::Pieces;
 use gql_ast_base::Name;
-use gql_document_types::{Field, SelectionSet};
+use gql_document_types::Field;
 use gql_schema_types::Named;
 use jb_text::{Listed, Memory};
 use std::alloc::Global;
@@ -29,14 +30,14 @@ impl<'d> Group<'d> {
     }
 
     /// The selection sets of all fields of the group, in order. `Err` only for want of memory.
-    pub fn sub_selections(&self, alloc: Global) -> Result<Listed<&'d SelectionSet>, Memory>
-        ensures { IfOk result (λ sets. sets_of sets ≡ map (λ (field : Field). field.selection_set.selections) (fields_of self.now.fields)) }
+    pub fn sub_selections(&self, alloc: Global) -> Result<Pieces<'d>, Memory>
+        ensures { IfOk result (λ pieces. sets_of pieces ≡ map (λ (field : Field). field.selection_set.selections) (fields_of self.now.fields)) }
     {
-        let mut sets = Listed::new(alloc);
+        let mut pieces = Pieces::new(alloc);
         for field in self.fields.as_slice() {
-            sets.push(&field.selection_set)?;
+            pieces.add(&field.selection_set)?;
         }
-        Ok(sets)
+        Ok(pieces)
     }
 }
 

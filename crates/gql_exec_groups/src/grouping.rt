@@ -1,46 +1,75 @@
 //! Fields that are put into groups by their response keys.
 
-ghost use Rattle.std.specs.Prelude.{◌≡◌, ◌∷◌, [], ◌++◌, ℕ, None, IfOk, OnOk};
+ghost use Rattle.std.specs.Prelude.{◌≡◌, ◌≤◌, ◌+◌, ◌∷◌, [], ◌++◌, ℕ, None, IfOk, OnOk};
 ghost use Rattle.std.specs.List.{filter};
 ghost use Rattle.gql_schema_types.specs.Entries.{entry};
 ghost use Rattle.gql_exec_groups.specs.Collected.{setting, sets_of};
 ghost use Rattle.gql_exec_groups.specs.Grouping as step;
 ghost use Rattle.gql_exec_groups.specs.Groups as spec;
 ghost use Rattle.gql_exec_groups.specs.Ranks.{AreRanked};
+ghost use Rattle.gql_exec_groups.specs.Sizes.{fragments_size, outer_size, sets_size};
+ghost use Rattle.gql_exec_groups.specs.Standing.{NoneMoreOften, fields_in_all, fields_in_fragments};
 ghost use Rattle.gql_exec_groups.specs.Walk.{fields_of};
 
 use crate::collecting::selected_fields;
 use crate::group::{Group, Key, response_name};
-use gql_document_types::{ExecutableDocument, Field, SelectionSet};
+use crate::grouped::Grouped;
+use crate::pieces::Pieces;
+use gql_document_types::{ExecutableDocument, Field};
+use gql_exec_steps::Steps;
 use gql_schema_types::{ObjectType, Schema, Table};
 use jb_text::{Listed, Memory};
 use jb_tree::Map;
 use std::alloc::{AllocError, Global};
+use std::sync::ledger::Ledger;
 
 /// The groups of fields that selection sets ask of an object type, in the order in which their keys first occur (GraphQL
-/// October 2021, section 6.3.2, CollectFields). A group whose first field is not defined on the type is left out. What is
-/// collected is what [`selected_fields`] gives: each fragment is entered once, so that a group has the fields of the sets
-/// with each fragment written out, repeats aside. `Err` only for want of memory. The time is linear in the selections that
-/// are looked at; keys are found by hash.
-pub fn collect_fields<'d>(
+/// October 2021, section 6.3.2, CollectFields). A group whose first field is not defined on the type is left out.
+///
+/// Each fragment is entered once. So a group has the key and the first field that it has where each fragment is written out
+/// at each of its spreads, and the same fields, repeats aside; and each field of the sets and of the fragments stands in the
+/// groups at most once. Keys are found by hash.
+///
+/// Each selection that is looked at counts one step: at least those of the sets themselves, and at most those of the sets
+/// and of all fragments, with what is inside inline fragments and without what is inside fields.
+///
+/// # Errors
+///
+/// `Err` only for want of memory.
+pub fn collect_fields<'d, L: Ledger>(
     alloc: Global,
     schema: &Schema,
     document: &'d ExecutableDocument,
     object_type: &ObjectType,
-    sets: &[&'d SelectionSet],
+    pieces: &Pieces<'d>,
     variables: &Map,
-) -> Result<Listed<Group<'d>>, Memory>
+    steps: &mut Steps<L>,
+) -> Result<Grouped<'d>, Memory>
     requires { (rank : ℕ → ℕ) × AreRanked document.now.fragments rank }
-    ensures { IfOk result (λ groups. spec.SameGroups (step.groups_seen groups)
-        (spec.applying (setting document.now.fragments schema.now object_type.now variables.now) (sets_of sets.now))) }
+    ensures groups { IfOk result (λ grouped. spec.SameGroups (step.groups_seen grouped)
+        (spec.applying (setting document.now.fragments schema.now object_type.now variables.now) (sets_of pieces.now))) }
+    ensures once { IfOk result (λ grouped. NoneMoreOften (step.fields_in_groups (step.groups_seen grouped))
+        (fields_in_all (sets_of pieces.now) ++ fields_in_fragments document.now.fragments)) }
+    ensures looks { steps.new ≤ steps.old + (sets_size (sets_of pieces.now) + fragments_size document.now.fragments) }
+    ensures rises { steps.old ≤ steps.new }
+    ensures counted { OnOk result (steps.old + outer_size (sets_of pieces.now) ≤ steps.new) }
 {
-    let fields = selected_fields(alloc, schema, document, object_type, sets, variables)?;
-    let groups = grouped(alloc, &fields)?;
-    defined(alloc, schema, object_type, groups)
+    let fields = selected_fields(
+        alloc,
+        schema,
+        document,
+        object_type,
+        pieces,
+        variables,
+        steps,
+    )?;
+    let groups = in_groups(alloc, &fields)?;
+    let kept = defined(alloc, schema, object_type, groups)?;
+    Ok(Grouped::of(kept))
 }
 
 /// The fields in groups.
-fn grouped<'d>(alloc: Global, fields: &Listed<&'d Field>) -> Result<Listed<Group<'d>>, Memory>
+fn in_groups<'d>(alloc: Global, fields: &Listed<&'d Field>) -> Result<Listed<Group<'d>>, Memory>
     ensures { IfOk result (λ groups. step.groups_seen groups ≡ spec.groups_of (fields_of fields.now)) }
 {
     let mut keys = Table::new(alloc);

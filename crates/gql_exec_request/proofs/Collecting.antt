@@ -1,12 +1,13 @@
 -- Groups as they are collected, and what it is to execute them.
-use Rattle.std.proofs.Common.{◌≡◌, ℕ, ◌+◌, ◌<◌, true, List, [], ◌∷◌, length, ◌≤◌, get_or, drop, is_some, refl, sym, ap, subst}
+use Rattle.std.proofs.Common.{◌≡◌, ℕ, ◌+◌, ◌<◌, true, List, [], ◌∷◌, ◌++◌, length, ◌≤◌, get_or, drop, is_some, refl, sym, ap, ◌∙◌, subst, Bor}
 use Rattle.std.proofs.lemmas.List.{at_drop_all}
 use Rattle.gql_document_types.specs.declared.document.ExecutableDocument.{ExecutableDocument}
 use Rattle.gql_document_types.specs.declared.selection.Selection.{Selection}
+use Rattle.gql_document_types.specs.declared.selection.SelectionSet.{SelectionSet}
 use Rattle.gql_schema_types.specs.Schemas.{field_of}
 use Rattle.gql_schema_types.specs.declared.schema.Schema.{Schema}
 use Rattle.gql_schema_types.specs.declared.types.ObjectType.{ObjectType}
-use Rattle.gql_exec_groups.specs.Collected.{setting}
+use Rattle.gql_exec_groups.specs.Collected.{setting, sets_of}
 use Rattle.gql_exec_groups.specs.Grouping.{groups_seen}
 use Rattle.gql_exec_groups.specs.Groups.{SameGroups, applying}
 use Rattle.gql_exec_groups.specs.Ranks.{AreRanked}
@@ -25,6 +26,10 @@ use Rattle.gql_exec_request.specs.Trails.{group_of}
 use Rattle.gql_exec_request.specs.declared.executing.Executing.{Executing}
 use Rattle.gql_exec_request.proofs.Measures.{below-at, drop-item}
 use Rattle.gql_exec_request.proofs.Views.{views, views-from}
+
+-- a set that is collected alone
+pub one-set : (none one : List (Bor SelectionSet)) (set : Bor SelectionSet) → none ≡ [] → one ≡ none ++ set ∷ [] → sets_of one ≡ set.now.selections ∷ []
+one-set none one set empty added = ap sets_of (added ∙ ap (λ sets. sets ++ set ∷ []) empty)
 
 -- what is collected in the setting of an execution
 pub collected-on : {X : Type 0} (executing : Executing) (types : X → List ℕ) (resolves : Resolving X) (U : ObjectType) (sets : List (List Selection)) (items groups : List FieldsOfKey)

@@ -1,5 +1,5 @@
 -- What is executed is exactly what execution gives, and is explained.
-use Rattle.std.proofs.Common.{arith, ◌≡◌, ◌≤◌, ℕ, List, [], ◌∷◌, length, Option, sym, ap, ◌∙◌, subst}
+use Rattle.std.proofs.Common.{arith, ◌≡◌, ℕ, List, [], ◌∷◌, Option, sym, ap, ◌∙◌, subst}
 use Rattle.std.specs.Prelude.{Contains}
 use Rattle.std.proofs.lemmas.List.{length-map}
 use Rattle.std.proofs.lemmas.List.Elements.{All-contains_itself, recursion_from_All}
@@ -12,6 +12,7 @@ use Rattle.gql_schema_types.specs.declared.types.ObjectType.{ObjectType}
 use Rattle.gql_exec_groups.specs.Ranks.{AreRanked}
 use Rattle.gql_exec_places.specs.Depth.{Suffices}
 use Rattle.gql_exec_places.specs.Execute.{Member, execute}
+use Rattle.gql_exec_places.specs.Trail.{Trail}
 use Rattle.gql_exec_places.proofs.Distinct.{distinct_paths}
 use Rattle.gql_exec_places.proofs.Explains.{explained}
 use Rattle.gql_exec_places.proofs.Faults.{true_faults}
@@ -42,7 +43,7 @@ module _ {X : Type 0} (r : Request X) (rank : ℕ → ℕ) (ranked : AreRanked r
   abbrev response : Option (List Member) → List GraphQLError → ExecutionResponse
   response found errors = record { errors = errors; root = found }
 
-  pub answered-by : (found : Option (List Member)) (errors : List GraphQLError) → Executes (plain_world r) root x [] (selections ∷ []) found [] errors
+  answered-by : (found : Option (List Member)) (errors : List GraphQLError) → Executes (plain_world r) root x [] (selections ∷ []) found [] errors
       → IsExecuted r root x selections (response found errors) × IsExplained r root x selections (response found errors)
   answered-by found errors executes =
       let depth = nesting r.fragments (selections ∷ []) in
@@ -51,3 +52,13 @@ module _ {X : Type 0} (r : Request X) (rank : ℕ → ℕ) (ranked : AreRanked r
       let is : response found errors ≡ response_at r root x selections depth =
       ap (λ o. response o errors) made.is ∙ ap (response (execute (plain_world r) depth root x [] (selections ∷ [])).0) made.listed in
       (record { depth = depth; enough = enough; is = is }, subst (IsExplained r root x selections) (sym is) (explained-at depth enough))
+
+  -- the same of a run of this set at the root, with no error before
+  pub answered-alone : (outer : Trail) (sets : List (List Selection)) (found : Option (List Member)) (before after : List GraphQLError)
+      → outer ≡ [] → sets ≡ selections ∷ [] → before ≡ [] → Executes (plain_world r) root x outer sets found before after
+      → IsExecuted r root x selections (response found after) × IsExplained r root x selections (response found after)
+  answered-alone outer sets found before after at_root alone none executes =
+      answered-by found after
+      (subst (λ way. Executes (plain_world r) root x way (selections ∷ []) found [] after) at_root
+      (subst (λ errors. Executes (plain_world r) root x outer (selections ∷ []) found errors after) none
+      (subst (λ pieces. Executes (plain_world r) root x outer pieces found before after) alone executes)))

@@ -20,15 +20,17 @@ use crate::path::{Path, Step};
 use crate::place::Place;
 use gql_ast_values::TypeRef;
 use gql_diag::{JsonMap, Valid};
-use gql_document_types::{ExecutableDocument, SelectionSet};
+use gql_document_types::ExecutableDocument;
 use gql_exec_complete::{fitting_object, item_type, list_misfit};
-use gql_exec_groups::{Group, collect_fields};
+use gql_exec_groups::{Group, Pieces, collect_fields};
 use gql_exec_resolve::{FieldError, ObjectValue, RequestInfo, ResolvedValue};
+use gql_exec_steps::Steps;
 use gql_response::GraphQLError;
 use gql_schema_types::{ObjectType, Schema};
 use jb_text::{ByteString, Listed, Memory, Refused};
 use jb_tree::{Map, Value};
 use std::alloc::{AllocError, Global};
+use std::sync::ledger::Ledger;
 
 /// What stays the same throughout an execution.
 #[derive(Clone, Copy)]
@@ -58,29 +60,31 @@ impl<'s> Executing<'s> {
     /// The object of selection sets on an object of this type (section 6.3, ExecuteSelectionSet); `None` where a null is
     /// passed on.
     #[cycle(execute)]
-    pub(crate) fn execute_selection_set<O: ObjectValue>(
+    pub(crate) fn execute_selection_set<O: ObjectValue, L: Ledger>(
         &self,
         object_type: &ObjectType,
         object: &O,
         path: &Path<'_>,
-        sets: &[&'s SelectionSet],
+        pieces: &Pieces<'s>,
         errors: &mut Listed<GraphQLError>,
+        steps: &mut Steps<L>,
     ) -> Result<Option<Map>, Memory>
         requires { (rank : ℕ → ℕ) × AreRanked self.now.request.document.now.fragments rank }
         ensures { IfOk result (λ members. Executes (world_of self.now O.type_of O.resolves)
-            object_type.now (O.seen object.now) (trail_of path.now) (sets_of sets.now) members errors.old errors.new) }
+            object_type.now (O.seen object.now) (trail_of path.now) (sets_of pieces.now) members errors.old errors.new) }
     {
-        let groups = collect_fields(
+        let grouped = collect_fields(
             self.alloc,
             self.schema(),
             self.document(),
             object_type,
-            sets,
+            pieces,
             self.variables.as_ref(),
+            steps,
         )?;
         let mut members = Map::new(self.alloc);
-        for group in groups.as_slice() {
-            match self.execute_field(object_type, object, path, group, errors)? {
+        for group in grouped.groups().as_slice() {
+            match self.execute_field(object_type, object, path, group, errors, steps)? {
                 Completed::Value(value) => {
                     let key = ByteString::from_text(self.alloc, group.key().as_str())?;
                     members.insert_new(key, value)?;
@@ -94,13 +98,14 @@ impl<'s> Executing<'s> {
 
     /// What is made of a group on an object of this type (section 6.4, ExecuteField).
     #[cycle(execute)]
-    fn execute_field<O: ObjectValue>(
+    fn execute_field<O: ObjectValue, L: Ledger>(
         &self,
         object_type: &ObjectType,
         object: &O,
         path: &Path<'_>,
         group: &Group<'s>,
         errors: &mut Listed<GraphQLError>,
+        steps: &mut Steps<L>,
     ) -> Result<Completed, Memory>
         requires ranked { (rank : ℕ → ℕ) × AreRanked self.now.request.document.now.fragments rank }
         requires defined { is_some (field_of self.now.request.schema.now object_type.now.name.text group.now.first.now.name.text) ≡ true }
@@ -119,7 +124,7 @@ impl<'s> Executing<'s> {
             group,
         };
         match self.ask(object_type, object, definition, group)? {
-            Asked::Gave(resolved) => self.complete_value(&place, resolved, errors),
+            Asked::Gave(resolved) => self.complete_value(&place, resolved, errors, steps),
             Asked::Failed(error) => self.fail::<O>(&place, error, errors),
             Asked::Refused(fault) => self.refuse_argument::<O>(&place, fault, errors),
         }
@@ -127,11 +132,12 @@ impl<'s> Executing<'s> {
 
     /// What is made of a resolved value at a place (section 6.4.3, CompleteValue).
     #[cycle(execute)]
-    fn complete_value<O: ObjectValue>(
+    fn complete_value<O: ObjectValue, L: Ledger>(
         &self,
         place: &Place<'_, 's>,
         resolved: ResolvedValue<O>,
         errors: &mut Listed<GraphQLError>,
+        steps: &mut Steps<L>,
     ) -> Result<Completed, Memory>
         requires { (rank : ℕ → ℕ) × AreRanked self.now.request.document.now.fragments rank }
         ensures { IfOk result (λ done.
@@ -141,19 +147,20 @@ impl<'s> Executing<'s> {
     {
         match resolved {
             ResolvedValue::Leaf(value) => self.complete_leaf::<O>(place, value, errors),
-            ResolvedValue::Object(object) => self.complete_object(place, &object, errors),
-            ResolvedValue::List(items) => self.complete_list(place, items, errors),
+            ResolvedValue::Object(object) => self.complete_object(place, &object, errors, steps),
+            ResolvedValue::List(items) => self.complete_list(place, items, errors, steps),
             ResolvedValue::SkipForPartialExecution => Ok(Completed::LeftOut),
         }
     }
 
     /// What is made of an object at a place.
     #[cycle(execute)]
-    fn complete_object<O: ObjectValue>(
+    fn complete_object<O: ObjectValue, L: Ledger>(
         &self,
         place: &Place<'_, 's>,
         object: &O,
         errors: &mut Listed<GraphQLError>,
+        steps: &mut Steps<L>,
     ) -> Result<Completed, Memory>
         requires { (rank : ℕ → ℕ) × AreRanked self.now.request.document.now.fragments rank }
         ensures { IfOk result (λ done.
@@ -162,7 +169,7 @@ impl<'s> Executing<'s> {
             (λ run. completed w run (spot_of place.now) (gives_object (O.seen object.now)))) }
     {
         match fitting_object(self.alloc, self.schema(), place.ty, object.type_name()) {
-            Ok(object_type) => self.execute_object(place, object_type, object, errors),
+            Ok(object_type) => self.execute_object(place, object_type, object, errors, steps),
             Err(Refused::Fault(misfit)) => self.refuse::<O>(place, misfit, errors),
             Err(Refused::Memory) => Err(AllocError),
         }
@@ -170,12 +177,13 @@ impl<'s> Executing<'s> {
 
     /// What is made of an object of this type at a place that it fits.
     #[cycle(execute)]
-    fn execute_object<O: ObjectValue>(
+    fn execute_object<O: ObjectValue, L: Ledger>(
         &self,
         place: &Place<'_, 's>,
         object_type: &ObjectType,
         object: &O,
         errors: &mut Listed<GraphQLError>,
+        steps: &mut Steps<L>,
     ) -> Result<Completed, Memory>
         requires { (rank : ℕ → ℕ) × AreRanked self.now.request.document.now.fragments rank }
         ensures { IfOk result (λ done.
@@ -184,9 +192,9 @@ impl<'s> Executing<'s> {
             (λ run. settled (spot_of place.now) (one_object
             (run object_type.now (O.seen object.now) (trail (spot_of place.now)) (group_of place.now.group.now).pieces)))) }
     {
-        let sets = place.group.sub_selections(self.alloc)?;
+        let pieces = place.group.sub_selections(self.alloc)?;
         let path = Path::Below(place.around, place.step, place.ty);
-        match self.execute_selection_set(object_type, object, &path, sets.as_slice(), errors)? {
+        match self.execute_selection_set(object_type, object, &path, &pieces, errors, steps)? {
             Some(members) => Ok(Completed::Value(Value::Object(members))),
             None => Ok(place.null()),
         }
@@ -194,11 +202,12 @@ impl<'s> Executing<'s> {
 
     /// What is made of a list at a place.
     #[cycle(execute)]
-    fn complete_list<O: ObjectValue>(
+    fn complete_list<O: ObjectValue, L: Ledger>(
         &self,
         place: &Place<'_, 's>,
         items: Listed<Result<ResolvedValue<O>, FieldError>>,
         errors: &mut Listed<GraphQLError>,
+        steps: &mut Steps<L>,
     ) -> Result<Completed, Memory>
         requires { (rank : ℕ → ℕ) × AreRanked self.now.request.document.now.fragments rank }
         ensures { IfOk result (λ done.
@@ -208,17 +217,18 @@ impl<'s> Executing<'s> {
     {
         match list_misfit(self.alloc, place.ty)? {
             Some(misfit) => self.refuse::<O>(place, misfit, errors),
-            None => self.complete_items(place, items, errors),
+            None => self.complete_items(place, items, errors, steps),
         }
     }
 
     /// What is made of a list at a place that it fits.
     #[cycle(execute)]
-    fn complete_items<O: ObjectValue>(
+    fn complete_items<O: ObjectValue, L: Ledger>(
         &self,
         place: &Place<'_, 's>,
         items: Listed<Result<ResolvedValue<O>, FieldError>>,
         errors: &mut Listed<GraphQLError>,
+        steps: &mut Steps<L>,
     ) -> Result<Completed, Memory>
         requires ranked { (rank : ℕ → ℕ) × AreRanked self.now.request.document.now.fragments rank }
         requires list { is_list place.now.ty.now ≡ true }
@@ -231,7 +241,7 @@ impl<'s> Executing<'s> {
         let mut index = 0;
         let mut values = Listed::new(self.alloc);
         for item in items {
-            match self.complete_item(place, index, item, errors)? {
+            match self.complete_item(place, index, item, errors, steps)? {
                 Completed::Value(value) => values.push(value)?,
                 Completed::LeftOut => {}
                 Completed::NullPasses => return Ok(place.null()),
@@ -244,12 +254,13 @@ impl<'s> Executing<'s> {
 
     /// What is made of an item of the list at a place. One that failed faults the list, whatever its own type.
     #[cycle(execute)]
-    fn complete_item<O: ObjectValue>(
+    fn complete_item<O: ObjectValue, L: Ledger>(
         &self,
         list: &Place<'_, 's>,
         index: usize,
         item: Result<ResolvedValue<O>, FieldError>,
         errors: &mut Listed<GraphQLError>,
+        steps: &mut Steps<L>,
     ) -> Result<Completed, Memory>
         requires ranked { (rank : ℕ → ℕ) × AreRanked self.now.request.document.now.fragments rank }
         requires list { is_list list.now.ty.now ≡ true }
@@ -268,7 +279,7 @@ impl<'s> Executing<'s> {
             group: list.group,
         };
         match item {
-            Ok(resolved) => self.complete_value(&place, resolved, errors),
+            Ok(resolved) => self.complete_value(&place, resolved, errors, steps),
             Err(error) => {
                 self.list_failure::<O>(&place, error, errors)?;
                 Ok(Completed::NullPasses)

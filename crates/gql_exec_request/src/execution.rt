@@ -1,6 +1,6 @@
 //! Executions, and how they are told what they are of.
 
-ghost use Rattle.std.specs.Prelude.{◌≡◌, ℕ, Err, Ok, IfOk};
+ghost use Rattle.std.specs.Prelude.{◌≡◌, ◌<◌, ℕ, Err, Ok, IfOk};
 ghost use Rattle.gql_coerce.specs.Outcome.{told_as};
 ghost use Rattle.gql_coerce.specs.Variables.{coerced_variables};
 ghost use Rattle.gql_document_types.specs.ChosenOperation.{text_of};
@@ -17,14 +17,18 @@ use crate::executing::Executing;
 use crate::path::Path;
 use gql_diag::{JsonMap, RequestError, Valid};
 use gql_document_types::{ExecutableDocument, Operation};
+use gql_exec_groups::Pieces;
 use gql_exec_introspected::Introspected;
 use gql_exec_resolve::{ObjectValue, RequestInfo};
+use gql_exec_steps::Steps;
 use gql_exec_variables::coerce_variable_values;
 use gql_response::ExecutionResponse;
 use gql_rules_graph_laws::laws;
 use gql_schema_types::{ImplementersMap, ObjectType, Schema};
 use jb_text::{Listed, Memory, Refused, Text};
 use std::alloc::Global;
+use std::marker::Brand;
+use std::sync::ledger::{Blank, Ledger};
 
 /// The values that variables are given.
 #[derive(Clone, Copy)]
@@ -293,6 +297,37 @@ impl<'a> Execution<'a> {
             IsExecuted r root.now (O.seen initial.now) operation.now.selection_set.selections response
             × IsExplained r root.now (O.seen initial.now) operation.now.selection_set.selections response) }
     {
+        self.run_alone::<O, Brand>(
+            alloc,
+            operation,
+            root,
+            variables,
+            implementers_map,
+            initial,
+            Blank::new(1),
+        )
+    }
+
+    /// The same, with a counter of its own.
+    fn run_alone<O: ObjectValue, L: Ledger>(
+        &self,
+        alloc: Global,
+        operation: &'a Operation,
+        root: &ObjectType,
+        variables: &Valid<JsonMap>,
+        implementers_map: &ImplementersMap,
+        initial: &O,
+        blank: Blank,
+    ) -> Result<ExecutionResponse, Memory>
+        requires acyclic { (v : ℕ) → IsOnCycle (spread_graph self.now.document.now.fragments) v → ⊥ }
+        requires name { blank.name ≡ L.name }
+        requires parts { blank.parts ≡ L.parts }
+        requires some { 0 < blank.parts }
+        ensures { IfOk result (λ response.
+            let r = spec.request_in self.now variables.now O.type_of O.resolves in
+            IsExecuted r root.now (O.seen initial.now) operation.now.selection_set.selections response
+            × IsExplained r root.now (O.seen initial.now) operation.now.selection_set.selections response) }
+    {
         laws::acyclic_graphs_have_ranks();
         let executing = Executing {
             alloc,
@@ -304,9 +339,18 @@ impl<'a> Execution<'a> {
             variables,
             introspection: self.introspection,
         };
-        let sets = [&operation.selection_set];
+        let mut pieces = Pieces::new(alloc);
+        pieces.add(&operation.selection_set)?;
         let mut errors = Listed::new(alloc);
-        let root = executing.execute_selection_set(root, initial, &Path::Root, &sets, &mut errors)?;
+        let mut steps = Steps::<L>::open(blank);
+        let root = executing.execute_selection_set(
+            root,
+            initial,
+            &Path::Root,
+            &pieces,
+            &mut errors,
+            &mut steps,
+        )?;
         Ok(ExecutionResponse { errors, root })
     }
 }

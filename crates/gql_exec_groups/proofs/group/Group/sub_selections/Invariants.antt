@@ -6,4 +6,4 @@ use Rattle.gql_exec_groups.proofs.group.Group.sub_selections.Given as goal
 
 -- the sets of the fields so far
 abbrev pub invariant-loop-field : goal.invariant-loop-field
-invariant-loop-field l = sets_of l.sets ≡ map (λ (field : Field). field.selection_set.selections) (fields_of (take l.field-index l.self.fields))
+invariant-loop-field l = sets_of l.pieces ≡ map (λ (field : Field). field.selection_set.selections) (fields_of (take l.field-index l.self.fields))

@@ -113,9 +113,9 @@ complete_object-returns-in-Err-Fault g t c =
 pub execute_object-execute_selection_set-requires : goal.execute_object-execute_selection_set-requires
 execute_object-execute_selection_set-requires g t c =
     let pieces = (group_of c.args.place.now.group.now).pieces in
-    let sets = sets_of c.as_slice.result.now in
+    let sets = sets_of c.in_ok-pieces.pieces in
     let smaller : measure c.args.self.now sets 0 < measure c.args.self.now pieces 1 =
-    same-less c.args.self.now sets pieces 0 1 (ap sets_of c.as_slice.ensures ∙ c.in_ok-sets.ensures) (omega arith) in
+    same-less c.args.self.now sets pieces 0 1 c.in_ok-pieces.ensures (omega arith) in
     search rules
 
 pub execute_object-returns-in-Some : goal.execute_object-returns-in-Some
@@ -123,11 +123,11 @@ execute_object-returns-in-Some g t c =
     let w = world_of c.args.self.now g.O.ObjectValue.type_of g.O.ObjectValue.resolves in
     let place = c.args.place.now in
     let x = g.O.ObjectValue.seen c.args.object.now in
-    let sets = sets_of c.as_slice.result.now in
+    let sets = sets_of c.in_ok-pieces.pieces in
     let outer = trail_of (Below place.around place.step place.ty) in
     let after = c.execute_selection_set.new.errors in
     let executes = subst (λ found. Executes w c.args.object_type.now x outer sets found c.args.errors.now after) c.in-Some.is c.in_ok-members.ensures in
-    made-members w (spot_of place) c.args.errors.now after c.args.object_type.now x outer sets c.in-Some.members (trail-place place) (ap sets_of c.as_slice.ensures ∙ c.in_ok-sets.ensures) executes
+    made-members w (spot_of place) c.args.errors.now after c.args.object_type.now x outer sets c.in-Some.members (trail-place place) c.in_ok-pieces.ensures executes
 
 pub execute_object-returns : goal.execute_object-returns
 execute_object-returns g t c =
@@ -136,12 +136,12 @@ execute_object-returns g t c =
     let spot = spot_of place in
     let x = g.O.ObjectValue.seen c.args.object.now in
     let U = c.args.object_type.now in
-    let sets = sets_of c.as_slice.result.now in
+    let sets = sets_of c.in_ok-pieces.pieces in
     let outer = trail_of (Below place.around place.step place.ty) in
     let before = c.args.errors.now in
     let after = c.execute_selection_set.new.errors in
     let executes = subst (λ found. Executes w U x outer sets found before after) c.in-None.is c.in_ok-members.ensures in
-    let null = made-null w spot before after U x outer sets (trail-place place) (ap sets_of c.as_slice.ensures ∙ c.in_ok-sets.ensures) executes in
+    let null = made-null w spot before after U x outer sets (trail-place place) c.in_ok-pieces.ensures executes in
     subst (λ found. MakesBelow w spot.group found before after (λ run. settled spot (one_object (run U x (trail spot) (w.below spot.group))))) (sym c.null.ensures) null
 
 -- ---- a list
@@ -301,10 +301,10 @@ execute_selection_set-loop-group-init g t c =
     let r = request_of c.args.self.now g.O.ObjectValue.type_of g.O.ObjectValue.resolves in
     let w = plain_world r in
     let U = c.args.object_type.now in
-    let sets = sets_of c.args.sets.now in
+    let sets = sets_of c.args.pieces.now in
     let groups = c.as_slice-group-items.result.now in
-    let same = collected-on c.args.self.now g.O.ObjectValue.type_of g.O.ObjectValue.resolves U sets groups c.in_ok-groups.groups c.document.result.now c.schema.result.now
-    c.as_ref.result.now c.as_slice-group-items.ensures c.document.ensures c.schema.ensures c.as_ref.ensures c.in_ok-groups.ensures in
+    let same = collected-on c.args.self.now g.O.ObjectValue.type_of g.O.ObjectValue.resolves U sets groups c.in_ok-grouped.grouped c.document.result.now c.schema.result.now
+    c.as_ref.result.now (c.as_slice-group-items.ensures ∙ c.groups.ensures) c.document.ensures c.schema.ensures c.as_ref.ensures c.in_ok-grouped.ensures.groups in
     let x = g.O.ObjectValue.seen c.args.object.now in
     let outer = trail_of c.args.path.now in
     let before = c.args.errors.now in
@@ -316,10 +316,10 @@ execute_selection_set-execute_field-requires g t c =
     let r = request_of c.args.self.now g.O.ObjectValue.type_of g.O.ObjectValue.resolves in
     let w = plain_world r in
     let U = c.args.object_type.now in
-    let sets = sets_of c.args.sets.now in
+    let sets = sets_of c.args.pieces.now in
     let groups = c.as_slice-group-items.result.now in
-    let same = collected-on c.args.self.now g.O.ObjectValue.type_of g.O.ObjectValue.resolves U sets groups c.in_ok-groups.groups c.document.result.now c.schema.result.now
-    c.as_ref.result.now c.as_slice-group-items.ensures c.document.ensures c.schema.ensures c.as_ref.ensures c.in_ok-groups.ensures in
+    let same = collected-on c.args.self.now g.O.ObjectValue.type_of g.O.ObjectValue.resolves U sets groups c.in_ok-grouped.grouped c.document.result.now c.schema.result.now
+    c.as_ref.result.now (c.as_slice-group-items.ensures ∙ c.groups.ensures) c.document.ensures c.schema.ensures c.as_ref.ensures c.in_ok-grouped.ensures.groups in
     let group = c.group-item.result in
     let below = view-below r U groups sets same c.requires.0 c.requires.1 c.loop-group.group-index group (omega arith) c.group-item.is in
     let smaller : measure c.args.self.now (group_of group).pieces (4 * top (schema_in c.args.self.now) + 7) < measure c.args.self.now sets 0 =
@@ -343,10 +343,10 @@ execute_selection_set-returns-in-NullPasses g t c =
     let r = request_of c.args.self.now g.O.ObjectValue.type_of g.O.ObjectValue.resolves in
     let w = plain_world r in
     let U = c.args.object_type.now in
-    let sets = sets_of c.args.sets.now in
+    let sets = sets_of c.args.pieces.now in
     let groups = c.as_slice-group-items.result.now in
-    let same = collected-on c.args.self.now g.O.ObjectValue.type_of g.O.ObjectValue.resolves U sets groups c.in_ok-groups.groups c.document.result.now c.schema.result.now
-    c.as_ref.result.now c.as_slice-group-items.ensures c.document.ensures c.schema.ensures c.as_ref.ensures c.in_ok-groups.ensures in
+    let same = collected-on c.args.self.now g.O.ObjectValue.type_of g.O.ObjectValue.resolves U sets groups c.in_ok-grouped.grouped c.document.result.now c.schema.result.now
+    c.as_ref.result.now (c.as_slice-group-items.ensures ∙ c.groups.ensures) c.document.ensures c.schema.ensures c.as_ref.ensures c.in_ok-grouped.ensures.groups in
     let x = g.O.ObjectValue.seen c.args.object.now in
     let outer = trail_of c.args.path.now in
     let group = c.group-item.result in
@@ -382,10 +382,10 @@ execute_selection_set-returns g t c =
     let r = request_of c.args.self.now g.O.ObjectValue.type_of g.O.ObjectValue.resolves in
     let w = plain_world r in
     let U = c.args.object_type.now in
-    let sets = sets_of c.args.sets.now in
+    let sets = sets_of c.args.pieces.now in
     let groups = c.as_slice-group-items.result.now in
-    let same = collected-on c.args.self.now g.O.ObjectValue.type_of g.O.ObjectValue.resolves U sets groups c.in_ok-groups.groups c.document.result.now c.schema.result.now
-    c.as_ref.result.now c.as_slice-group-items.ensures c.document.ensures c.schema.ensures c.as_ref.ensures c.in_ok-groups.ensures in
+    let same = collected-on c.args.self.now g.O.ObjectValue.type_of g.O.ObjectValue.resolves U sets groups c.in_ok-grouped.grouped c.document.result.now c.schema.result.now
+    c.as_ref.result.now (c.as_slice-group-items.ensures ∙ c.groups.ensures) c.document.ensures c.schema.ensures c.as_ref.ensures c.in_ok-grouped.ensures.groups in
     let x = g.O.ObjectValue.seen c.args.object.now in
     let outer = trail_of c.args.path.now in
     let i = c.loop-group.group-index in

@@ -12,7 +12,7 @@ use Rattle.gql_exec_request.proofs.Views.{views}
 use Rattle.gql_exec_request.proofs.executing.Executing.+execute.Given as goal
 
 abbrev pub decreases-execute_selection_set : goal.decreases-execute_selection_set
-decreases-execute_selection_set g l = measure l.self.now (sets_of l.sets.now) 0
+decreases-execute_selection_set g l = measure l.self.now (sets_of l.pieces.now) 0
 
 abbrev pub decreases-execute_field : goal.decreases-execute_field
 decreases-execute_field g l = measure l.self.now (group_of l.group.now).pieces (4 * top (schema_in l.self.now) + 7)

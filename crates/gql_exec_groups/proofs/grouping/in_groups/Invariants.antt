@@ -2,7 +2,7 @@ use Rattle.std.proofs.Common.{◌≡◌, take}
 use Rattle.gql_exec_groups.specs.Grouping.{groups_seen, key_texts, group_keys}
 use Rattle.gql_exec_groups.specs.Groups.{groups_of}
 use Rattle.gql_exec_groups.specs.Walk.{fields_of}
-use Rattle.gql_exec_groups.proofs.grouping.grouped.Given as goal
+use Rattle.gql_exec_groups.proofs.grouping.in_groups.Given as goal
 
 -- the fields so far are in groups
 abbrev pub invariant-loop-field : goal.invariant-loop-field

@@ -3,7 +3,7 @@ use Rattle.gql_exec_groups.specs.Grouping.{added}
 use Rattle.gql_exec_groups.specs.Groups.{groups_of}
 use Rattle.gql_exec_groups.specs.Walk.{fields_of}
 use Rattle.gql_exec_groups.proofs.GroupFacts.{groups-more, fields-more}
-use Rattle.gql_exec_groups.proofs.grouping.grouped.Goals as goal
+use Rattle.gql_exec_groups.proofs.grouping.in_groups.Goals as goal
 
 pub loop-field-preserved : goal.loop-field-preserved
 loop-field-preserved c =
