@@ -1,0 +1,4 @@
+mod Flats
+mod Groups
+mod Runs
+mod Steady
