@@ -1,3 +1,3 @@
 pub mod Builders
-pub mod BuiltInSchema
+pub use Rattle.gql_schema_built_in.specs.BuiltInSchema
 pub mod Judged

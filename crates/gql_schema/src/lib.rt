@@ -5,8 +5,6 @@
 //! fault with its place.
 #![tactic(auto)]
 
-mod built_in;
-mod built_in_text;
 mod judged;
 mod schema_builder;
 mod taking;

@@ -2,7 +2,7 @@
 
 /// The built-in definitions as a GraphQL text: the types of introspection (GraphQL October 2021, section 4.2), the directives
 /// of section 3.13 and the scalars of section 3.5. Input values can be deprecated too, which goes beyond October 2021.
-pub(crate) const BUILT_IN_TEXT: &str = "\
+pub const BUILT_IN_TEXT: &str = "\
 type __Schema { description: String types: [__Type!]! queryType: __Type! mutationType: __Type subscriptionType: __Type directives: [__Directive!]! }\n\
 type __Type { kind: __TypeKind! name: String description: String fields(includeDeprecated: Boolean = false): [__Field!] interfaces: [__Type!] possibleTypes: [__Type!] enumValues(includeDeprecated: Boolean = false): [__EnumValue!] inputFields(includeDeprecated: Boolean = false): [__InputValue!] ofType: __Type specifiedByURL: String }\n\
 enum __TypeKind { SCALAR OBJECT INTERFACE UNION ENUM INPUT_OBJECT LIST NON_NULL }\n\
@@ -19,4 +19,4 @@ scalar Int scalar Float scalar String scalar Boolean scalar ID\n\
 ";
 
 /// The path of the file that has this text.
-pub(crate) const BUILT_IN_PATH: &str = "built_in.graphql";
+pub const BUILT_IN_PATH: &str = "built_in.graphql";

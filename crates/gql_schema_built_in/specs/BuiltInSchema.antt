@@ -6,7 +6,7 @@ use Rattle.gql_ast.specs.declared.definition.Definition.{Definition}
 use Rattle.gql_ast_laws.specs.Meant.{IsDocumentOf}
 use Rattle.gql_schema_build.specs.TypeSystems.{with_definitions, no_definitions}
 use Rattle.gql_schema_build.specs.declared.built_in.BuiltIn.{BuiltIn}
-use Rattle.gql_schema.specs.declared.built_in_text.TheConstants.{BUILT_IN_TEXT, BUILT_IN_PATH}
+use Rattle.gql_schema_built_in.specs.declared.text.TheConstants.{BUILT_IN_TEXT, BUILT_IN_PATH}
 
 -- the number of the built-in file
 abbrev pub built_in_file : FileId

@@ -1,0 +1,6 @@
+mod Found
+mod Tokens
+mod Readings
+mod Forests
+pub mod Types
+pub mod Known

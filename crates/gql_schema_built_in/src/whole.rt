@@ -1,0 +1,56 @@
+//! The built-in definitions, made of their rows.
+
+ghost use Rattle.std.specs.Prelude.{◌≡◌, IfOk};
+ghost use Rattle.gql_schema_built_in.specs.BuiltInSchema as spec;
+ghost use Rattle.gql_schema_built_in.specs.Rows as rows;
+
+use crate::making::all_of;
+use crate::row::{DefinitionRow, DirectiveRow};
+use crate::rows::{DIRECTIVES, TYPES};
+use crate::text::{BUILT_IN_PATH, BUILT_IN_TEXT};
+use gql_ast_base::{Source, both};
+use gql_cst_grammar::laws;
+use gql_schema_build::BuiltIn;
+use gql_source::{FileId, SourceFile, SourceMap};
+use jb_text::Memory;
+use std::alloc::Global;
+
+/// The built-in definitions, and the file that their places are in.
+///
+/// They are made of rows of places in their text, and are what the text means. `Err` for want of memory. It would come as
+/// well at a row with a place that the text does not have, or a name that is none; there is no such row, which a test shows.
+pub fn built_in(alloc: Global) -> Result<(BuiltIn, SourceMap), Memory>
+    ensures definitions { IfOk result (λ made. spec.IsBuiltIn made.0) }
+    ensures sources { IfOk result (λ made. made.1 ≡ spec.built_in_sources) }
+{
+    laws::factored_is_declared();
+    let (built_in, sources) = both(
+        of_rows(alloc, BUILT_IN_TEXT, DIRECTIVES, TYPES),
+        sources(alloc),
+    )?;
+    Ok((built_in, sources))
+}
+
+/// What the rows stand for in the text.
+fn of_rows(
+    alloc: Global,
+    text: &str,
+    directives: &[DirectiveRow],
+    types: &[DefinitionRow],
+) -> Result<BuiltIn, Memory>
+    ensures { IfOk result (λ made. made ≡ rows.built_in_of text.now spec.built_in_file directives.now types.now) }
+{
+    let source = Source::new(alloc, text, FileId::BUILT_IN);
+    let (directives, types) = both(all_of(&source, directives), all_of(&source, types))?;
+    Ok(BuiltIn { directives, types })
+}
+
+/// The file of the built-in definitions, as the only one.
+fn sources(alloc: Global) -> Result<SourceMap, Memory>
+    ensures { IfOk result (λ made. made ≡ spec.built_in_sources) }
+{
+    let mut sources = SourceMap::new(alloc);
+    let file = SourceFile::new(alloc, BUILT_IN_PATH, BUILT_IN_TEXT)?;
+    sources.insert(FileId::BUILT_IN, file)?;
+    Ok(sources)
+}
