@@ -1,13 +1,11 @@
 -- Groups as they are collected, and what it is to execute them.
-use Rattle.std.proofs.Common.{◌≡◌, ℕ, ◌+◌, ◌<◌, true, List, [], ◌∷◌, ◌++◌, length, ◌≤◌, get_or, drop, is_some, refl, sym, ap, ◌∙◌, subst, Bor}
+use Rattle.std.proofs.Common.{◌≡◌, ℕ, ◌+◌, ◌<◌, true, List, [], ◌∷◌, ◌++◌, length, ◌≤◌, get_or, drop, is_some, refl, ap, ◌∙◌, subst, Bor}
 use Rattle.std.proofs.lemmas.List.{at_drop_all}
-use Rattle.gql_document_types.specs.declared.document.ExecutableDocument.{ExecutableDocument}
 use Rattle.gql_document_types.specs.declared.selection.Selection.{Selection}
 use Rattle.gql_document_types.specs.declared.selection.SelectionSet.{SelectionSet}
 use Rattle.gql_schema_types.specs.Schemas.{field_of}
-use Rattle.gql_schema_types.specs.declared.schema.Schema.{Schema}
 use Rattle.gql_schema_types.specs.declared.types.ObjectType.{ObjectType}
-use Rattle.gql_exec_groups.specs.Collected.{setting, sets_of}
+use Rattle.gql_exec_groups.specs.Collected.{sets_of}
 use Rattle.gql_exec_groups.specs.Grouping.{groups_seen}
 use Rattle.gql_exec_groups.specs.Groups.{SameGroups, applying}
 use Rattle.gql_exec_groups.specs.Ranks.{AreRanked}
@@ -15,34 +13,18 @@ use Rattle.gql_exec_groups.specs.declared.group.Group.{Group as FieldsOfKey}
 use Rattle.gql_exec_places.specs.Depth.{Suffices}
 use Rattle.gql_exec_places.specs.World.{DistinctKeys}
 use Rattle.gql_exec_world.specs.Nesting.{nesting}
-use Rattle.gql_exec_world.specs.Request.{Members, Request}
+use Rattle.gql_exec_world.specs.Request.{Request}
 use Rattle.gql_exec_world.specs.RequestWorld.{plain_world, setting_on}
 use Rattle.gql_exec_world.specs.Runs.{RunsAs}
 use Rattle.gql_exec_world.proofs.Alike.{collected-distinct, collected-runs}
 use Rattle.gql_exec_world.proofs.Nests.{groups-below}
-use Rattle.gql_exec_introspected.specs.ThingMeaning.{Resolving}
-use Rattle.gql_exec_request.specs.Executing.{request_of}
 use Rattle.gql_exec_request.specs.Trails.{group_of}
-use Rattle.gql_exec_request.specs.declared.executing.Executing.{Executing}
 use Rattle.gql_exec_request.proofs.Measures.{below-at, drop-item}
 use Rattle.gql_exec_request.proofs.Views.{views, views-from}
 
 -- a set that is collected alone
 pub one-set : (none one : List (Bor SelectionSet)) (set : Bor SelectionSet) → none ≡ [] → one ≡ none ++ set ∷ [] → sets_of one ≡ set.now.selections ∷ []
 one-set none one set empty added = ap sets_of (added ∙ ap (λ sets. sets ++ set ∷ []) empty)
-
--- what is collected in the setting of an execution
-pub collected-on : {X : Type 0} (executing : Executing) (types : X → List ℕ) (resolves : Resolving X) (U : ObjectType) (sets : List (List Selection)) (items groups : List FieldsOfKey)
-    (document : ExecutableDocument) (schema : Schema) (variables : Members)
-    → items ≡ groups → document ≡ executing.request.document.now → schema ≡ executing.request.schema.now → variables ≡ executing.variables.now
-    → SameGroups (groups_seen groups) (applying (setting document.fragments schema U variables) sets)
-    → SameGroups (groups_seen items) (applying (setting_on (request_of executing types resolves) U) sets)
-collected-on executing types resolves U sets items groups document schema variables here whole same values collected =
-    let r = request_of executing types resolves in
-    subst (λ l. SameGroups (groups_seen l) (applying (setting_on r U) sets)) (sym here)
-    (subst (λ v. SameGroups (groups_seen groups) (applying (setting r.fragments r.schema U v) sets)) values
-    (subst (λ (s : Schema). SameGroups (groups_seen groups) (applying (setting r.fragments s U variables) sets)) same
-    (subst (λ (d : ExecutableDocument). SameGroups (groups_seen groups) (applying (setting d.fragments schema U variables) sets)) whole collected)))
 
 module _ {X : Type 0} (r : Request X) (U : ObjectType) (groups : List FieldsOfKey) (sets : List (List Selection))
     (same : SameGroups (groups_seen groups) (applying (setting_on r U) sets)) where

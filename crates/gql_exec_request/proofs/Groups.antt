@@ -12,7 +12,7 @@ use Rattle.gql_exec_places.specs.Trail.{Trail}
 use Rattle.gql_exec_places.specs.World.{World, key_of, DistinctKeys}
 use Rattle.gql_exec_world.specs.Group.{Group}
 use Rattle.gql_exec_world.specs.Runs.{RunsAs}
-use Rattle.gql_exec_request.specs.Executed.{IsMade, IsEnough, MakesBelow, Executes}
+use Rattle.gql_exec_request.specs.Executed.{IsMade, IsEnough, MakesBelow, Executes, ExecutesGroups}
 use Rattle.gql_exec_request.proofs.Completing.{made-as}
 use Rattle.gql_exec_request.proofs.Keys.{AreNew, new-begun, new-more, new-less}
 use Rattle.gql_exec_request.proofs.Steps.{IsOnWay, begun, goes_on, stops, ends}
@@ -76,26 +76,26 @@ module _ {X : Type 0} (w : World X ObjectType Group (List (List Selection))) (U 
 
   -- a null that is passed on ends the set
   pub executing-stops : (members : List Member) (errors before after : List GraphQLError) (left all rest : List Group) (g : Group) (found : Option (List Value))
-      (sets : List (List Selection)) → found ≡ None → left ≡ g ∷ rest → MakesBelow w g found errors after (λ run. field_made w run (field_spot w U outer g) (w.asks U x g))
-      → ((depth : ℕ) → Suffices w depth U sets → RunsAs w depth U sets all)
-      → IsExecuting members errors before left all → Executes w U x outer sets None before after
-  executing-stops members errors before after left all rest g found sets gives is makes runs so_far depth suffices =
+      → found ≡ None → left ≡ g ∷ rest → MakesBelow w g found errors after (λ run. field_made w run (field_spot w U outer g) (w.asks U x g))
+      → IsExecuting members errors before left all → ExecutesGroups w U x outer all None before after
+  executing-stops members errors before after left all rest g found gives is makes so_far d enough =
       let here : IsExecuting members errors before (g ∷ rest) all = subst (λ l. IsExecuting members errors before l all) is so_far in
-      let as_groups = runs depth suffices in
-      let d = as_groups.depth in
-      let made = keyed-made (key_of w g) found errors after (first_at d g) (makes d (here.enough d as_groups.enough).0) in
+      let made = keyed-made (key_of w g) found errors after (first_at d g) (makes d (here.enough d enough).0) in
       let null : IsMade None errors after (with_key (key_of w g) (first_at d g)) =
       made-as _ _ errors after _ _ (ap (option_map (λ vs. keyed (key_of w g) vs)) gives) refl made in
-      made-as None None before after (made_at d all) _ refl (sym (as_groups.runs x outer))
-      (stops members errors before after (with_key (key_of w g) (first_at d g)) (made_at d rest) (made_at d (g ∷ rest)) (made_at d all) refl (here.way d as_groups.enough) null)
+      stops members errors before after (with_key (key_of w g) (first_at d g)) (made_at d rest) (made_at d (g ∷ rest)) (made_at d all) refl (here.way d enough) null
 
   -- no group is left
-  pub executing-ends : (members : List Member) (errors before : List GraphQLError) (left all : List Group) (sets : List (List Selection)) → left ≡ []
-      → ((depth : ℕ) → Suffices w depth U sets → RunsAs w depth U sets all)
-      → IsExecuting members errors before left all → Executes w U x outer sets (Some members) before errors
-  executing-ends members errors before left all sets is runs so_far depth suffices =
+  pub executing-ends : (members : List Member) (errors before : List GraphQLError) (left all : List Group) → left ≡ []
+      → IsExecuting members errors before left all → ExecutesGroups w U x outer all (Some members) before errors
+  executing-ends members errors before left all is so_far d enough =
       let here : IsExecuting members errors before [] all = subst (λ l. IsExecuting members errors before l all) is so_far in
+      ends members errors before (made_at d []) (made_at d all) refl (here.way d enough)
+
+  -- selection sets are executed as their groups are
+  pub executed-sets : (sets : List (List Selection)) (all : List Group) (found : Option (List Member)) (before after : List GraphQLError)
+      → ((depth : ℕ) → Suffices w depth U sets → RunsAs w depth U sets all) → ExecutesGroups w U x outer all found before after
+      → Executes w U x outer sets found before after
+  executed-sets sets all found before after runs executes depth suffices =
       let as_groups = runs depth suffices in
-      let d = as_groups.depth in
-      made-as (Some members) (Some members) before errors (made_at d all) _ refl (sym (as_groups.runs x outer))
-      (ends members errors before (made_at d []) (made_at d all) refl (here.way d as_groups.enough))
+      made-as found found before after (made_at as_groups.depth all) _ refl (sym (as_groups.runs x outer)) (executes as_groups.depth as_groups.enough)

@@ -58,3 +58,10 @@ module _ {X T G S : Type 0} (w : World X T G S) where
   -- the first is left out
   pub new-less : (members : List Member) (g : G) (gs : List G) → AreNew members (g ∷ gs) → AreNew members gs
   new-less members g gs new = record { apart = new.apart.1; absent = new.absent.1 }
+
+  -- the key of the first that is left
+  pub key-free : (members : List Member) (left rest : List G) (g : G) (key : List ℕ) → left ≡ g ∷ rest → AreNew members left → key ≡ key_of w g
+      → position (bytes_eq key) (keys_of members) ≡ None
+  key-free members left rest g key is new named =
+      let here : AreNew members (g ∷ rest) = subst (AreNew members) is new in
+      ap (λ k. position (bytes_eq k) (keys_of members)) named ∙ position-new members g here.absent.0

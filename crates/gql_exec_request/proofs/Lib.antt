@@ -9,7 +9,9 @@ pub mod Items
 pub mod Keys
 pub mod Measures
 pub mod Misfits
+pub mod Objects
 pub mod Places
+pub mod Planned
 pub mod Responses
 pub mod Steps
 pub mod Values

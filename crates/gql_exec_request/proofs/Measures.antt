@@ -1,7 +1,7 @@
 -- By what the cycle of execution ends: how deep selections go, and how many lists are inside one another in types.
-use Rattle.std.proofs.Common.{arith, ◌≡◌, ℕ, zero, suc, ◌+◌, ◌*◌, ◌<◌, ◌≤◌, true, false, List, [], ◌∷◌, length, get_or, drop, Option, Some, None, is_some, refl, sym, ap, ◌∙◌, subst, add-one}
+use Rattle.std.proofs.Common.{arith, ◌≡◌, ℕ, zero, suc, max, ◌+◌, ◌*◌, ◌<◌, ◌≤◌, true, false, List, [], ◌∷◌, length, get_or, drop, Option, Some, None, is_some, refl, sym, ap, ◌∙◌, subst, add-one}
 use Rattle.std.specs.Option.{unwrap_or}
-use Rattle.std.proofs.Math.Nat.{mul-le-mul_left}
+use Rattle.std.proofs.Math.Nat.{le-max_left, le-max_right, max-le, mul-le-mul_left}
 use Rattle.std.proofs.Math.Seq.{drop-cons}
 use Rattle.gql_ast_definitions.specs.declared.field_definition.FieldDefinition.{FieldDefinition}
 use Rattle.gql_document_types.specs.declared.fragment.Fragment.{Fragment}
@@ -14,6 +14,7 @@ use Rattle.gql_exec_groups.specs.declared.group.Group.{Group as FieldsOfKey}
 use Rattle.gql_exec_resolve.proofs.Height.{height}
 use Rattle.gql_exec_world.specs.Nesting.{nesting, IsBelow, AllBelow}
 use Rattle.gql_exec_request.proofs.Heights.{top, field-top}
+use Rattle.gql_exec_request.specs.Trails.{group_of}
 use Rattle.gql_exec_request.specs.declared.executing.Executing.{Executing}
 
 abbrev pub schema_in : Executing → Schema
@@ -60,3 +61,40 @@ pub below-at : (schema : Schema) (U : ObjectType) (fragments : List Fragment) (n
 below-at schema U fragments n [] i g within is all = absurd (omega (arith, within))
 below-at schema U fragments n (x ∷ xs) zero g within is all = subst (λ y. IsBelow schema U fragments n (group_seen y)) (sym is) all.0
 below-at schema U fragments n (x ∷ xs) (suc i) g within is all = below-at schema U fragments n xs i g (omega (arith, within)) is all.1
+
+-- what is selected below groups, and the groups themselves
+abbrev pub deepest : List Fragment → List FieldsOfKey → ℕ
+deepest fragments [] = 0
+deepest fragments (g ∷ gs) = max (suc (nesting fragments (group_of g).pieces)) (deepest fragments gs)
+
+deepest-at : (fragments : List Fragment) (groups : List FieldsOfKey) (i : ℕ) (g : FieldsOfKey) → i < length groups → g ≡ get_or groups i g
+    → nesting fragments (group_of g).pieces < deepest fragments groups
+deepest-at fragments [] i g within is = absurd (omega (arith, within))
+deepest-at fragments (x ∷ xs) zero g within is =
+    omega (arith, ap (λ y. nesting fragments (group_of y).pieces) is, le-max_left (suc (nesting fragments (group_of x).pieces)) (deepest fragments xs))
+deepest-at fragments (x ∷ xs) (suc i) g within is =
+    omega (arith, deepest-at fragments xs i g (omega (arith, within)) is, le-max_right (suc (nesting fragments (group_of x).pieces)) (deepest fragments xs))
+
+-- groups that go less deep than what they were collected from
+pub deepest-below : (schema : Schema) (U : ObjectType) (fragments : List Fragment) (n : ℕ) (groups : List FieldsOfKey) → AllBelow schema U fragments n (groups_seen groups)
+    → deepest fragments groups ≤ n
+deepest-below schema U fragments n [] all = omega arith
+deepest-below schema U fragments n (g ∷ gs) all =
+    let below = (all.0 g.first.now refl).0 in
+    let here : suc (nesting fragments (group_of g).pieces) ≤ n = omega (arith, below) in
+    max-le here (deepest-below schema U fragments n gs all.1)
+
+-- a group is less than those that it is among
+pub group-less : (e : Executing) (groups : List FieldsOfKey) (i : ℕ) (g : FieldsOfKey) → i < length groups → g ≡ get_or groups i g
+    → measure e (group_of g).pieces (4 * top (schema_in e) + 7) < room e * deepest (fragments_in e) groups
+group-less e groups i g within is =
+    let less = below-less (room e) (nesting (fragments_in e) (group_of g).pieces) (deepest (fragments_in e) groups) (4 * top (schema_in e) + 7)
+    (deepest-at (fragments_in e) groups i g within is) (omega arith) in
+    omega (arith, less)
+
+-- groups are less than what they were collected from
+pub groups-less : (e : Executing) (groups : List FieldsOfKey) (sets : List (List Selection)) → deepest (fragments_in e) groups ≤ nesting (fragments_in e) sets
+    → room e * deepest (fragments_in e) groups < measure e sets 1
+groups-less e groups sets less =
+    let more : room e * deepest (fragments_in e) groups ≤ room e * nesting (fragments_in e) sets = mul-le-mul_left (room e) less in
+    omega (arith, more)

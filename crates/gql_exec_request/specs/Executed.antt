@@ -3,8 +3,8 @@ use Rattle.std.specs.Prelude.{◌≡◌, ℕ, List, ◌++◌, Option}
 use Rattle.gql_document_types.specs.declared.selection.Selection.{Selection}
 use Rattle.gql_response.specs.declared.graphql_error.GraphQLError.{GraphQLError}
 use Rattle.gql_schema_types.specs.declared.types.ObjectType.{ObjectType}
-use Rattle.gql_exec_places.specs.Depth.{Suffices}
-use Rattle.gql_exec_places.specs.Execute.{Made, Member, Below, execute}
+use Rattle.gql_exec_places.specs.Depth.{AllGroups, Suffices}
+use Rattle.gql_exec_places.specs.Execute.{Made, Member, Below, execute, groups_made}
 use Rattle.gql_exec_places.specs.Trail.{Trail}
 use Rattle.gql_exec_places.specs.World.{World}
 use Rattle.gql_exec_world.specs.Group.{Group}
@@ -27,3 +27,8 @@ module _ {X : Type 0} (w : World X ObjectType Group (List (List Selection))) whe
   abbrev pub Executes : ObjectType → X → Trail → List (List Selection) → Option (List Member) → List GraphQLError → List GraphQLError → Type 0
   Executes U x outer sets found before after =
       (depth : ℕ) → Suffices w depth U sets → IsMade found before after (execute w depth U x outer sets)
+
+  -- the same of groups
+  abbrev pub ExecutesGroups : ObjectType → X → Trail → List Group → Option (List Member) → List GraphQLError → List GraphQLError → Type 0
+  ExecutesGroups U x outer groups found before after =
+      (depth : ℕ) → AllGroups w (IsEnough depth) groups → IsMade found before after (groups_made w (execute w depth) U x outer groups)

@@ -1,16 +1,18 @@
 //! The cycle of execution: ExecuteSelectionSet, ExecuteField and CompleteValue (GraphQL October 2021, sections 6.3 and 6.4).
 
-ghost use Rattle.std.specs.Prelude.{◌≡◌, ℕ, is_some, true, IfOk, OnOk};
-ghost use Rattle.gql_exec_groups.specs.Collected.{sets_of};
+ghost use Rattle.std.specs.Prelude.{◌≡◌, ℕ, List, map, is_some, true, IfOk, OnOk};
 ghost use Rattle.gql_exec_groups.specs.Ranks.{AreRanked};
 ghost use Rattle.gql_exec_complete.specs.Lists.{is_list};
 ghost use Rattle.gql_exec_places.specs.Execute.{completed, execute, field_made, items_made, one_array, one_object, settled, settled_item, unless_misfit, value_made};
 ghost use Rattle.gql_exec_places.specs.Resolved.{gives_leaf, gives_list, gives_object};
 ghost use Rattle.gql_exec_places.specs.Spot.{field_spot, item_spot, trail};
 ghost use Rattle.gql_exec_places.specs.Types as places;
+ghost use Rattle.gql_exec_plan.specs.Plan.{AreNodes, ArePartsOf, HaveNodes, IsTyped, ground_of, groups_in, sets_below};
+ghost use Rattle.gql_document_types.specs.declared.selection.Selection.{Selection};
 ghost use Rattle.gql_exec_resolve.specs.Meaning.{item_by, meaning_by, meanings_by};
-ghost use Rattle.gql_exec_request.specs.Executed.{Executes, MakesBelow};
+ghost use Rattle.gql_exec_request.specs.Executed.{ExecutesGroups, MakesBelow};
 ghost use Rattle.gql_exec_request.specs.Executing.{world_of};
+ghost use Rattle.gql_exec_request.specs.Planning.{ground_in};
 ghost use Rattle.gql_exec_request.specs.Trails.{group_of, made_of, spot_of, trail_of};
 ghost use Rattle.gql_schema_types.specs.Schemas.{field_of};
 
@@ -22,7 +24,8 @@ use gql_ast_values::TypeRef;
 use gql_diag::{JsonMap, Valid};
 use gql_document_types::ExecutableDocument;
 use gql_exec_complete::{fitting_object, item_type, list_misfit};
-use gql_exec_groups::{Group, Pieces, collect_fields};
+use gql_exec_groups::Group;
+use gql_exec_plan::{Node, Part, Planner};
 use gql_exec_resolve::{FieldError, ObjectValue, RequestInfo, ResolvedValue};
 use gql_exec_steps::Steps;
 use gql_response::GraphQLError;
@@ -57,36 +60,54 @@ impl<'s> Executing<'s> {
         self.request.document.as_ref()
     }
 
-    /// The object of selection sets on an object of this type (section 6.3, ExecuteSelectionSet); `None` where a null is
-    /// passed on.
+    /// What plans of the execution are made from.
+    pub(crate) fn planner(&self) -> Planner<'s>
+        ensures { ground_of result ≡ ground_in self.now }
+    {
+        Planner {
+            alloc: self.alloc,
+            schema: self.schema(),
+            document: self.document(),
+            variables: self.variables.as_ref(),
+        }
+    }
+
+    /// The object of the parts of selection sets on an object of this type (section 6.3, ExecuteSelectionSet); `None` where
+    /// a null is passed on.
     #[cycle(execute)]
-    pub(crate) fn execute_selection_set<O: ObjectValue, L: Ledger>(
+    pub(crate) fn execute_parts<O: ObjectValue, L: Ledger>(
         &self,
         object_type: &ObjectType,
         object: &O,
         path: &Path<'_>,
-        pieces: &Pieces<'s>,
+        parts: &mut Listed<Part<'s>>,
         errors: &mut Listed<GraphQLError>,
         steps: &mut Steps<L>,
     ) -> Result<Option<Map>, Memory>
-        requires { (rank : ℕ → ℕ) × AreRanked self.now.request.document.now.fragments rank }
-        ensures { IfOk result (λ members. Executes (world_of self.now O.type_of O.resolves)
-            object_type.now (O.seen object.now) (trail_of path.now) (sets_of pieces.now) members errors.old errors.new) }
+        requires ranked { (rank : ℕ → ℕ) × AreRanked self.now.request.document.now.fragments rank }
+        requires planned { (sets : List (List Selection)) × ArePartsOf (ground_in self.now) object_type.now sets parts.old }
+        ensures executed { IfOk result (λ members. ExecutesGroups (world_of self.now O.type_of O.resolves)
+            object_type.now (O.seen object.now) (trail_of path.now) (map group_of (groups_in parts.old)) members errors.old errors.new) }
+        ensures same { OnOk result (groups_in parts.new ≡ groups_in parts.old) }
+        ensures planned { OnOk result (HaveNodes (ground_in self.now) parts.new) }
     {
-        let grouped = collect_fields(
-            self.alloc,
-            self.schema(),
-            self.document(),
-            object_type,
-            pieces,
-            self.variables.as_ref(),
-            steps,
-        )?;
         let mut members = Map::new(self.alloc);
-        for group in grouped.groups().as_slice() {
-            match self.execute_field(object_type, object, path, group, errors, steps)? {
+        for number in 0..parts.len() {
+            // There is a part of each number below their count.
+            let Some(part) = parts.get_mut(number) else {
+                return Err(AllocError);
+            };
+            match self.execute_field(
+                object_type,
+                object,
+                path,
+                &part.group,
+                &mut part.nodes,
+                errors,
+                steps,
+            )? {
                 Completed::Value(value) => {
-                    let key = ByteString::from_text(self.alloc, group.key().as_str())?;
+                    let key = ByteString::from_text(self.alloc, part.group.key().as_str())?;
                     members.insert_new(key, value)?;
                 }
                 Completed::LeftOut => {}
@@ -104,16 +125,19 @@ impl<'s> Executing<'s> {
         object: &O,
         path: &Path<'_>,
         group: &Group<'s>,
+        nodes: &mut Listed<Node<'s>>,
         errors: &mut Listed<GraphQLError>,
         steps: &mut Steps<L>,
     ) -> Result<Completed, Memory>
         requires ranked { (rank : ℕ → ℕ) × AreRanked self.now.request.document.now.fragments rank }
+        requires planned { AreNodes (ground_in self.now) (sets_below group.now) nodes.old }
         requires defined { is_some (field_of self.now.request.schema.now object_type.now.name.text group.now.first.now.name.text) ≡ true }
-        ensures { IfOk result (λ done.
+        ensures made { IfOk result (λ done.
             let w = world_of self.now O.type_of O.resolves in
             MakesBelow w (group_of group.now) (made_of done) errors.old errors.new
             (λ run. field_made w run (field_spot w object_type.now (trail_of path.now) (group_of group.now))
             (w.asks object_type.now (O.seen object.now) (group_of group.now)))) }
+        ensures planned { OnOk result (AreNodes (ground_in self.now) (sets_below group.now) nodes.new) }
     {
         let definition = self.definition_on(object_type, group.first);
         // The way is lent again, for as long as the group.
@@ -124,7 +148,7 @@ impl<'s> Executing<'s> {
             group,
         };
         match self.ask(object_type, object, definition, group)? {
-            Asked::Gave(resolved) => self.complete_value(&place, resolved, errors, steps),
+            Asked::Gave(resolved) => self.complete_value(&place, resolved, nodes, errors, steps),
             Asked::Failed(error) => self.fail::<O>(&place, error, errors),
             Asked::Refused(fault) => self.refuse_argument::<O>(&place, fault, errors),
         }
@@ -136,19 +160,24 @@ impl<'s> Executing<'s> {
         &self,
         place: &Place<'_, 's>,
         resolved: ResolvedValue<O>,
+        nodes: &mut Listed<Node<'s>>,
         errors: &mut Listed<GraphQLError>,
         steps: &mut Steps<L>,
     ) -> Result<Completed, Memory>
-        requires { (rank : ℕ → ℕ) × AreRanked self.now.request.document.now.fragments rank }
-        ensures { IfOk result (λ done.
+        requires ranked { (rank : ℕ → ℕ) × AreRanked self.now.request.document.now.fragments rank }
+        requires planned { AreNodes (ground_in self.now) (sets_below place.now.group.now) nodes.old }
+        ensures made { IfOk result (λ done.
             let w = world_of self.now O.type_of O.resolves in
             MakesBelow w (group_of place.now.group.now) (made_of done) errors.old errors.new
             (λ run. completed w run (spot_of place.now) (meaning_by O.seen resolved))) }
+        ensures planned { OnOk result (AreNodes (ground_in self.now) (sets_below place.now.group.now) nodes.new) }
     {
         match resolved {
             ResolvedValue::Leaf(value) => self.complete_leaf::<O>(place, value, errors),
-            ResolvedValue::Object(object) => self.complete_object(place, &object, errors, steps),
-            ResolvedValue::List(items) => self.complete_list(place, items, errors, steps),
+            ResolvedValue::Object(object) => self.complete_object(
+                place, &object, nodes, errors, steps,
+            ),
+            ResolvedValue::List(items) => self.complete_list(place, items, nodes, errors, steps),
             ResolvedValue::SkipForPartialExecution => Ok(Completed::LeftOut),
         }
     }
@@ -159,17 +188,27 @@ impl<'s> Executing<'s> {
         &self,
         place: &Place<'_, 's>,
         object: &O,
+        nodes: &mut Listed<Node<'s>>,
         errors: &mut Listed<GraphQLError>,
         steps: &mut Steps<L>,
     ) -> Result<Completed, Memory>
-        requires { (rank : ℕ → ℕ) × AreRanked self.now.request.document.now.fragments rank }
-        ensures { IfOk result (λ done.
+        requires ranked { (rank : ℕ → ℕ) × AreRanked self.now.request.document.now.fragments rank }
+        requires planned { AreNodes (ground_in self.now) (sets_below place.now.group.now) nodes.old }
+        ensures made { IfOk result (λ done.
             let w = world_of self.now O.type_of O.resolves in
             MakesBelow w (group_of place.now.group.now) (made_of done) errors.old errors.new
             (λ run. completed w run (spot_of place.now) (gives_object (O.seen object.now)))) }
+        ensures planned { OnOk result (AreNodes (ground_in self.now) (sets_below place.now.group.now) nodes.new) }
     {
         match fitting_object(self.alloc, self.schema(), place.ty, object.type_name()) {
-            Ok(object_type) => self.execute_object(place, object_type, object, errors, steps),
+            Ok(object_type) => self.execute_object(
+                place,
+                object_type,
+                object,
+                nodes,
+                errors,
+                steps,
+            ),
             Err(Refused::Fault(misfit)) => self.refuse::<O>(place, misfit, errors),
             Err(Refused::Memory) => Err(AllocError),
         }
@@ -180,21 +219,31 @@ impl<'s> Executing<'s> {
     fn execute_object<O: ObjectValue, L: Ledger>(
         &self,
         place: &Place<'_, 's>,
-        object_type: &ObjectType,
+        object_type: &'s ObjectType,
         object: &O,
+        nodes: &mut Listed<Node<'s>>,
         errors: &mut Listed<GraphQLError>,
         steps: &mut Steps<L>,
     ) -> Result<Completed, Memory>
-        requires { (rank : ℕ → ℕ) × AreRanked self.now.request.document.now.fragments rank }
-        ensures { IfOk result (λ done.
+        requires ranked { (rank : ℕ → ℕ) × AreRanked self.now.request.document.now.fragments rank }
+        requires planned { AreNodes (ground_in self.now) (sets_below place.now.group.now) nodes.old }
+        requires typed { IsTyped self.now.request.schema.now object_type.now }
+        ensures made { IfOk result (λ done.
             let w = world_of self.now O.type_of O.resolves in
             MakesBelow w (group_of place.now.group.now) (made_of done) errors.old errors.new
             (λ run. settled (spot_of place.now) (one_object
             (run object_type.now (O.seen object.now) (trail (spot_of place.now)) (group_of place.now.group.now).pieces)))) }
+        ensures planned { OnOk result (AreNodes (ground_in self.now) (sets_below place.now.group.now) nodes.new) }
     {
-        let pieces = place.group.sub_selections(self.alloc)?;
+        let number = self
+            .planner()
+            .node_number(object_type, place.group, nodes, steps)?;
+        // There is a node of that number.
+        let Some(node) = nodes.get_mut(number) else {
+            return Err(AllocError);
+        };
         let path = Path::Below(place.around, place.step, place.ty);
-        match self.execute_selection_set(object_type, object, &path, &pieces, errors, steps)? {
+        match self.execute_parts(object_type, object, &path, &mut node.parts, errors, steps)? {
             Some(members) => Ok(Completed::Value(Value::Object(members))),
             None => Ok(place.null()),
         }
@@ -206,18 +255,21 @@ impl<'s> Executing<'s> {
         &self,
         place: &Place<'_, 's>,
         items: Listed<Result<ResolvedValue<O>, FieldError>>,
+        nodes: &mut Listed<Node<'s>>,
         errors: &mut Listed<GraphQLError>,
         steps: &mut Steps<L>,
     ) -> Result<Completed, Memory>
-        requires { (rank : ℕ → ℕ) × AreRanked self.now.request.document.now.fragments rank }
-        ensures { IfOk result (λ done.
+        requires ranked { (rank : ℕ → ℕ) × AreRanked self.now.request.document.now.fragments rank }
+        requires planned { AreNodes (ground_in self.now) (sets_below place.now.group.now) nodes.old }
+        ensures made { IfOk result (λ done.
             let w = world_of self.now O.type_of O.resolves in
             MakesBelow w (group_of place.now.group.now) (made_of done) errors.old errors.new
             (λ run. completed w run (spot_of place.now) (gives_list (meanings_by O.seen items)))) }
+        ensures planned { OnOk result (AreNodes (ground_in self.now) (sets_below place.now.group.now) nodes.new) }
     {
         match list_misfit(self.alloc, place.ty)? {
             Some(misfit) => self.refuse::<O>(place, misfit, errors),
-            None => self.complete_items(place, items, errors, steps),
+            None => self.complete_items(place, items, nodes, errors, steps),
         }
     }
 
@@ -227,21 +279,24 @@ impl<'s> Executing<'s> {
         &self,
         place: &Place<'_, 's>,
         items: Listed<Result<ResolvedValue<O>, FieldError>>,
+        nodes: &mut Listed<Node<'s>>,
         errors: &mut Listed<GraphQLError>,
         steps: &mut Steps<L>,
     ) -> Result<Completed, Memory>
         requires ranked { (rank : ℕ → ℕ) × AreRanked self.now.request.document.now.fragments rank }
+        requires planned { AreNodes (ground_in self.now) (sets_below place.now.group.now) nodes.old }
         requires list { is_list place.now.ty.now ≡ true }
-        ensures { IfOk result (λ done.
+        ensures made { IfOk result (λ done.
             let w = world_of self.now O.type_of O.resolves in
             MakesBelow w (group_of place.now.group.now) (made_of done) errors.old errors.new
             (λ run. settled (spot_of place.now) (one_array (items_made w run (spot_of place.now) 0 (meanings_by O.seen items))))) }
+        ensures planned { OnOk result (AreNodes (ground_in self.now) (sets_below place.now.group.now) nodes.new) }
     {
         let count = items.len();
         let mut index = 0;
         let mut values = Listed::new(self.alloc);
         for item in items {
-            match self.complete_item(place, index, item, errors, steps)? {
+            match self.complete_item(place, index, item, nodes, errors, steps)? {
                 Completed::Value(value) => values.push(value)?,
                 Completed::LeftOut => {}
                 Completed::NullPasses => return Ok(place.null()),
@@ -259,17 +314,20 @@ impl<'s> Executing<'s> {
         list: &Place<'_, 's>,
         index: usize,
         item: Result<ResolvedValue<O>, FieldError>,
+        nodes: &mut Listed<Node<'s>>,
         errors: &mut Listed<GraphQLError>,
         steps: &mut Steps<L>,
     ) -> Result<Completed, Memory>
         requires ranked { (rank : ℕ → ℕ) × AreRanked self.now.request.document.now.fragments rank }
+        requires planned { AreNodes (ground_in self.now) (sets_below list.now.group.now) nodes.old }
         requires list { is_list list.now.ty.now ≡ true }
-        ensures { IfOk result (λ done.
+        ensures made { IfOk result (λ done.
             let w = world_of self.now O.type_of O.resolves in
             let spot = item_spot (spot_of list.now) index in
             let m = item_by O.seen item in
             MakesBelow w (group_of list.now.group.now) (made_of done) errors.old errors.new
             (λ run. settled_item spot m (unless_misfit w spot (w.misfit spot.type m) (value_made w run spot m)))) }
+        ensures planned { OnOk result (AreNodes (ground_in self.now) (sets_below list.now.group.now) nodes.new) }
     {
         let around = Path::Below(list.around, list.step, list.ty);
         let place = Place {
@@ -279,7 +337,7 @@ impl<'s> Executing<'s> {
             group: list.group,
         };
         match item {
-            Ok(resolved) => self.complete_value(&place, resolved, errors, steps),
+            Ok(resolved) => self.complete_value(&place, resolved, nodes, errors, steps),
             Err(error) => {
                 self.list_failure::<O>(&place, error, errors)?;
                 Ok(Completed::NullPasses)

@@ -343,11 +343,12 @@ impl<'a> Execution<'a> {
         pieces.add(&operation.selection_set)?;
         let mut errors = Listed::new(alloc);
         let mut steps = Steps::<L>::open(blank);
-        let root = executing.execute_selection_set(
+        let mut parts = executing.planner().parts(root, &pieces, &mut steps)?;
+        let root = executing.execute_parts(
             root,
             initial,
             &Path::Root,
-            &pieces,
+            &mut parts,
             &mut errors,
             &mut steps,
         )?;

@@ -1,18 +1,19 @@
 use Rattle.std.proofs.Common.{◌≡◌, ◌+◌, ◌*◌, drop, length}
-use Rattle.gql_exec_groups.specs.Collected.{sets_of}
+use Rattle.gql_exec_plan.specs.Plan.{AreNodes, HaveNodes, groups_in, sets_below}
 use Rattle.gql_exec_resolve.specs.Meaning.{meanings_by}
 use Rattle.gql_exec_resolve.proofs.Height.{height}
+use Rattle.gql_exec_request.specs.Planning.{ground_in}
 use Rattle.gql_exec_request.specs.Executing.{world_of}
 use Rattle.gql_exec_request.specs.Trails.{group_of, spot_of, trail_of}
 use Rattle.gql_exec_request.proofs.Groups.{IsExecuting}
 use Rattle.gql_exec_request.proofs.Heights.{top}
 use Rattle.gql_exec_request.proofs.Items.{IsCompleting}
-use Rattle.gql_exec_request.proofs.Measures.{schema_in, measure}
+use Rattle.gql_exec_request.proofs.Measures.{schema_in, fragments_in, room, measure, deepest}
 use Rattle.gql_exec_request.proofs.Views.{views}
 use Rattle.gql_exec_request.proofs.executing.Executing.+execute.Given as goal
 
-abbrev pub decreases-execute_selection_set : goal.decreases-execute_selection_set
-decreases-execute_selection_set g l = measure l.self.now (sets_of l.pieces.now) 0
+abbrev pub decreases-execute_parts : goal.decreases-execute_parts
+decreases-execute_parts g l = room l.self.now * deepest (fragments_in l.self.now) (groups_in l.parts.now)
 
 abbrev pub decreases-execute_field : goal.decreases-execute_field
 decreases-execute_field g l = measure l.self.now (group_of l.group.now).pieces (4 * top (schema_in l.self.now) + 7)
@@ -35,15 +36,20 @@ decreases-complete_items g l = measure l.self.now (group_of l.place.now.group.no
 abbrev pub decreases-complete_item : goal.decreases-complete_item
 decreases-complete_item g l = measure l.self.now (group_of l.list.now.group.now).pieces (4 * height l.list.now.ty.now)
 
-abbrev pub invariant-execute_selection_set-loop-group : goal.invariant-execute_selection_set-loop-group
-invariant-execute_selection_set-loop-group g l =
-    IsExecuting (world_of l.self g.O.ObjectValue.type_of g.O.ObjectValue.resolves) l.object_type (g.O.ObjectValue.seen l.object) (trail_of l.path)
-    l.members l.errors l.fn.errors (views (drop l.group-index l.group-items)) (views l.group-items)
+abbrev pub invariant-execute_parts-loop-number : goal.invariant-execute_parts-loop-number
+invariant-execute_parts-loop-number g l =
+    record {
+      same : groups_in l.parts ≡ groups_in l.fn.parts;
+      planned : HaveNodes (ground_in l.self) l.parts;
+      so_far : IsExecuting (world_of l.self g.O.ObjectValue.type_of g.O.ObjectValue.resolves) l.object_type (g.O.ObjectValue.seen l.object) (trail_of l.path)
+          l.members l.errors l.fn.errors (views (drop l.number (groups_in l.fn.parts))) (views (groups_in l.fn.parts));
+    }
 
 abbrev pub invariant-complete_items-loop-item : goal.invariant-complete_items-loop-item
 invariant-complete_items-loop-item g l =
     record {
       counted : l.index + length l.item-iterator ≡ length l.fn.items;
+      planned : AreNodes (ground_in l.self) (sets_below l.place.group.now) l.nodes;
       so_far : IsCompleting (world_of l.self g.O.ObjectValue.type_of g.O.ObjectValue.resolves) (spot_of l.place)
           l.values l.errors l.fn.errors l.index (meanings_by g.O.ObjectValue.seen l.item-iterator) (meanings_by g.O.ObjectValue.seen l.fn.items);
     }

@@ -1,0 +1,134 @@
+-- Nodes of a plan: one that is there, one that has grown, one more.
+use Rattle.std.proofs.Common.{◌≡◌, ℕ, zero, suc, List, [], ◌∷◌, ◌++◌, Some, slice_get, slice_set, refl, sym, ap, ◌∙◌, subst}
+use Rattle.std.specs.List.{AllByRecursion, position}
+use Rattle.std.proofs.lemmas.Slice.Eq.{bytes_eq-Decides}
+use Rattle.gql_document_types.specs.declared.selection.Selection.{Selection}
+use Rattle.gql_schema_types.specs.Schemas.{object_of}
+use Rattle.gql_schema_types.specs.declared.schema.Schema.{Schema}
+use Rattle.gql_schema_types.specs.declared.types.ObjectType.{ObjectType}
+use Rattle.gql_exec_groups.specs.Collected.{setting}
+use Rattle.gql_exec_groups.specs.Grouping.{groups_seen}
+use Rattle.gql_exec_groups.specs.Groups.{SameGroups, applying}
+use Rattle.gql_exec_groups.specs.declared.group.Group.{Group}
+use Rattle.gql_exec_plan.specs.Growth.{is_for, AreBegun, IsAdded}
+use Rattle.gql_exec_plan.specs.Plan.{Ground, type_in, parts_in, group_in, nodes_in, groups_in, sets_below, IsTyped, AreCollected, AreNodesTo, AreNodes, HaveNodes, ArePartsOf, IsNodeOf}
+use Rattle.gql_exec_plan.specs.declared.plan.Node.{Node}
+use Rattle.gql_exec_plan.specs.declared.plan.Part.{Part}
+use Rattle.gql_exec_plan.proofs.Changes.{with_nodes, with_parts, changed-group, changed-nodes, changed-type, changed-parts}
+use Rattle.gql_exec_plan.proofs.Lists.{all-at, all-set, all-more, at-end, at-position}
+
+-- two object types of a schema that have one name
+pub one-type : (schema : Schema) (U V : ObjectType) → IsTyped schema U → IsTyped schema V → U.name.text ≡ V.name.text → U ≡ V
+one-type schema U V typed other same =
+    let both : Some U ≡ Some V = sym typed ∙ ap (object_of schema) same ∙ other in
+    cc
+
+module _ (ground : Ground) where
+  -- what a node in its place must be
+  abbrev pub IsNodeTo : ℕ → List (List Selection) → Node → Type 0
+  IsNodeTo n sets node =
+      IsTyped ground.schema (type_in node)
+      × AreCollected ground (type_in node) sets (parts_in node)
+      × AllByRecursion (λ part. AreNodesTo ground n (sets_below (group_in part)) (nodes_in part)) (parts_in node)
+
+  pub node-typed : (sets : List (List Selection)) (nodes : List Node) (i : ℕ) (node : Node) → AreNodes ground sets nodes → slice_get nodes i ≡ Some node
+      → IsTyped ground.schema (type_in node)
+  node-typed sets nodes i node are is = (all-at (IsNodeTo zero sets) nodes i node (are (suc zero)) is).0
+
+  pub node-parts : (sets : List (List Selection)) (nodes : List Node) (i : ℕ) (node : Node) → AreNodes ground sets nodes → slice_get nodes i ≡ Some node
+      → ArePartsOf ground (type_in node) sets (parts_in node)
+  node-parts sets nodes i node are is =
+      ((all-at (IsNodeTo zero sets) nodes i node (are (suc zero)) is).1, λ n. (all-at (IsNodeTo n sets) nodes i node (are (suc n)) is).2)
+
+  pub none : (sets : List (List Selection)) → AreNodes ground sets []
+  none sets zero = tt
+  none sets (suc n) = tt
+
+  pub one-more : (sets : List (List Selection)) (nodes : List Node) (node : Node) → AreNodes ground sets nodes → IsTyped ground.schema (type_in node)
+      → ArePartsOf ground (type_in node) sets (parts_in node) → AreNodes ground sets (nodes ++ node ∷ [])
+  one-more sets nodes node are typed parts zero = tt
+  one-more sets nodes node are typed parts (suc n) = all-more (IsNodeTo n sets) nodes node (are (suc n)) (typed, parts.0, parts.1 n)
+
+  pub one-grown : (sets : List (List Selection)) (nodes : List Node) (i : ℕ) (node : Node) → AreNodes ground sets nodes → IsTyped ground.schema (type_in node)
+      → ArePartsOf ground (type_in node) sets (parts_in node) → AreNodes ground sets (slice_set nodes i node)
+  one-grown sets nodes i node are typed parts zero = tt
+  one-grown sets nodes i node are typed parts (suc n) = all-set (IsNodeTo n sets) nodes i node (are (suc n)) (typed, parts.0, parts.1 n)
+
+  -- the nodes of a part
+  abbrev pub HasNodesTo : ℕ → Part → Type 0
+  HasNodesTo n part = AreNodesTo ground n (sets_below (group_in part)) (nodes_in part)
+
+  pub part-nodes : (parts : List Part) (i : ℕ) (part : Part) → HaveNodes ground parts → slice_get parts i ≡ Some part
+      → AreNodes ground (sets_below (group_in part)) (nodes_in part)
+  part-nodes parts i part have is n = all-at (HasNodesTo n) parts i part (have n) is
+
+  pub part-grown : (parts : List Part) (i : ℕ) (part : Part) → HaveNodes ground parts → AreNodes ground (sets_below (group_in part)) (nodes_in part)
+      → HaveNodes ground (slice_set parts i part)
+  part-grown parts i part have are n = all-set (HasNodesTo n) parts i part (have n) (are n)
+
+  -- nodes of a part have changed, all of what is selected below its group
+  pub part-with : (parts : List Part) (i : ℕ) (part : Part) (nodes : List Node) → HaveNodes ground parts → AreNodes ground (sets_below (group_in part)) nodes
+      → HaveNodes ground (slice_set parts i (with_nodes part nodes))
+  part-with parts i part nodes have are =
+      part-grown parts i (with_nodes part nodes) have
+      (subst (λ ns. AreNodes ground (sets_below (group_in (with_nodes part nodes))) ns) (sym (changed-nodes part nodes))
+      (subst (λ (g : Group). AreNodes ground (sets_below g) nodes) (sym (changed-group part nodes)) are))
+
+  -- nodes below the parts of a node have changed, and its groups have not
+  pub node-with : (sets : List (List Selection)) (nodes : List Node) (i : ℕ) (node : Node) (parts : List Part) → AreNodes ground sets nodes → slice_get nodes i ≡ Some node
+      → groups_in parts ≡ groups_in (parts_in node) → HaveNodes ground parts → AreNodes ground sets (slice_set nodes i (with_parts node parts))
+  node-with sets nodes i node parts are is same have =
+      let was = node-parts sets nodes i node are is in
+      let new = with_parts node parts in
+      one-grown sets nodes i new are (subst (IsTyped ground.schema) (sym (changed-type node parts)) (node-typed sets nodes i node are is))
+      (subst (λ U. ArePartsOf ground U sets (parts_in new)) (sym (changed-type node parts))
+      (subst (λ (ps : List Part). ArePartsOf ground (type_in node) sets ps) (sym (changed-parts node parts))
+      (subst (λ (gs : List Group). SameGroups (groups_seen gs) (applying (setting ground.fragments ground.schema (type_in node) ground.variables) sets)) (sym same) was.0, have)))
+
+  fresh-nodes : (n : ℕ) (parts : List Part) → AllByRecursion (λ part. nodes_in part ≡ []) parts → AllByRecursion (HasNodesTo n) parts
+  fresh-nodes n [] all = tt
+  fresh-nodes n (part ∷ parts) all =
+      (subst (λ nodes. AreNodesTo ground n (sets_below (group_in part)) nodes) (sym all.0) (none (sets_below (group_in part)) n), fresh-nodes n parts all.1)
+
+  -- groups as parts that have no nodes
+  pub begun-parts : (U : ObjectType) (sets : List (List Selection)) (groups : List Group) (parts : List Part)
+      → SameGroups (groups_seen groups) (applying (setting ground.fragments ground.schema U ground.variables) sets) → AreBegun groups parts → ArePartsOf ground U sets parts
+  begun-parts U sets groups parts same begun = (
+    subst (λ (gs : List Group). SameGroups (groups_seen gs) (applying (setting ground.fragments ground.schema U ground.variables) sets)) (sym begun.same) same,
+    λ n. fresh-nodes n parts begun.fresh,
+  )
+
+  -- a node that is found by the name of its type
+  pub found-node : (sets : List (List Selection)) (U : ObjectType) (nodes : List Node) (number : ℕ) → IsTyped ground.schema U → AreNodes ground sets nodes
+      → position (is_for U.name.text) nodes ≡ Some number → IsNodeOf U nodes number
+  found-node sets U nodes number typed are is =
+      let found = at-position (is_for U.name.text) nodes number is in
+      let named = (bytes_eq-Decides U.name.text (type_in found.0).name.text).0 found.2 in
+      record {
+        node = found.0;
+        there = found.1;
+        typed = one-type ground.schema (type_in found.0) U (node-typed sets nodes number found.0 are found.1) typed (sym named);
+      }
+
+  -- a node that was added
+  pub added-node : (sets : List (List Selection)) (U : ObjectType) (before after : List Node) (number : ℕ) → IsAdded ground U sets before after number → IsNodeOf U after number
+  added-node sets U before after number added = record {
+    node = added.node;
+    there = subst (λ nodes. slice_get nodes number ≡ Some added.node) (sym added.added)
+        (subst (λ i. slice_get (before ++ added.node ∷ []) i ≡ Some added.node) (sym added.last) (at-end before added.node));
+    typed = added.typed;
+  }
+
+  pub added-nodes : (sets : List (List Selection)) (U : ObjectType) (before after : List Node) (number : ℕ) → IsTyped ground.schema U → AreNodes ground sets before
+      → IsAdded ground U sets before after number → AreNodes ground sets after
+  added-nodes sets U before after number typed are added =
+      subst (AreNodes ground sets) (sym added.added)
+      (one-more sets before added.node are (subst (IsTyped ground.schema) (sym added.typed) typed)
+      (subst (λ V. ArePartsOf ground V sets (parts_in added.node)) (sym added.typed) added.planned))
+
+-- a group more as a part
+pub begun-more : (parts : List Part) (part : Part) (group : Group) (left rest all : List Group) → group_in part ≡ group → left ≡ group ∷ rest → groups_in parts ++ left ≡ all
+    → groups_in (parts ++ part ∷ []) ++ rest ≡ all
+begun-more [] part group left rest all is split same = ap (λ g. g ∷ rest) is ∙ sym split ∙ same
+begun-more (p ∷ ps) part group left rest all is split same =
+    ap (λ gs. group_in p ∷ gs) (begun-more ps part group left rest (groups_in ps ++ left) is split refl) ∙ same

@@ -1,0 +1,83 @@
+-- Plans: groups that were collected once, and stand for those that are collected for each object (GraphQL October 2021,
+-- section 6.3.2).
+use Rattle.std.specs.Prelude.{◌≡◌, ℕ, zero, suc, List, map, Some, slice_get}
+use Rattle.std.specs.List.{AllByRecursion}
+use Rattle.gql_document_types.specs.declared.fragment.Fragment.{Fragment}
+use Rattle.gql_document_types.specs.declared.selection.Field.{Field}
+use Rattle.gql_document_types.specs.declared.selection.Selection.{Selection}
+use Rattle.gql_schema_types.specs.Schemas.{object_of}
+use Rattle.gql_schema_types.specs.declared.schema.Schema.{Schema}
+use Rattle.gql_schema_types.specs.declared.types.ObjectType.{ObjectType}
+use Rattle.gql_exec_groups.specs.Collected.{setting}
+use Rattle.gql_exec_groups.specs.Grouping.{groups_seen}
+use Rattle.gql_exec_groups.specs.Groups.{SameGroups, applying}
+use Rattle.gql_exec_groups.specs.Kept.{Variables}
+use Rattle.gql_exec_groups.specs.Walk.{fields_of}
+use Rattle.gql_exec_groups.specs.declared.group.Group.{Group}
+use Rattle.gql_exec_plan.specs.declared.plan.Node.{Node, out-Node}
+use Rattle.gql_exec_plan.specs.declared.plan.Part.{Part, out-Part}
+use Rattle.gql_exec_plan.specs.declared.planner.Planner.{Planner}
+
+abbrev pub type_in : Node → ObjectType
+type_in node = (out-Node node).object_type.now
+
+abbrev pub parts_in : Node → List Part
+parts_in node = (out-Node node).parts
+
+abbrev pub group_in : Part → Group
+group_in part = (out-Part part).group
+
+abbrev pub nodes_in : Part → List Node
+nodes_in part = (out-Part part).nodes
+
+abbrev pub groups_in : List Part → List Group
+groups_in parts = map group_in parts
+
+-- what is selected below a group, set by set
+abbrev pub sets_below : Group → List (List Selection)
+sets_below group = map (λ (field : Field). field.selection_set.selections) (fields_of group.fields)
+
+-- what a plan is made from
+pub record Ground : Type 0 where
+  pub fragments : List Fragment
+  pub schema : Schema
+  pub variables : Variables
+
+abbrev pub ground_of : Planner → Ground
+ground_of planner = record { fragments = planner.document.now.fragments; schema = planner.schema.now; variables = planner.variables.now }
+
+-- it is the schema's object type of its name
+abbrev pub IsTyped : Schema → ObjectType → Type 0
+IsTyped schema U = object_of schema U.name.text ≡ Some U
+
+module _ (ground : Ground) where
+  -- the groups of these sets on an object type
+  abbrev pub AreCollected : ObjectType → List (List Selection) → List Part → Type 0
+  AreCollected U sets parts = SameGroups (groups_seen (groups_in parts)) (applying (setting ground.fragments ground.schema U ground.variables) sets)
+
+  -- each node has the groups of these sets on its type, and so on, so many nodes down
+  abbrev pub AreNodesTo : ℕ → List (List Selection) → List Node → Type 0
+  AreNodesTo zero sets nodes = Unit {0}
+  AreNodesTo (suc n) sets nodes =
+      AllByRecursion (λ node.
+      IsTyped ground.schema (type_in node)
+      × AreCollected (type_in node) sets (parts_in node)
+      × AllByRecursion (λ part. AreNodesTo n (sets_below (group_in part)) (nodes_in part)) (parts_in node)
+      ) nodes
+
+  -- however many nodes down
+  abbrev pub AreNodes : List (List Selection) → List Node → Type 0
+  AreNodes sets nodes = (n : ℕ) → AreNodesTo n sets nodes
+
+  -- the nodes of each part are of what is selected below its group
+  abbrev pub HaveNodes : List Part → Type 0
+  HaveNodes parts = (n : ℕ) → AllByRecursion (λ part. AreNodesTo n (sets_below (group_in part)) (nodes_in part)) parts
+
+  abbrev pub ArePartsOf : ObjectType → List (List Selection) → List Part → Type 0
+  ArePartsOf U sets parts = AreCollected U sets parts × HaveNodes parts
+
+-- the node of the number is for objects of this type
+pub record IsNodeOf (U : ObjectType) (nodes : List Node) (number : ℕ) : Type 0 where
+  pub node : Node
+  pub there : slice_get nodes number ≡ Some node
+  pub typed : type_in node ≡ U

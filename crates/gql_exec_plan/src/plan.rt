@@ -1,0 +1,46 @@
+//! Plans: trees of groups that are collected already.
+
+ghost use Rattle.std.specs.Prelude.{◌≡◌, []};
+ghost use Rattle.gql_exec_plan.specs.Plan as spec;
+
+use gql_exec_groups::Group;
+use gql_schema_types::ObjectType;
+use jb_text::Listed;
+use std::alloc::Global;
+
+/// What is selected on the objects of one type below a group: the parts in order.
+#[derive(Drop)]
+#[cycle(plan)]
+pub struct Node<'d> {
+    pub object_type: &'d ObjectType,
+    pub parts: Listed<Part<'d>>,
+}
+
+/// A group, and the nodes of the objects that its field has led to so far, one for each of their types.
+#[derive(Drop)]
+#[cycle(plan)]
+pub struct Part<'d> {
+    pub group: Group<'d>,
+    pub nodes: Listed<Node<'d>>,
+}
+
+impl<'d> Node<'d> {
+    /// The node of objects of this type, with these parts.
+    pub(crate) fn new(object_type: &'d ObjectType, parts: Listed<Part<'d>>) -> Node<'d>
+        ensures typed { spec.type_in result ≡ object_type.now }
+        ensures parts { spec.parts_in result ≡ parts.entry }
+    {
+        Node { object_type, parts }
+    }
+}
+
+impl<'d> Part<'d> {
+    /// The part of a group, with no nodes yet.
+    pub(crate) fn new(alloc: Global, group: Group<'d>) -> Part<'d>
+        ensures group { spec.group_in result ≡ group.entry }
+        ensures nodes { spec.nodes_in result ≡ [] }
+    {
+        let nodes = Listed::new(alloc);
+        Part { group, nodes }
+    }
+}

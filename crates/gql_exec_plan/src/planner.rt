@@ -1,0 +1,112 @@
+//! How plans begin and grow.
+
+ghost use Rattle.std.specs.Prelude.{◌≡◌, ◌++◌, ◌∷◌, [], ℕ, IfOk, OnOk};
+ghost use Rattle.std.specs.List.{position};
+ghost use Rattle.gql_exec_groups.specs.Collected.{sets_of};
+ghost use Rattle.gql_exec_groups.specs.Ranks.{AreRanked};
+ghost use Rattle.gql_exec_plan.specs.Growth as growth;
+ghost use Rattle.gql_exec_plan.specs.Plan as spec;
+
+use crate::plan::{Node, Part};
+use gql_document_types::ExecutableDocument;
+use gql_exec_groups::{Group, Pieces, collect_fields};
+use gql_exec_steps::Steps;
+use gql_schema_types::{ObjectType, Schema};
+use jb_text::{Listed, Memory};
+use jb_tree::Map;
+use std::alloc::Global;
+use std::sync::ledger::Ledger;
+
+/// What stays the same while a plan grows: the schema, the document, and the values of the variables.
+#[derive(Clone, Copy)]
+pub struct Planner<'d> {
+    pub alloc: Global,
+    pub schema: &'d Schema,
+    pub document: &'d ExecutableDocument,
+    pub variables: &'d Map,
+}
+
+impl<'d> Planner<'d> {
+    /// The parts of selection sets on objects of this type, with no nodes below them yet (GraphQL October 2021, section
+    /// 6.3.2, CollectFields). `Err` only for want of memory.
+    pub fn parts<L: Ledger>(
+        &self,
+        object_type: &ObjectType,
+        pieces: &Pieces<'d>,
+        steps: &mut Steps<L>,
+    ) -> Result<Listed<Part<'d>>, Memory>
+        requires { (rank : ℕ → ℕ) × AreRanked self.now.document.now.fragments rank }
+        ensures { IfOk result (λ parts. spec.ArePartsOf (spec.ground_of self.now) object_type.now (sets_of pieces.now) parts) }
+    {
+        let grouped = collect_fields(
+            self.alloc,
+            self.schema,
+            self.document,
+            object_type,
+            pieces,
+            self.variables,
+            steps,
+        )?;
+        begun(self.alloc, grouped.into_groups())
+    }
+
+    /// The number of the node for objects of this type among those below a group. It is added where none was there. `Err`
+    /// only for want of memory.
+    pub fn node_number<L: Ledger>(
+        &self,
+        object_type: &'d ObjectType,
+        group: &Group<'d>,
+        nodes: &mut Listed<Node<'d>>,
+        steps: &mut Steps<L>,
+    ) -> Result<usize, Memory>
+        requires ranked { (rank : ℕ → ℕ) × AreRanked self.now.document.now.fragments rank }
+        requires typed { spec.IsTyped self.now.schema.now object_type.now }
+        requires planned { spec.AreNodes (spec.ground_of self.now) (spec.sets_below group.now) nodes.old }
+        ensures planned { OnOk result (spec.AreNodes (spec.ground_of self.now) (spec.sets_below group.now) nodes.new) }
+        ensures there { IfOk result (λ number. spec.IsNodeOf object_type.now nodes.new number) }
+    {
+        match number_of(object_type.name.as_str(), nodes.as_slice()) {
+            Some(number) => Ok(number),
+            None => self.add_node(object_type, group, nodes, steps),
+        }
+    }
+
+    /// Adds the node for objects of this type below a group, and gives its number.
+    fn add_node<L: Ledger>(
+        &self,
+        object_type: &'d ObjectType,
+        group: &Group<'d>,
+        nodes: &mut Listed<Node<'d>>,
+        steps: &mut Steps<L>,
+    ) -> Result<usize, Memory>
+        requires { (rank : ℕ → ℕ) × AreRanked self.now.document.now.fragments rank }
+        ensures { IfOk result (λ number.
+            growth.IsAdded (spec.ground_of self.now) object_type.now (spec.sets_below group.now) nodes.old nodes.new number) }
+    {
+        let pieces = group.sub_selections(self.alloc)?;
+        let parts = self.parts(object_type, &pieces, steps)?;
+        let number = nodes.len();
+        nodes.push(Node::new(object_type, parts))?;
+        Ok(number)
+    }
+}
+
+/// Where the node for objects of the type of this name is.
+fn number_of(name: &str, nodes: &[Node<'_>]) -> Option<usize>
+    ensures { result ≡ position (growth.is_for name.now) nodes.now }
+{
+    nodes
+        .iter()
+        .position(|node| name == node.object_type.name.as_str())
+}
+
+/// These groups as parts with no nodes.
+fn begun<'d>(alloc: Global, groups: Listed<Group<'d>>) -> Result<Listed<Part<'d>>, Memory>
+    ensures { IfOk result (λ parts. growth.AreBegun groups.entry parts) }
+{
+    let mut parts = Listed::new(alloc);
+    for group in groups {
+        parts.push(Part::new(alloc, group))?;
+    }
+    Ok(parts)
+}

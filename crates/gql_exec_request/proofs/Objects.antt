@@ -1,0 +1,71 @@
+-- An object that is executed by the node of its type.
+use Rattle.std.proofs.Common.{◌≡◌, ℕ, ◌*◌, ◌<◌, List, ◌∷◌, [], Option, Some, None, slice_get, slice_set, refl, sym, subst}
+use Rattle.jb_tree.specs.declared.value.Value.{Value}
+use Rattle.jb_tree.specs.declared.value.Value.TheVariants as json
+use Rattle.gql_document_types.specs.declared.selection.Selection.{Selection}
+use Rattle.gql_response.specs.declared.graphql_error.GraphQLError.{GraphQLError}
+use Rattle.gql_schema_types.specs.declared.types.ObjectType.{ObjectType}
+use Rattle.gql_exec_groups.specs.Ranks.{AreRanked}
+use Rattle.gql_exec_places.specs.Execute.{Member, one_object, settled}
+use Rattle.gql_exec_places.specs.Spot.{trail}
+use Rattle.gql_exec_plan.specs.Plan.{Ground, AreNodes, ArePartsOf, HaveNodes, IsNodeOf, groups_in, parts_in, sets_below}
+use Rattle.gql_exec_plan.specs.declared.plan.Node.{Node}
+use Rattle.gql_exec_plan.specs.declared.plan.Part.{Part}
+use Rattle.gql_exec_plan.proofs.Changes.{with_parts}
+use Rattle.gql_exec_plan.proofs.Nodes.{node-with}
+use Rattle.gql_exec_introspected.specs.ThingMeaning.{Resolving}
+use Rattle.gql_exec_request.specs.Executed.{Executes, ExecutesGroups, MakesBelow}
+use Rattle.gql_exec_request.specs.declared.executing.Executing.{Executing}
+use Rattle.gql_exec_request.specs.declared.path.Path.TheVariants.{Below}
+use Rattle.gql_exec_request.specs.declared.place.Place.{Place}
+use Rattle.gql_exec_request.specs.Executing.{world_of}
+use Rattle.gql_exec_request.specs.Planning.{ground_in}
+use Rattle.gql_exec_request.specs.Trails.{group_of, null_at, spot_of, trail_of}
+use Rattle.gql_exec_request.proofs.Measures.{fragments_in, room, measure, deepest}
+use Rattle.gql_exec_request.proofs.Places.{made-members, made-null}
+use Rattle.gql_exec_request.proofs.Planned.{node-executed, node-less, node-planned}
+use Rattle.gql_exec_request.proofs.Views.{views}
+use Rattle.gql_exec_request.proofs.Ways.{trail-place}
+
+module _ {X : Type 0} (e : Executing) (types : X → List ℕ) (resolves : Resolving X) (place : Place) (U : ObjectType) (rank : ℕ → ℕ) (ranked : AreRanked (fragments_in e) rank)
+    (planner : Ground) (same : planner ≡ ground_in e) (nodes : List Node) (i : ℕ) (node : Node)
+    (planned : AreNodes planner (sets_below place.group.now) nodes) (there : IsNodeOf U nodes i) (value : Some node ≡ slice_get nodes i) where
+  are : AreNodes (ground_in e) (sets_below place.group.now) nodes
+  are = subst (λ it. AreNodes it (sets_below place.group.now) nodes) same planned
+
+  pub object-less : room e * deepest (fragments_in e) (groups_in (parts_in node)) < measure e (group_of place.group.now).pieces 1
+  object-less = node-less e types resolves U rank ranked (sets_below place.group.now) nodes i node are there (sym value)
+
+  pub object-parts : (sets : List (List Selection)) × ArePartsOf (ground_in e) U sets (parts_in node)
+  object-parts = (sets_below place.group.now, node-planned e types resolves U rank ranked (sets_below place.group.now) nodes i node are there (sym value))
+
+  pub object-grown : (parts : List Part) → groups_in parts ≡ groups_in (parts_in node) → HaveNodes (ground_in e) parts
+      → AreNodes (ground_in e) (sets_below place.group.now) (slice_set nodes i (with_parts node parts))
+  object-grown parts groups have = node-with (ground_in e) (sets_below place.group.now) nodes i node parts are (sym value) groups have
+
+  module _ (x : X) (before after : List GraphQLError) where
+    -- what is made where its members are these
+    abbrev pub MakesObject : Option (List Value) → Type 0
+    MakesObject made =
+        MakesBelow (world_of e types resolves) (group_of place.group.now) made before after
+        (λ run. settled (spot_of place) (one_object (run U x (trail (spot_of place)) (group_of place.group.now).pieces)))
+
+    abbrev pub ExecutesParts : Option (List Member) → Type 0
+    ExecutesParts found =
+        ExecutesGroups (world_of e types resolves) U x (trail_of (Below place.around place.step place.ty)) (views (groups_in (parts_in node))) found before after
+
+    executes : (found : Option (List Member)) → ExecutesParts found
+        → Executes (world_of e types resolves) U x (trail_of (Below place.around place.step place.ty)) (sets_below place.group.now) found before after
+    executes found =
+        node-executed e types resolves U rank ranked (sets_below place.group.now) nodes i node are there (sym value) x (trail_of (Below place.around place.step place.ty)) found before after
+
+    pub object-made : (found : Option (List Member)) (members : List Member) → found ≡ Some members → ExecutesParts found → MakesObject (Some (json.Object members ∷ []))
+    object-made found members is run =
+        made-members (world_of e types resolves) (spot_of place) before after U x (trail_of (Below place.around place.step place.ty)) (sets_below place.group.now) members (trail-place place) refl
+        (executes (Some members) (subst ExecutesParts is run))
+
+    pub object-null : (found : Option (List Member)) (made : Option (List Value)) → found ≡ None → made ≡ null_at place.ty.now → ExecutesParts found → MakesObject made
+    object-null found made is null run =
+        subst MakesObject (sym null)
+        (made-null (world_of e types resolves) (spot_of place) before after U x (trail_of (Below place.around place.step place.ty)) (sets_below place.group.now) (trail-place place) refl
+        (executes None (subst ExecutesParts is run)))

@@ -1,0 +1,7 @@
+-- What plans of an execution are made from.
+use Rattle.gql_exec_plan.specs.Plan.{Ground}
+use Rattle.gql_exec_request.specs.declared.executing.Executing.{Executing}
+
+abbrev pub ground_in : Executing → Ground
+ground_in executing =
+    record { fragments = executing.request.document.now.fragments; schema = executing.request.schema.now; variables = executing.variables.now }
