@@ -15,7 +15,6 @@ use jb_text::{Listed, Memory, Text};
 use std::alloc::Global;
 
 /// A field of an object type or an interface type (GraphQL October 2021, section 3.6).
-#[derive(Drop)]
 pub struct FieldDefinition {
     pub description: Option<Text>,
     pub name: Name,
@@ -25,8 +24,20 @@ pub struct FieldDefinition {
     pub location: Option<SourceSpan>,
 }
 
+impl Drop for FieldDefinition {
+    fn drop(self) {
+        let FieldDefinition {
+            description: _,
+            name: _,
+            arguments: _,
+            ty: _,
+            directives: _,
+            location: _,
+        } = self;
+    }
+}
+
 /// An argument of a field or a directive (section 3.6.1), or a field of an input object type (section 3.10).
-#[derive(Drop)]
 pub struct InputValueDefinition {
     pub description: Option<Text>,
     pub name: Name,
@@ -36,13 +47,36 @@ pub struct InputValueDefinition {
     pub location: Option<SourceSpan>,
 }
 
+impl Drop for InputValueDefinition {
+    fn drop(self) {
+        let InputValueDefinition {
+            description: _,
+            name: _,
+            ty: _,
+            default_value: _,
+            directives: _,
+            location: _,
+        } = self;
+    }
+}
+
 /// A value of an enum type (section 3.9).
-#[derive(Drop)]
 pub struct EnumValueDefinition {
     pub description: Option<Text>,
     pub value: Name,
     pub directives: Listed<Directive>,
     pub location: Option<SourceSpan>,
+}
+
+impl Drop for EnumValueDefinition {
+    fn drop(self) {
+        let EnumValueDefinition {
+            description: _,
+            value: _,
+            directives: _,
+            location: _,
+        } = self;
+    }
 }
 
 impl Copying for FieldDefinition {

@@ -25,7 +25,6 @@ pub struct SchemaDefinition {
 }
 
 /// A directive that may be used (GraphQL October 2021, section 3.13).
-#[derive(Drop)]
 pub struct DirectiveDefinition {
     pub description: Option<Text>,
     pub name: Name,
@@ -33,6 +32,19 @@ pub struct DirectiveDefinition {
     pub repeatable: bool,
     pub locations: Listed<DirectiveLocation>,
     pub location: Option<SourceSpan>,
+}
+
+impl Drop for DirectiveDefinition {
+    fn drop(self) {
+        let DirectiveDefinition {
+            description: _,
+            name: _,
+            arguments: _,
+            repeatable: _,
+            locations: _,
+            location: _,
+        } = self;
+    }
 }
 
 /// Where a directive may stand (section 3.13).

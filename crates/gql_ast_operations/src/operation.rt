@@ -27,13 +27,24 @@ pub struct OperationDefinition {
 }
 
 /// A variable that an operation takes (section 2.10).
-#[derive(Drop)]
 pub struct VariableDefinition {
     pub name: Name,
     pub ty: TypeRef,
     pub default_value: Option<Value>,
     pub directives: Listed<Directive>,
     pub location: Option<SourceSpan>,
+}
+
+impl Drop for VariableDefinition {
+    fn drop(self) {
+        let VariableDefinition {
+            name: _,
+            ty: _,
+            default_value: _,
+            directives: _,
+            location: _,
+        } = self;
+    }
 }
 
 /// A fragment with a name (section 2.8).

@@ -14,19 +14,37 @@ use jb_text::{Listed, Memory};
 use std::alloc::Global;
 
 /// A directive on something (GraphQL October 2021, section 2.12).
-#[derive(Drop)]
 pub struct Directive {
     pub name: Name,
     pub arguments: Listed<Argument>,
     pub location: Option<SourceSpan>,
 }
 
+impl Drop for Directive {
+    fn drop(self) {
+        let Directive {
+            name: _,
+            arguments: _,
+            location: _,
+        } = self;
+    }
+}
+
 /// An argument of a field or a directive (section 2.6).
-#[derive(Drop)]
 pub struct Argument {
     pub name: Name,
     pub value: Value,
     pub location: Option<SourceSpan>,
+}
+
+impl Drop for Argument {
+    fn drop(self) {
+        let Argument {
+            name: _,
+            value: _,
+            location: _,
+        } = self;
+    }
 }
 
 impl Copying for Directive {

@@ -17,10 +17,18 @@ use std::alloc::Global;
 use std::marker::Model;
 
 /// The types that say that they implement an interface, each once, in the order of the schema's types.
-#[derive(Drop)]
 pub struct Implementers {
     pub objects: Listed<Name>,
     pub interfaces: Listed<Name>,
+}
+
+impl Drop for Implementers {
+    fn drop(self) {
+        let Implementers {
+            objects: _,
+            interfaces: _,
+        } = self;
+    }
 }
 
 /// The types that implement each interface, as [`Schema::implementers_map`] makes it.

@@ -11,7 +11,6 @@ use gql_source::SourceSpan;
 use jb_text::{Listed, Text};
 
 /// A scalar type (GraphQL October 2021, section 3.5).
-#[derive(Drop)]
 pub struct ScalarType {
     pub description: Option<Text>,
     pub name: Name,
@@ -19,8 +18,18 @@ pub struct ScalarType {
     pub location: Option<SourceSpan>,
 }
 
+impl Drop for ScalarType {
+    fn drop(self) {
+        let ScalarType {
+            description: _,
+            name: _,
+            directives: _,
+            location: _,
+        } = self;
+    }
+}
+
 /// An object type (section 3.6).
-#[derive(Drop)]
 pub struct ObjectType {
     pub description: Option<Text>,
     pub name: Name,
@@ -30,8 +39,20 @@ pub struct ObjectType {
     pub location: Option<SourceSpan>,
 }
 
+impl Drop for ObjectType {
+    fn drop(self) {
+        let ObjectType {
+            description: _,
+            name: _,
+            implements_interfaces: _,
+            directives: _,
+            fields: _,
+            location: _,
+        } = self;
+    }
+}
+
 /// An interface type (section 3.7).
-#[derive(Drop)]
 pub struct InterfaceType {
     pub description: Option<Text>,
     pub name: Name,
@@ -41,8 +62,20 @@ pub struct InterfaceType {
     pub location: Option<SourceSpan>,
 }
 
+impl Drop for InterfaceType {
+    fn drop(self) {
+        let InterfaceType {
+            description: _,
+            name: _,
+            implements_interfaces: _,
+            directives: _,
+            fields: _,
+            location: _,
+        } = self;
+    }
+}
+
 /// A union type (section 3.8).
-#[derive(Drop)]
 pub struct UnionType {
     pub description: Option<Text>,
     pub name: Name,
@@ -51,8 +84,19 @@ pub struct UnionType {
     pub location: Option<SourceSpan>,
 }
 
+impl Drop for UnionType {
+    fn drop(self) {
+        let UnionType {
+            description: _,
+            name: _,
+            directives: _,
+            members: _,
+            location: _,
+        } = self;
+    }
+}
+
 /// An enum type (section 3.9).
-#[derive(Drop)]
 pub struct EnumType {
     pub description: Option<Text>,
     pub name: Name,
@@ -61,14 +105,37 @@ pub struct EnumType {
     pub location: Option<SourceSpan>,
 }
 
+impl Drop for EnumType {
+    fn drop(self) {
+        let EnumType {
+            description: _,
+            name: _,
+            directives: _,
+            values: _,
+            location: _,
+        } = self;
+    }
+}
+
 /// An input object type (section 3.10).
-#[derive(Drop)]
 pub struct InputObjectType {
     pub description: Option<Text>,
     pub name: Name,
     pub directives: Listed<Directive>,
     pub fields: Table<InputValueDefinition>,
     pub location: Option<SourceSpan>,
+}
+
+impl Drop for InputObjectType {
+    fn drop(self) {
+        let InputObjectType {
+            description: _,
+            name: _,
+            directives: _,
+            fields: _,
+            location: _,
+        } = self;
+    }
 }
 
 /// A type of any kind (GraphQL October 2021, section 3.4).
