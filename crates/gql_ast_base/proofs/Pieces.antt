@@ -1,11 +1,12 @@
 -- Where the text of a token lies.
-use Rattle.std.proofs.Common.{◌≡◌, ℕ, ◌<◌, ◌≤◌, Bool, true, false, if◌then◌else◌, nat_eq, nat_lt, length, Option, Some, None, refl, sym, ◌∙◌, arith}
-use Rattle.std.specs.Prelude.{◌&&◌, ◌||◌, nat_le, slice_range}
+use Rattle.std.proofs.Common.{◌≡◌, ℕ, ◌<◌, ◌≤◌, Bool, true, false, if◌then◌else◌, nat_eq, nat_lt, length, Option, Some, None, refl, sym, subst, ◌∙◌, arith}
+use Rattle.std.specs.Prelude.{◌&&◌, ◌||◌, nat_le, slice_range, option_and_then}
 use Rattle.std.proofs.lemmas.Bool.{eqb-true, leb-true, ltb-true}
 use Rattle.gql_cst.specs.Forest.{Plain}
 use Rattle.gql_cst_grammar.specs.declared.syntax_kind.SyntaxKind.TheVariants.{Token}
 use Rattle.gql_ast_base.specs.Kinds.{is_kind}
-use Rattle.gql_ast_base.specs.Parts.{Text, is_boundary, piece, token_text}
+use Rattle.gql_ast_base.specs.Names.{is_name}
+use Rattle.gql_ast_base.specs.Parts.{Text, is_boundary, piece, token_text, word}
 
 -- the text is the piece between these places
 pub record Lies (text found : Text) (start end : ℕ) : Type 0 where
@@ -45,3 +46,20 @@ pub token-lies : (text found : Text) (tree : Plain) → Some found ≡ token_tex
 unfolding token_text
 token-lies text found tree h =
     piece-lies text found tree.start tree.end (chosen (is_kind tree.kind Token) found (piece text tree.start tree.end) h).1
+
+named-text : (found : Text) (o : Option Text) → Some found ≡ option_and_then (λ text. if is_name text then Some text else None) o
+    → (Some found ≡ o) × (is_name found ≡ true)
+named-text found None h = absurd (cc)
+named-text found (Some text) h =
+    let c = chosen (is_name text) found (Some text) h in
+    let same : found ≡ text = some-same found text c.1 in
+    (c.1, subst (λ t. is_name t ≡ true) (sym same) c.0)
+
+-- the text of a token that is a name is a name, and lies where the token does
+pub word-lies : (text found : Text) (tree : Plain) → Some found ≡ word text tree → Lies text found tree.start tree.end
+unfolding word
+word-lies text found tree h = token-lies text found tree (named-text found (token_text text tree) h).0
+
+pub word-named : (text found : Text) (tree : Plain) → Some found ≡ word text tree → is_name found ≡ true
+unfolding word
+word-named text found tree h = (named-text found (token_text text tree) h).1

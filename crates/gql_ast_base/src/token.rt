@@ -1,6 +1,6 @@
 //! The tokens of concrete trees.
 
-ghost use Rattle.std.specs.Prelude.{◌≡◌, IfOk};
+ghost use Rattle.std.specs.Prelude.{◌≡◌, Some, IfOk, IfSome};
 ghost use Rattle.std.specs.Option.{option_map, option_copied};
 ghost use Rattle.gql_cst.specs.Forest.{plain, forest};
 ghost use Rattle.gql_ast_base.specs.Parts as parts;
@@ -56,30 +56,37 @@ pub fn word<'a>(text: &'a str, tree: &Tree) -> Option<&'a str>
     }
 }
 
+/// The name that a token is, whose text is given.
+fn named(source: &Source<'_>, tree: &Tree, found: &str) -> Result<Name, Memory>
+    requires { Some found.now ≡ parts.word source.now.text.now (plain tree.now) }
+    ensures { IfOk result (λ made. made ≡ record { text = found.now; location = parts.location source.now.file_id (plain tree.now) }) }
+{
+    let text = source.cut(tree.range(), found)?;
+    Ok(Name::at(text, location(source.file_id, tree)))
+}
+
 /// The name that a token is.
-#[tactic(auto, unfolding(crate::specs::Parts::name_of, crate::specs::Parts::word))]
+#[tactic(auto, unfolding(crate::specs::Parts::name_of))]
 pub(crate) fn name_of(source: &Source<'_>, tree: &Tree) -> Result<Option<Name>, Memory>
     ensures { IfOk result (λ made. made ≡ parts.name_of source.now.text.now source.now.file_id (plain tree.now)) }
 {
-    let Some(found) = token_text(source.text, tree) else {
+    let Some(found) = word(source.text, tree) else {
         return Ok(None);
     };
-    if !Name::is_valid_syntax(found) {
-        return Ok(None);
-    }
-    let text = source.cut(tree.range(), found)?;
-    Ok(Some(Name::at(text, location(source.file_id, tree))))
+    let name = named(source, tree, found)?;
+    Ok(Some(name))
 }
 
-/// The nth name among the trees, counted from 0.
-pub(crate) fn nth_word<'a>(nodes: &'a [Tree], text: &str, n: usize) -> Option<&'a Tree>
-    ensures { option_map (λ tree. plain tree.now) result ≡ parts.nth_word text.now n (forest nodes.now) }
+/// The nth name among the trees, counted from 0, and its text.
+fn nth_found<'a, 't>(nodes: &'a [Tree], text: &'t str, n: usize) -> Option<(&'a Tree, &'t str)>
+    ensures tree { option_map (λ found. plain found.0.now) result ≡ parts.nth_word text.now n (forest nodes.now) }
+    ensures text { IfSome result (λ found. Some found.1.now ≡ parts.word text.now (plain found.0.now)) }
 {
     let mut left = n;
     for node in nodes {
-        if word(text, node).is_some() {
+        if let Some(found) = word(text, node) {
             if left == 0 {
-                return Some(node);
+                return Some((node, found));
             }
             left -= 1;
         }
@@ -92,23 +99,23 @@ pub(crate) fn nth_word<'a>(nodes: &'a [Tree], text: &str, n: usize) -> Option<&'
 pub fn nth_text<'a>(nodes: &[Tree], text: &'a str, n: usize) -> Option<&'a str>
     ensures { option_copied result ≡ parts.nth_text text.now n (forest nodes.now) }
 {
-    match nth_word(nodes, text, n) {
-        Some(tree) => word(text, tree),
+    match nth_found(nodes, text, n) {
+        Some((_tree, found)) => Some(found),
         None => None,
     }
 }
 
 /// The nth name among the trees, counted from 0 (GraphQL October 2021, section 2.1.9). `Err` only where memory runs
 /// out.
-#[tactic(auto, unfolding(crate::specs::Parts::nth_name))]
+#[tactic(auto, unfolding(crate::specs::Parts::nth_name, crate::specs::Parts::name_of))]
 pub fn nth_name(source: &Source<'_>, nodes: &[Tree], n: usize) -> Result<Option<Name>, Memory>
     ensures { IfOk result (λ made. made ≡ parts.nth_name source.now.text.now source.now.file_id n (forest nodes.now)) }
 {
-    let Some(tree) = nth_word(nodes, source.text, n) else {
+    let Some((tree, found)) = nth_found(nodes, source.text, n) else {
         return Ok(None);
     };
-    let name = name_of(source, tree)?;
-    Ok(name)
+    let name = named(source, tree, found)?;
+    Ok(Some(name))
 }
 
 /// Whether the nth name among the trees is the word.
