@@ -33,7 +33,7 @@ chosen false x p h = absurd (cc)
 some-same : {T : Type 0} (x y : T) → Some x ≡ Some y → x ≡ y
 some-same x y h = cc
 
-piece-lies : (text found : Text) (start end : ℕ) → Some found ≡ piece text start end → Lies text found start end
+pub piece-lies : (text found : Text) (start end : ℕ) → Some found ≡ piece text start end → Lies text found start end
 unfolding piece
 piece-lies text found start end h =
     let c = chosen (nat_le start end && is_boundary text start && is_boundary text end) found (Some (slice_range text start end)) h in

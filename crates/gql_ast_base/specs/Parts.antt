@@ -112,6 +112,14 @@ word text tree = option_and_then (λ found. if is_name found then Some found els
 unfoldable pub name_of : Text → FileId → Plain → Option Named
 name_of text file tree = option_map (λ found. record { text = found; location = location file tree }) (word text tree)
 
+-- the name that stands in this range of a text, if one does
+unfoldable pub name_in : Text → FileId → ℕ → ℕ → Option Named
+name_in text file start end =
+    option_and_then (λ found. if is_name found then Some (record {
+      text = found;
+      location = Some (record { file_id = file; offset = start; end_offset = end });
+    }) else None) (piece text start end)
+
 -- the tree, if it is a name
 abbrev pub word_leaf : Text → Plain → Option Plain
 word_leaf text tree = option_map (λ _. tree) (word text tree)

@@ -2,8 +2,11 @@
 
 ghost use Rattle.std.specs.Prelude.{◌≡◌, ◌≤◌, IfOk, length, slice_range, unwrap_or};
 ghost use Rattle.std.specs.Option.{option_map};
+ghost use Rattle.gql_ast_base.specs.Parts as parts;
 
-use gql_source::FileId;
+use crate::name::Name;
+use crate::token::piece;
+use gql_source::{FileId, SourceSpan};
 use jb_text::{ByteString, Memory, Refused};
 use std::alloc::{AllocError, Global};
 use std::ops::Range;
@@ -47,6 +50,24 @@ impl<'t> Source<'t> {
             shared: Some(text),
             file_id,
         }
+    }
+
+    /// The name that stands in this range of the text, which is also its place. `None` where the range does not lie between
+    /// characters of the text, or what stands there is no name; `Err` only where memory runs out.
+    #[tactic(auto, unfolding(crate::specs::Parts::name_in))]
+    pub fn name_in(&self, range: Range<usize>) -> Result<Option<Name>, Memory>
+        ensures { IfOk result (λ made. made ≡ parts.name_in self.now.text.now self.now.file_id range.start range.end) }
+    {
+        let (start, end) = (range.start, range.end);
+        let Some(found) = piece(self.text, start, end) else {
+            return Ok(None);
+        };
+        if !Name::is_valid_syntax(found) {
+            return Ok(None);
+        }
+        let text = self.cut(range, found)?;
+        let place = SourceSpan::new(self.file_id, start, end);
+        Ok(Some(Name::at(text, Some(place))))
     }
 
     /// A piece of the text, which lies in this range. `Err` only where memory runs out.

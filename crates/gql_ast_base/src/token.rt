@@ -21,7 +21,7 @@ fn is_boundary(text: &str, at: usize) -> bool
 
 /// The part of the text between two places that lie between characters.
 #[tactic(auto, unfolding(crate::specs::Parts::piece))]
-fn piece(text: &str, start: usize, end: usize) -> Option<&str>
+pub(crate) fn piece(text: &str, start: usize, end: usize) -> Option<&str>
     ensures { option_copied result ≡ parts.piece text.now start end }
 {
     if start <= end && is_boundary(text, start) && is_boundary(text, end) {
