@@ -91,6 +91,14 @@ impl Name {
         self.text.as_str()
     }
 
+    /// The text of the name, which may share the bytes of the text that it was read from.
+    #[must_use]
+    pub fn text(&self) -> &ByteString
+        ensures { result.now ≡ self.now.text }
+    {
+        &self.text
+    }
+
     /// The place that the name was read from, if it was read.
     #[must_use]
     pub fn location(&self) -> Option<SourceSpan>

@@ -142,8 +142,10 @@ impl Convert for InputValueDefinition {
             return Ok(None);
         }
         let nodes = tree.children().as_slice();
-        let (name, ty) = both(nth_name(source, nodes, 0), first(source, nodes))?;
-        let Some((name, ty)) = name.zip(ty) else {
+        let Some(name) = nth_name(source, nodes, 0)? else {
+            return Ok(None);
+        };
+        let Some(ty) = first(source, nodes)? else {
             return Ok(None);
         };
         let (description, default_value, directives) = all_three(
@@ -171,8 +173,10 @@ impl Convert for FieldDefinition {
             return Ok(None);
         }
         let nodes = tree.children().as_slice();
-        let (name, ty) = both(nth_name(source, nodes, 0), first(source, nodes))?;
-        let Some((name, ty)) = name.zip(ty) else {
+        let Some(name) = nth_name(source, nodes, 0)? else {
+            return Ok(None);
+        };
+        let Some(ty) = first(source, nodes)? else {
             return Ok(None);
         };
         let (description, arguments, directives) = all_three(

@@ -13,12 +13,13 @@ use std::alloc::Global;
 use std::marker::Model;
 use std::mem;
 
-/// Up to this many entries a look-up goes through them; past it an index of their names is kept.
-const MOST_SCANNED: usize = 16;
+/// Up to this many entries a look-up goes through them; past it an index of their names is kept. A
+/// schema's table of types always passes it, by the built-in ones alone.
+const MOST_SCANNED: usize = 12;
 
 /// Things in order, no two of one name. Contracts see the list of them.
 ///
-/// A new name goes last. Finding is expected to take constant time; a table of at most sixteen entries has no index.
+/// A new name goes last. Finding is expected to take constant time; a table of at most twelve entries has no index.
 #[derive(Drop)]
 pub struct Table<T: Named> {
     entries: Vec<T>,
