@@ -23,7 +23,7 @@ any_append test (x ∷ xs) ys = by_test (test x) (any_append test xs ys)
     by_test true later = refl
     by_test false later = later
 
-any_twice : {X Y : Type 0} (test : Y → Bool) (f : X → List Y) (xs : List X) → list_any test (flat_map f xs) ≡ list_any (λ x. list_any test (f x)) xs
+pub any_twice : {X Y : Type 0} (test : Y → Bool) (f : X → List Y) (xs : List X) → list_any test (flat_map f xs) ≡ list_any (λ x. list_any test (f x)) xs
 any_twice test f [] = refl
 any_twice test f (x ∷ xs) = any_append test (f x) (flat_map f xs) ∙ ap (λ b. list_any test (f x) || b) (any_twice test f xs)
 
@@ -31,7 +31,7 @@ any_same : {X : Type 0} (f g : X → Bool) → ((x : X) → f x ≡ g x) → (xs
 any_same f g same [] = refl
 any_same f g same (x ∷ xs) = λ i. same x i || any_same f g same xs i
 
-or_false : (b : Bool) → (b || false) ≡ b
+pub or_false : (b : Bool) → (b || false) ≡ b
 or_false true = refl
 or_false false = refl
 
@@ -171,7 +171,7 @@ reaching r marks starts old states told as_many are begun flooded = record {
     zero_at x within = ap (λ l. slice_get l x) begun ∙ zero_in (length marks) x within
 
 -- ---- the whole
-both_true : (a b : Bool) → (a && b) ≡ true → (a ≡ true) × (b ≡ true)
+pub both_true : (a b : Bool) → (a && b) ≡ true → (a ≡ true) × (b ≡ true)
 both_true true true h = (refl, refl)
 both_true true false h = absurd cc
 both_true false b h = absurd cc

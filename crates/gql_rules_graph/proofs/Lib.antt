@@ -1,5 +1,6 @@
 pub mod Chained
 pub mod Cyclic
+pub mod Ends
 pub mod Flooded
 pub mod Marks
 pub mod Parts

@@ -1,12 +1,14 @@
 //! Names that lead back to themselves, and chains of names that are too long.
 
-ghost use Rattle.std.specs.Prelude.{◌≡◌, ◌++◌, ℕ, length, IfOk, OnOk};
+ghost use Rattle.std.specs.Prelude.{◌≡◌, ◌++◌, ℕ, true, length, IfOk, OnOk};
 ghost use Rattle.std.specs.List.{list_any};
 ghost use Rattle.gql_rules_graph.specs.Chains as spec;
 ghost use Rattle.gql_rules_graph.specs.Cycles.{Told};
+ghost use Rattle.gql_rules_graph.specs.Flat.{is_flat};
 ghost use Rattle.gql_rules_graph.specs.Graph.{row};
 
 use crate::cycles::on_cycles;
+use crate::flat::is_flat;
 use crate::reach::{flood, has, targets};
 use crate::reverse::reverse;
 use jb_text::{Listed, Memory};
@@ -28,6 +30,27 @@ pub struct Judged {
 /// there though no cycle is reached. Only the nodes before `named` are names: a chain goes on through the others. `Err` only
 /// for want of memory.
 pub fn judge(alloc: Global, graph: &Listed<Listed<usize>>, named: usize) -> Result<Judged, Memory>
+    ensures { IfOk result (λ judged. spec.AreJudged graph.now named judged.recursive.items judged.long.items) }
+{
+    if is_flat(graph) {
+        judge_flat(alloc, graph, named)
+    } else {
+        judge_walks(alloc, graph, named)
+    }
+}
+
+/// Tells of a graph in which no edge leads on from where another leads: no node is on a cycle, and no chain is long.
+fn judge_flat(alloc: Global, graph: &Listed<Listed<usize>>, named: usize) -> Result<Judged, Memory>
+    requires { is_flat graph.now ≡ true }
+    ensures { IfOk result (λ judged. spec.AreJudged graph.now named judged.recursive.items judged.long.items) }
+{
+    let recursive = vec![in alloc; false; graph.len()]?;
+    let long = vec![in alloc; false; graph.len()]?;
+    Ok(Judged { recursive, long })
+}
+
+/// Tells of a graph what [`judge`] tells, by walks along its edges.
+fn judge_walks(alloc: Global, graph: &Listed<Listed<usize>>, named: usize) -> Result<Judged, Memory>
     ensures { IfOk result (λ judged. spec.AreJudged graph.now named judged.recursive.items judged.long.items) }
 {
     let reversed = reverse(alloc, graph)?;

@@ -7,6 +7,7 @@
 
 mod chains;
 mod cycles;
+mod flat;
 mod order;
 mod reach;
 mod reverse;

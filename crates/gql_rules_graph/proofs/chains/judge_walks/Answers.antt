@@ -2,7 +2,7 @@ use Rattle.std.proofs.Common.{◌≡◌, ℕ, Bool, List, length, sym, ap, ◌�
 use Rattle.gql_rules_graph.specs.Chains.{AreReaching, is_long}
 use Rattle.gql_rules_graph.specs.Cycles.{Told}
 use Rattle.gql_rules_graph.proofs.Chained.{judged}
-use Rattle.gql_rules_graph.proofs.chains.judge.Goals as goal
+use Rattle.gql_rules_graph.proofs.chains.judge_walks.Goals as goal
 
 pub returns : goal.returns
 returns c =
