@@ -99,6 +99,14 @@ def many_arguments(count):
     return request("type Query{f(" + defined + "):Int}", "{f(" + given + ")}", data={"f": 1})
 
 
+def many_alike(count):
+    """One field with arguments, which are given in two orders, so often, and as often one with sets below it."""
+    given = ["a:1 b:{c:2 d:[3]}", "b:{d:[3] c:2} a:1"]
+    one = " ".join(f"f({it}) q({it}){{q({it}){{f({it})}}}}" for it in given)
+    schema = "input I{c:Int d:[Int]}type Query{f(a:Int b:I):Int q(a:Int b:I):Query}"
+    return request(schema, "{" + one * (count // 2) + "}", data={"f": 1, "q": {"q": {"f": 1}}})
+
+
 def many_types(count):
     """A schema of so many types that name each other."""
     types = "".join(f"type T{number}{{t:T{(number * 7 + 1) % count} x:Int}}" for number in range(count))
@@ -141,6 +149,7 @@ def large(count):
     yield "errors", many_errors(count), [ANSWERED]
     yield "variables", many_variables(count), [ANSWERED]
     yield "arguments", many_arguments(count // 10), [ANSWERED]
+    yield "alike", many_alike(count // 10), [ANSWERED]
     yield "types", many_types(count), [ANSWERED]
 
 

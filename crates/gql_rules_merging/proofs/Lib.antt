@@ -2,7 +2,9 @@ mod ClassGrowth
 mod Keyed
 mod Likeness
 mod Pairing
+mod SameArguments
 mod Screened
 mod SmallFacts
 mod ToldPairs
+mod Truths
 mod Untold

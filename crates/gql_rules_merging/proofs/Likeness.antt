@@ -1,12 +1,10 @@
 -- Fields that differ in their places alone: what they select, and what they conflict with.
-use Rattle.std.proofs.Common.{◌≡◌, ◌⊎◌, inl, inr, ℕ, ◌+◌, ◌-◌, ◌<◌, ◌≤◌, Bool, true, false, not, ◌&&◌, ◌||◌, ◌==◌, Some, List, [], ◌∷◌, length, refl, sym, ap, ◌∙◌, subst, arith}
-use Rattle.std.specs.List.{Contains, list_all, slice_get}
+use Rattle.std.proofs.Common.{◌≡◌, ◌⊎◌, inl, inr, ℕ, ◌+◌, ◌-◌, ◌<◌, ◌≤◌, Bool, true, false, not, ◌&&◌, ◌||◌, ◌==◌, List, [], ◌∷◌, length, refl, sym, ap, ◌∙◌, subst, arith}
+use Rattle.std.specs.List.{Contains}
 use Rattle.std.specs.Prelude.{nat_le, nat_lt}
 use Rattle.std.specs.Str.{bytes_eq}
-use Rattle.std.specs.Bool.{beq}
 use Rattle.std.proofs.lemmas.Bool.{eqb-true, leb-true, ltb-true}
 use Rattle.std.proofs.lemmas.List.Elements.{Contains-append_right}
-use Rattle.std.proofs.lemmas.Slice.Eq.{bytes_eq-Decides}
 use Rattle.gql_ast_values.specs.declared.directive.Argument.{Argument}
 use Rattle.gql_rules_base.specs.TypeShape.{named_type}
 use Rattle.gql_rules_graph.proofs.Flooded.{Contains-cons_cases, none_contained}
@@ -16,71 +14,52 @@ use Rattle.gql_rules_graph.specs.Graph.{Graph}
 use Rattle.gql_rules_pairs.specs.Explored.{class_of}
 use Rattle.gql_rules_pairs.specs.Pairs.{IsField}
 use Rattle.gql_schema_types.specs.declared.types.ExtendedType.{ExtendedType}
-use Rattle.gql_rules_merging.specs.Classes.{is_empty, same_head, has_class, same_item, same_items, is_like}
+use Rattle.gql_rules_merging.proofs.SameArguments.{arguments_on}
+use Rattle.gql_rules_merging.proofs.Truths.{both_true, either_true, one_text, text_refl, text_turned, one_levels, levels_refl}
+use Rattle.gql_rules_merging.specs.Classes.{same_both_ways, same_head, has_class, same_item, same_items, is_like}
 use Rattle.gql_rules_merging.specs.ConflictingFieldArgument.{same_arguments}
 use Rattle.gql_rules_merging.specs.ConflictingFieldType.{levels, same_levels, same_named, is_composite_name, types_conflict}
 use Rattle.gql_rules_merging.specs.FieldSelectionMerging.{is_broken, are_apart, is_object_name}
 use Rattle.gql_rules_merging.specs.Numbering.{Selected}
 use Rattle.gql_rules_merging.specs.ResponseKeys.{key_of}
 
--- ---- tests
+-- ---- arguments
 
-pub both_true : (a b : Bool) → (a && b) ≡ true → (a ≡ true) × (b ≡ true)
-both_true true b is = (refl, is)
-both_true false b is = absurd cc
+-- the same list, or each has the arguments of the other
+abbrev pub SameGiven : List Argument → List Argument → Type 0
+SameGiven a b = (a ≡ b) ⊎ ((same_arguments a b ≡ true) × (same_arguments b a ≡ true))
 
-pub either_true : (a b : Bool) → (a || b) ≡ true → (a ≡ true) ⊎ (b ≡ true)
-either_true true b is = inl refl
-either_true false b is = inr is
+given_turned : (a b : List Argument) → SameGiven a b → SameGiven b a
+given_turned a b (inl e) = inl (sym e)
+given_turned a b (inr s) = inr (s.1, s.0)
 
-pub one_text : (xs ys : List ℕ) → bytes_eq xs ys ≡ true → xs ≡ ys
-one_text xs ys is = (bytes_eq-Decides xs ys).0 is
+given_on : (a b c : List Argument) → SameGiven a b → SameGiven b c → SameGiven a c
+given_on a b c (inl e) t = subst (λ l. SameGiven l c) (sym e) t
+given_on a b c (inr s) (inl e) = subst (SameGiven a) e (inr s)
+given_on a b c (inr s) (inr t) = inr (arguments_on a b c s.0 t.0, arguments_on c b a t.1 s.1)
 
-pub text_refl : (xs : List ℕ) → bytes_eq xs xs ≡ true
-text_refl xs = (bytes_eq-Decides xs xs).1 refl
+equal_tests : (t u : Bool) → (t ≡ true → u ≡ true) → (u ≡ true → t ≡ true) → t ≡ u
+equal_tests true u to back = sym (to refl)
+equal_tests false true to back = back refl
+equal_tests false false to back = refl
 
-pub text_turned : (xs ys : List ℕ) → bytes_eq xs ys ≡ bytes_eq ys xs
-text_turned xs ys = by_tests (bytes_eq xs ys) refl (bytes_eq ys xs) refl
+-- such arguments are the same as the same others
+pub given_alike : (a b c d : List Argument) → SameGiven a c → SameGiven b d → same_arguments a b ≡ same_arguments c d
+given_alike a b c d s t = first s ∙ second t
   where
-    by_tests : (t : Bool) → bytes_eq xs ys ≡ t → (u : Bool) → bytes_eq ys xs ≡ u → t ≡ u
-    by_tests true a true b = refl
-    by_tests false a false b = refl
-    by_tests true a false b = sym (text_refl xs) ∙ ap (λ z. bytes_eq z xs) (one_text xs ys a) ∙ b
-    by_tests false a true b = sym a ∙ ap (λ z. bytes_eq xs z) (one_text ys xs b) ∙ text_refl xs
+    first : SameGiven a c → same_arguments a b ≡ same_arguments c b
+    first (inl e) = ap (λ l. same_arguments l b) e
+    first (inr s) = equal_tests (same_arguments a b) (same_arguments c b) (arguments_on c a b s.1) (arguments_on a c b s.0)
 
-pub beq-true : (x y : Bool) → beq x y ≡ true → x ≡ y
-beq-true true true is = refl
-beq-true true false is = absurd cc
-beq-true false true is = absurd cc
-beq-true false false is = refl
+    second : SameGiven b d → same_arguments c b ≡ same_arguments c d
+    second (inl e) = ap (same_arguments c) e
+    second (inr t) = equal_tests (same_arguments c b) (same_arguments c d) (λ is. arguments_on c b d is t.0) (λ is. arguments_on c d b is t.1)
 
-pub one_levels : (xs ys : List Bool) → same_levels xs ys ≡ true → xs ≡ ys
-one_levels [] [] is = refl
-one_levels [] (y ∷ ys) is = absurd cc
-one_levels (x ∷ xs) [] is = absurd cc
-one_levels (x ∷ xs) (y ∷ ys) is =
-    let parts = both_true (beq x y) (same_levels xs ys) is in
-    let first = beq-true x y parts.0 in
-    let rest = one_levels xs ys parts.1 in
-    λ i. first i ∷ rest i
+-- a field that conflicts with none that has its arguments
+abbrev pub IsOwnMatch : Selected → Type 0
+IsOwnMatch x = same_arguments x.arguments x.arguments ≡ true
 
-pub levels_refl : (xs : List Bool) → same_levels xs xs ≡ true
-levels_refl [] = refl
-levels_refl (true ∷ xs) = levels_refl xs
-levels_refl (false ∷ xs) = levels_refl xs
-
-pub empty_none : (xs : List Argument) → is_empty xs ≡ true → xs ≡ []
-empty_none [] is = refl
-empty_none (x ∷ xs) is = absurd cc
-
-pub one_got : {A : Type 0} (xs : List A) (i : ℕ) (x y : A) → slice_get xs i ≡ Some x → slice_get xs i ≡ Some y → x ≡ y
-one_got xs i x y a b = let e : Some x ≡ Some y = sym a ∙ b in cc
-
-pub all_at : {A : Type 0} (test : A → Bool) (xs : List A) (x : A) → list_all test xs ≡ true → Contains xs x → test x ≡ true
-all_at test [] x all c = absurd (none_contained x c)
-all_at test (y ∷ ys) x all c =
-    let parts = both_true (test y) (list_all test ys) all in
-    elim (Contains-cons_cases y ys x c) [ inl e ↦ ap test (sym e) ∙ parts.0 | inr later ↦ all_at test ys x parts.1 later ]
+-- ---- fields
 
 module _ (base count : ℕ) (classes : List ℕ) where
   abbrev pub Same : ℕ → ℕ → Type 0
@@ -120,20 +99,20 @@ module _ (base count : ℕ) (classes : List ℕ) where
     pub parent : one.parent.text ≡ two.parent.text
     pub key : key_of one ≡ key_of two
     pub name : one.name.text ≡ two.name.text
-    pub arguments : one.arguments ≡ two.arguments
+    pub arguments : SameGiven one.arguments two.arguments
     pub shape : levels one.definition.ty ≡ levels two.definition.ty
     pub named : (named_type one.definition.ty).text ≡ (named_type two.definition.ty).text
     pub selected : AllSame one.items two.items
 
   pub like_refl : (x : Selected) → Like x x
-  like_refl x = record { parent = refl; key = refl; name = refl; arguments = refl; shape = refl; named = refl; selected = all_refl x.items }
+  like_refl x = record { parent = refl; key = refl; name = refl; arguments = inl refl; shape = refl; named = refl; selected = all_refl x.items }
 
   pub like_turned : (x y : Selected) → Like x y → Like y x
   like_turned x y l = record {
     parent = sym l.parent;
     key = sym l.key;
     name = sym l.name;
-    arguments = sym l.arguments;
+    arguments = given_turned x.arguments y.arguments l.arguments;
     shape = sym l.shape;
     named = sym l.named;
     selected = all_turned l.selected;
@@ -144,7 +123,7 @@ module _ (base count : ℕ) (classes : List ℕ) where
     parent = l.parent ∙ m.parent;
     key = l.key ∙ m.key;
     name = l.name ∙ m.name;
-    arguments = l.arguments ∙ m.arguments;
+    arguments = given_on x.arguments y.arguments z.arguments l.arguments m.arguments;
     shape = l.shape ∙ m.shape;
     named = l.named ∙ m.named;
     selected = all_on l.selected m.selected;
@@ -173,25 +152,25 @@ module _ (base count : ℕ) (classes : List ℕ) where
             eqb-true (class_of classes (i - base)) (class_of classes (j - base)) both.1,
           )
 
-  pub alike : (x y : Selected) → length classes ≡ count → is_like base classes x y ≡ true → Like x y × (x.arguments ≡ [])
+  pub alike : (x y : Selected) → length classes ≡ count → is_like base classes x y ≡ true → Like x y × IsOwnMatch x
   alike x y as_many is =
       let a = both_true (same_head x y) (same_items base classes x.items y.items) is in
       let b = both_true (bytes_eq x.parent.text y.parent.text) _ a.0 in
       let c = both_true (bytes_eq (key_of x) (key_of y)) _ b.1 in
       let d = both_true (bytes_eq x.name.text y.name.text) _ c.1 in
-      let e = both_true (is_empty x.arguments && is_empty y.arguments) _ d.1 in
-      let f = both_true (is_empty x.arguments) (is_empty y.arguments) e.0 in
+      let e = both_true (same_both_ways x.arguments y.arguments) _ d.1 in
+      let f = both_true (same_arguments x.arguments y.arguments) (same_arguments y.arguments x.arguments) e.0 in
       let g = both_true (same_levels (levels x.definition.ty) (levels y.definition.ty)) _ e.1 in (
         record {
           parent = one_text x.parent.text y.parent.text b.0;
           key = one_text (key_of x) (key_of y) c.0;
           name = one_text x.name.text y.name.text d.0;
-          arguments = empty_none x.arguments f.0 ∙ sym (empty_none y.arguments f.1);
+          arguments = inr f;
           shape = one_levels (levels x.definition.ty) (levels y.definition.ty) g.0;
           named = one_text (named_type x.definition.ty).text (named_type y.definition.ty).text g.1;
           selected = items_same x.items y.items as_many a.1;
         },
-        empty_none x.arguments f.0,
+        arguments_on x.arguments y.arguments x.arguments f.0 f.1,
       )
 
   -- what is reached from such items is such fields
@@ -231,9 +210,9 @@ module _ (types : List ExtendedType) where
   abbrev pub apart_by : List ℕ → List ℕ → Bool
   apart_by p q = not (bytes_eq p q) && (is_object_name types p && is_object_name types q)
 
-  abbrev pub broken_by : Bool → List Bool → List Bool → List ℕ → List ℕ → List ℕ → List ℕ → List ℕ → List ℕ → List Argument → List Argument → Bool
-  broken_by m l k t u p q n o a b =
-      not (same_levels l k && same_named types t u) || ((m && not (apart_by p q)) && (not (bytes_eq n o) || not (same_arguments a b)))
+  abbrev pub broken_by : Bool → List Bool → List Bool → List ℕ → List ℕ → List ℕ → List ℕ → List ℕ → List ℕ → Bool → Bool
+  broken_by m l k t u p q n o same =
+      not (same_levels l k && same_named types t u) || ((m && not (apart_by p q)) && (not (bytes_eq n o) || not same))
 
   pub apart_turned : (p q : List ℕ) → apart_by p q ≡ apart_by q p
   apart_turned p q = ap (λ t. not t && (is_object_name types p && is_object_name types q)) (text_turned p q) ∙ ap (λ t. not (bytes_eq q p) && t) (both_turned (is_object_name types p) (is_object_name types q))
@@ -249,18 +228,18 @@ module _ (types : List ExtendedType) where
     apart_like x y x' y' l k = λ i. apart_by (l.parent i) (k.parent i)
 
     pub broken_like : (m : Bool) (x y x' y' : Selected) → Like base count classes x x' → Like base count classes y y' → is_broken types m x y ≡ is_broken types m x' y'
-    broken_like m x y x' y' l k = λ i. broken_by m (l.shape i) (k.shape i) (l.named i) (k.named i) (l.parent i) (k.parent i) (l.name i) (k.name i) (l.arguments i) (k.arguments i)
+    broken_like m x y x' y' l k = λ i. broken_by m (l.shape i) (k.shape i) (l.named i) (k.named i) (l.parent i) (k.parent i) (l.name i) (k.name i)
+        (given_alike x.arguments y.arguments x'.arguments y'.arguments l.arguments k.arguments i)
 
   pub named_self : (n : List ℕ) → same_named types n n ≡ true
   named_self n = ap (λ t. t || (is_composite_name types n && is_composite_name types n)) (text_refl n)
 
-  -- a field without arguments does not conflict with itself
-  pub broken_self : (m : Bool) (x : Selected) → x.arguments ≡ [] → is_broken types m x x ≡ false
-  broken_self m x bare =
+  -- such a field does not conflict with itself
+  pub broken_self : (m : Bool) (x : Selected) → IsOwnMatch x → is_broken types m x x ≡ false
+  broken_self m x given =
       let shape = levels_refl (levels x.definition.ty) in
       let named : same_named types (named_type x.definition.ty).text (named_type x.definition.ty).text ≡ true = named_self (named_type x.definition.ty).text in
       let name = text_refl x.name.text in
-      let given : same_arguments x.arguments x.arguments ≡ true = ap (λ a. same_arguments a a) bare in
       ap (λ t. not (t && same_named types (named_type x.definition.ty).text (named_type x.definition.ty).text) || ((m && not (are_apart types x x)) && (not (bytes_eq x.name.text x.name.text) || not (same_arguments x.arguments x.arguments)))) shape
       ∙ ap (λ t. not t || ((m && not (are_apart types x x)) && (not (bytes_eq x.name.text x.name.text) || not (same_arguments x.arguments x.arguments)))) named
       ∙ ap (λ t. (m && not (are_apart types x x)) && (not t || not (same_arguments x.arguments x.arguments))) name

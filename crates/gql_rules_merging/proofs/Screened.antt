@@ -16,7 +16,8 @@ use Rattle.gql_rules_merging.specs.Classes.{is_like, AreClasses, turned, is_soun
 use Rattle.gql_rules_merging.specs.FieldSelectionMerging.{below, below_fields, is_broken, are_apart, items, sets_of}
 use Rattle.gql_rules_merging.specs.Numbering.{Selected, Numbered}
 use Rattle.gql_rules_merging.specs.ResponseKeys.{has_key, place_of, key_number, key_numbers}
-use Rattle.gql_rules_merging.proofs.Likeness.{Like, alike, all_at, apart_like, apart_turned, both_true, broken_less, broken_like, broken_self, like_on, like_refl, like_turned, moved, one_got}
+use Rattle.gql_rules_merging.proofs.Likeness.{Like, IsOwnMatch, given_alike, alike, apart_like, apart_turned, broken_less, broken_like, broken_self, like_on, like_refl, like_turned, moved}
+use Rattle.gql_rules_merging.proofs.Truths.{both_true, all_at, one_got}
 
 -- ---- the fields of a document
 
@@ -88,11 +89,11 @@ module _ (types : List ExtendedType) (document : Numbered) (classes : List ℕ) 
 
   -- a field is alone, or like the one that its class is called after
   rep : (a : ℕ) (x : Selected) → slice_get fields a ≡ Some x
-      → (class_of classes a ≡ a) ⊎ ((z : Selected) × (slice_get fields (class_of classes a) ≡ Some z) × IsLike x z × (x.arguments ≡ []))
+      → (class_of classes a ≡ a) ⊎ ((z : Selected) × (slice_get fields (class_of classes a) ≡ Some z) × IsLike x z × IsOwnMatch x)
   rep a x is = by_class (slice_get classes a) refl
     where
       Goal : Type 0
-      Goal = (class_of classes a ≡ a) ⊎ ((z : Selected) × (slice_get fields (class_of classes a) ≡ Some z) × IsLike x z × (x.arguments ≡ []))
+      Goal = (class_of classes a ≡ a) ⊎ ((z : Selected) × (slice_get fields (class_of classes a) ≡ Some z) × IsLike x z × IsOwnMatch x)
 
       by_found : (r : ℕ) → slice_get classes a ≡ Some r → (o : Option Selected) → slice_get fields r ≡ o → option_map_or (is_like (length g) classes x) o false ≡ true → Goal
       by_found r at None missing like = absurd cc
@@ -108,12 +109,12 @@ module _ (types : List ExtendedType) (document : Numbered) (classes : List ℕ) 
       by_class None at = inl (ap (λ o. unwrap_or o a) at)
       by_class (Some r) at = by_test r at (a == r) refl
 
-  of_one_class : (a b : ℕ) (x y : Selected) → slice_get fields a ≡ Some x → slice_get fields b ≡ Some y → OneClass a b → IsLike x y × ((a ≡ b) ⊎ (x.arguments ≡ []))
+  of_one_class : (a b : ℕ) (x y : Selected) → slice_get fields a ≡ Some x → slice_get fields b ≡ Some y → OneClass a b → IsLike x y × ((a ≡ b) ⊎ IsOwnMatch x)
   of_one_class a b x y at_a at_b one = by_reps (rep a x at_a) (rep b y at_b)
     where
-      by_reps : (class_of classes a ≡ a) ⊎ ((z : Selected) × (slice_get fields (class_of classes a) ≡ Some z) × IsLike x z × (x.arguments ≡ []))
-          → (class_of classes b ≡ b) ⊎ ((z : Selected) × (slice_get fields (class_of classes b) ≡ Some z) × IsLike y z × (y.arguments ≡ []))
-          → IsLike x y × ((a ≡ b) ⊎ (x.arguments ≡ []))
+      by_reps : (class_of classes a ≡ a) ⊎ ((z : Selected) × (slice_get fields (class_of classes a) ≡ Some z) × IsLike x z × IsOwnMatch x)
+          → (class_of classes b ≡ b) ⊎ ((z : Selected) × (slice_get fields (class_of classes b) ≡ Some z) × IsLike y z × IsOwnMatch y)
+          → IsLike x y × ((a ≡ b) ⊎ IsOwnMatch x)
       by_reps (inl e) (inl f) =
           let same_place : a ≡ b = sym e ∙ one ∙ f in
           let same_field = one_got fields b x y (ap (slice_get fields) (sym same_place) ∙ at_a) at_b in
@@ -121,7 +122,7 @@ module _ (types : List ExtendedType) (document : Numbered) (classes : List ℕ) 
       by_reps (inl e) (inr q) =
           let same_field = one_got fields a q.0 x (ap (slice_get fields) (sym e ∙ one) ∙ q.1) at_a in
           let like = like_turned (length g) (length fields) classes y x (subst (IsLike y) same_field q.2) in
-          (like, inr (like.arguments ∙ q.3))
+          (like, inr (given_alike x.arguments x.arguments y.arguments y.arguments like.arguments like.arguments ∙ q.3))
       by_reps (inr p) (inl f) =
           let same_field = one_got fields b p.0 y (ap (slice_get fields) (sym (one ∙ f)) ∙ p.1) at_b in
           (subst (IsLike x) same_field p.2, inr p.3)
@@ -334,8 +335,8 @@ module _ (types : List ExtendedType) (document : Numbered) (classes : List ℕ) 
           let like = of_one_class p.first p.second at.one.it at.two.it at.one.at at.two.at one in
           elim like.1 [
             | inl e ↦ omega (arith, e, at.ordered)
-            | inr bare ↦ clash (broken_like types (length g) (length fields) classes p.in_full at.one.it at.two.it at.one.it at.one.it (like_refl (length g) (length fields) classes at.one.it)
-                (like_turned (length g) (length fields) classes at.one.it at.two.it like.0) ∙ broken_self types p.in_full at.one.it bare)
+            | inr own ↦ clash (broken_like types (length g) (length fields) classes p.in_full at.one.it at.two.it at.one.it at.one.it (like_refl (length g) (length fields) classes at.one.it)
+                (like_turned (length g) (length fields) classes at.one.it at.two.it like.0) ∙ broken_self types p.in_full at.one.it own)
           ]
       by_cover (by_pair c d m to_first to_second in_found full) =
           let pairing = paired m c d in_found in

@@ -4,7 +4,7 @@ use Rattle.std.specs.Option.{option_map_or}
 use Rattle.std.specs.Str.{bytes_eq}
 use Rattle.gql_rules_base.specs.TypeShape.{named_type}
 use Rattle.gql_rules_pairs.specs.Explored.{class_of as class_in}
-use Rattle.gql_rules_merging.specs.Classes.{is_empty, is_like_at, same_item}
+use Rattle.gql_rules_merging.specs.Classes.{same_both_ways, is_like_at, same_item}
 use Rattle.gql_rules_merging.specs.ConflictingFieldType.{levels, same_levels}
 use Rattle.gql_rules_merging.specs.Numbering.{Selected}
 
@@ -18,7 +18,7 @@ same_type one other =
 
 abbrev pub same_field : Selected → Selected → Bool
 same_field one other =
-    bytes_eq one.name.text other.name.text && ((is_empty one.arguments && is_empty other.arguments) && same_type one other)
+    bytes_eq one.name.text other.name.text && (same_both_ways one.arguments other.arguments && same_type one other)
 
 abbrev pub like_or_own : ℕ → List ℕ → List Selected → Selected → ℕ → ℕ → ℕ
 like_or_own base classes fields field first number = if is_like_at base classes fields field first then first else number

@@ -8,22 +8,23 @@ use Rattle.gql_rules_base.specs.TypeShape.{named_type}
 use Rattle.gql_rules_pairs.specs.Explored.{class_of}
 use Rattle.gql_rules_pairs.specs.declared.pair.Pair.{Pair}
 use Rattle.gql_schema_types.specs.declared.types.ExtendedType.{ExtendedType}
+use Rattle.gql_rules_merging.specs.ConflictingFieldArgument.{same_arguments}
 use Rattle.gql_rules_merging.specs.ConflictingFieldType.{levels, same_levels}
 use Rattle.gql_rules_merging.specs.FieldSelectionMerging.{below}
 use Rattle.gql_rules_merging.specs.Numbering.{Selected}
 use Rattle.gql_rules_merging.specs.ResponseKeys.{key_of}
 
-abbrev pub is_empty : List Argument → Bool
-is_empty [] = true
-is_empty (x ∷ xs) = false
+-- each has the arguments of the other, in any order
+abbrev pub same_both_ways : List Argument → List Argument → Bool
+same_both_ways arguments others = same_arguments arguments others && same_arguments others arguments
 
--- fields without arguments, of one name, one response key and one type, in sets on one type
+-- fields of one name, one response key, the same arguments and one type, in sets on one type
 abbrev pub same_head : Selected → Selected → Bool
 same_head one other =
     bytes_eq one.parent.text other.parent.text
     && (bytes_eq (key_of one) (key_of other)
     && (bytes_eq one.name.text other.name.text
-    && ((is_empty one.arguments && is_empty other.arguments)
+    && (same_both_ways one.arguments other.arguments
     && (same_levels (levels one.definition.ty) (levels other.definition.ty)
     && bytes_eq (named_type one.definition.ty).text (named_type other.definition.ty).text))))
 

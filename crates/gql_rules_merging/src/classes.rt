@@ -7,7 +7,9 @@ ghost use Rattle.gql_rules_merging.specs.Classes as spec;
 ghost use Rattle.gql_rules_merging.specs.ClassSteps as step;
 ghost use Rattle.gql_rules_merging.specs.Gathering.{fields_of, selected_of};
 
+use crate::conflicting_field_argument::have_same_arguments;
 use crate::conflicting_field_type::same_levels;
+use crate::description::write_head;
 use crate::numbering::Selected;
 use gql_rules_base::named_type;
 use itoa::Buffer;
@@ -81,11 +83,7 @@ fn description(
     field: &Selected<'_>,
 ) -> Result<String, Memory> {
     let mut text = String::new(alloc);
-    text.push_str(field.parent.as_str())?;
-    text.push_str(" ")?;
-    text.push_str(field.key().as_str())?;
-    text.push_str(" ")?;
-    text.push_str(field.field.name.as_str())?;
+    write_head(alloc, field, &mut text)?;
     for item in field.items.as_slice() {
         describe_item(base, classes, *item, &mut text)?;
     }
@@ -132,7 +130,7 @@ fn is_like(base: usize, classes: &[usize], one: &Selected<'_>, other: &Selected<
     same_head(one, other) && same_items(base, classes, one.items.as_slice(), other.items.as_slice())
 }
 
-/// Whether fields have no arguments, and one name, one response key and one type, in sets on one type.
+/// Whether fields have one name, one response key, the same arguments and one type, in sets on one type.
 fn same_head(one: &Selected<'_>, other: &Selected<'_>) -> bool
     ensures { result ≡ spec.same_head (selected_of one.now) (selected_of other.now) }
 {
@@ -140,13 +138,20 @@ fn same_head(one: &Selected<'_>, other: &Selected<'_>) -> bool
         && (one.key().as_str() == other.key().as_str() && same_field(one, other))
 }
 
-/// Whether fields have no arguments, and one name and one type.
+/// Whether fields have one name, the same arguments and one type.
 fn same_field(one: &Selected<'_>, other: &Selected<'_>) -> bool
     ensures { result ≡ step.same_field (selected_of one.now) (selected_of other.now) }
 {
     one.field.name.as_str() == other.field.name.as_str()
-        && ((one.field.arguments.is_empty() && other.field.arguments.is_empty())
-            && same_type(one, other))
+        && (same_arguments_both_ways(one, other) && same_type(one, other))
+}
+
+/// Whether each field has the arguments of the other. Where the name of an argument comes twice, one may have those of another that
+/// has not its own.
+fn same_arguments_both_ways(one: &Selected<'_>, other: &Selected<'_>) -> bool
+    ensures { result ≡ spec.same_both_ways (selected_of one.now).arguments (selected_of other.now).arguments }
+{
+    have_same_arguments(one, other) && have_same_arguments(other, one)
 }
 
 /// Whether fields have one type.

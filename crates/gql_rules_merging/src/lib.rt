@@ -10,6 +10,7 @@ mod comparison;
 mod conflicting_field_argument;
 mod conflicting_field_name;
 mod conflicting_field_type;
+mod description;
 mod field_selection_merging;
 mod numbering;
 mod response_keys;
