@@ -1,4 +1,16 @@
--- Words that a resolver says what it gives with, passed on.
+-- Words that a resolver says what it gives with, most of them passed on.
+use Rattle.std.specs.Prelude.{ℕ, List, Option, option_and_then}
+use Rattle.std.specs.Map.{lookup}
+use Rattle.std.specs.Str.{bytes_eq}
+use Rattle.jb_tree.specs.Value.{string_text}
+use Rattle.gql_exec_resolve.specs.Meaning.{Members}
 pub use Rattle.gql_exec_places.specs.Resolved.{Meaning, Meanings, gives_leaf, gives_object, gives_list, gives_skip, fails_with, no_answer, answer_then}
-pub use Rattle.gql_exec_resolve.specs.Meaning.{Members, itself}
+pub use Rattle.gql_exec_resolve.specs.Meaning.{Members, itself, meaning_by}
+pub use Rattle.gql_exec_resolve.specs.Objects.{gives_objects}
+pub use Rattle.gql_exec_resolve.specs.UnknownField.{unknown_field}
+pub use Rattle.gql_exec_resolve.specs.declared.resolved_value.ResolvedValue.{ResolvedValue}
 pub use Rattle.jb_tree.specs.declared.value.Value.TheVariants as json
+
+-- the argument of this name, where it is a text
+abbrev pub text_argument : List ℕ → Members → Option (List ℕ)
+text_argument name arguments = option_and_then string_text (lookup (bytes_eq name) arguments)

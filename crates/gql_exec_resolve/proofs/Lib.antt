@@ -1,3 +1,4 @@
 pub mod Height
+pub mod Objects
 pub mod Shapes
 pub mod Views

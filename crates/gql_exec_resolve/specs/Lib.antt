@@ -1,4 +1,5 @@
 pub mod Meaning
+pub mod Objects
 pub mod ResolveInfo
 pub mod UnknownField
 pub mod Data

@@ -8,6 +8,7 @@
 
 mod data_object;
 mod data_shape;
+mod objects;
 mod resolve_error;
 mod resolve_info;
 mod resolved_value;

@@ -1,0 +1,2 @@
+pub mod Thing
+pub mod Fields
