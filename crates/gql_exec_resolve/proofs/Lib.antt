@@ -1,4 +1,4 @@
 pub mod Height
-pub mod Objects
+pub mod ObjectLists
 pub mod Shapes
 pub mod Views

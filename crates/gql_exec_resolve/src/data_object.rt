@@ -1,11 +1,14 @@
 //! Objects of plain JSON data as resolvers.
 
-ghost use Rattle.std.specs.Prelude.{◌≡◌};
+ghost use Rattle.std.specs.Prelude.{◌≡◌, IsTrue, None};
 ghost use Rattle.gql_exec_resolve.specs.DataMeaning as spec;
 ghost use Rattle.gql_exec_resolve.specs.Meaning.{Answers, itself};
+ghost use Rattle.gql_exec_resolve.specs.ResolveInfo.{field_name_of, object_type_of, schema_of};
+ghost use Rattle.gql_schema_types.specs.Schemas.{field_of};
+ghost use Rattle.jb_tree.specs.Value.{array_items, object_members};
 ghost use Rattle.std.specs.Option.{option_copied};
 
-use crate::data_shape::DataShape;
+use crate::data_shape::{DataShape, leaf};
 use crate::resolve_error::ResolveError;
 use crate::resolve_info::ResolveInfo;
 use crate::resolved_value::ResolvedValue;
@@ -101,13 +104,36 @@ impl<'d> ObjectValue for DataObject<'d> {
         alloc: Global,
         info: &ResolveInfo<'_>,
     ) -> Result<ResolvedValue<DataObject<'d>>, ResolveError> {
-        let schema = info.schema().as_ref();
-        let definition = schema.type_field(info.object_type().name.as_str(), info.field_name());
         match self.members.get(info.field_name()) {
-            Some(value) => value_of(alloc, schema, definition, value),
+            Some(value) => field_value(alloc, info, value),
             None => Ok(ResolvedValue::Leaf(Value::Null)),
         }
     }
+}
+
+/// A value of the data at the field that is asked for. A value that is no list and no object is a leaf at any field, so that
+/// its definition is not looked for.
+fn field_value<'d>(
+    alloc: Global,
+    info: &ResolveInfo<'_>,
+    value: &'d Value,
+) -> Result<ResolvedValue<DataObject<'d>>, ResolveError>
+    ensures { Answers itself result (spec.value_of (schema_of info.now)
+        (field_of (schema_of info.now) (object_type_of info.now).name.text (field_name_of info.now)) value.now) }
+{
+    if is_simple(value) {
+        return leaf(alloc, value);
+    }
+    let schema = info.schema().as_ref();
+    let definition = schema.type_field(info.object_type().name.as_str(), info.field_name());
+    value_of(alloc, schema, definition, value)
+}
+
+/// Whether a value is no list and no object.
+fn is_simple(value: &Value) -> bool
+    ensures { IsTrue result → (array_items value.now ≡ None) × (object_members value.now ≡ None) }
+{
+    !matches!(value, Value::Array(_) | Value::Object(_))
 }
 
 /// A value of the data at a field with this definition.

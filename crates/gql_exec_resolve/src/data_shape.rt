@@ -75,7 +75,7 @@ impl<'t> DataShape<'t> {
     {
         match value {
             Value::Array(values) => self.list(item, values),
-            _ => self.leaf(value),
+            _ => leaf(self.alloc, value),
         }
     }
 
@@ -123,7 +123,7 @@ impl<'t> DataShape<'t> {
                 let type_name = object_name(self.alloc, name, members)?;
                 Ok(ResolvedValue::Object(DataObject::named(type_name, members)))
             }
-            _ => self.leaf(value),
+            _ => leaf(self.alloc, value),
         }
     }
 
@@ -136,16 +136,19 @@ impl<'t> DataShape<'t> {
     {
         match failure_text(value) {
             Some(text) => Err(failure(self.alloc, text)),
-            None => self.leaf(value),
+            None => leaf(self.alloc, value),
         }
     }
+}
 
-    /// A value of the data as it stands.
-    fn leaf<'d>(&self, value: &Value) -> Result<ResolvedValue<DataObject<'d>>, ResolveError>
-        ensures { Answers itself result (gives_leaf value.now) }
-    {
-        Ok(ResolvedValue::Leaf(value.copy(self.alloc)?))
-    }
+/// A value of the data as it stands.
+pub(crate) fn leaf<'d>(
+    alloc: Global,
+    value: &Value,
+) -> Result<ResolvedValue<DataObject<'d>>, ResolveError>
+    ensures { Answers itself result (gives_leaf value.now) }
+{
+    Ok(ResolvedValue::Leaf(value.copy(alloc)?))
 }
 
 /// The name of the type of an object with these members, which is this one unless they tell another.
