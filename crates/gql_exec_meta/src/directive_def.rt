@@ -7,7 +7,7 @@ ghost use Rattle.gql_exec_meta.specs.Seen.{Gives, GivesField};
 
 use crate::asked::Asked;
 use crate::items::Items;
-use crate::leaves::{description_or_null, text_leaf, truth_leaf};
+use crate::leaves::{description_or_null, name_leaf, text_leaf, truth_leaf};
 use crate::meta_object::MetaObject;
 use crate::shown::kept;
 use gql_ast_definitions::{DirectiveDefinition, DirectiveLocation};
@@ -27,7 +27,7 @@ pub(crate) fn directive_def_field<'a>(
 {
     let alloc = asked.alloc;
     match asked.field {
-        "name" => text_leaf(alloc, directive.name.as_str()).map(Some),
+        "name" => name_leaf(alloc, &directive.name).map(Some),
         "description" => description_or_null(alloc, directive.description.as_ref()).map(Some),
         "locations" => locations(alloc, directive.locations.as_slice()).map(Some),
         "args" => kept(asked, schema, directive.arguments.as_slice()).map(Some),

@@ -5,7 +5,7 @@ ghost use Rattle.gql_exec_meta.specs.Seen.{GivesField};
 
 use crate::asked::Asked;
 use crate::deprecation::{deprecation_reason, is_deprecated};
-use crate::leaves::{description_or_null, text_leaf, text_or_null, truth_leaf};
+use crate::leaves::{description_or_null, name_leaf, text_or_null, truth_leaf};
 use crate::meta_object::MetaObject;
 use gql_ast_definitions::EnumValueDefinition;
 use gql_diag::Valid;
@@ -24,7 +24,7 @@ pub(crate) fn enum_value_def_field<'a>(
     let alloc = asked.alloc;
     let directives = value.directives.as_slice();
     match asked.field {
-        "name" => text_leaf(alloc, value.value.as_str()).map(Some),
+        "name" => name_leaf(alloc, &value.value).map(Some),
         "description" => description_or_null(alloc, value.description.as_ref()).map(Some),
         "isDeprecated" => Ok(Some(truth_leaf(is_deprecated(directives)))),
         "deprecationReason" => {

@@ -5,7 +5,7 @@ ghost use Rattle.gql_exec_meta.specs.Seen.{GivesField};
 
 use crate::asked::Asked;
 use crate::deprecation::{deprecation_reason, is_deprecated};
-use crate::leaves::{description_or_null, text_leaf, text_or_null, truth_leaf};
+use crate::leaves::{description_or_null, name_leaf, text_or_null, truth_leaf};
 use crate::meta_object::MetaObject;
 use crate::named_types::type_object;
 use crate::shown::kept;
@@ -26,7 +26,7 @@ pub(crate) fn field_def_field<'a>(
     let alloc = asked.alloc;
     let directives = field.directives.as_slice();
     match asked.field {
-        "name" => text_leaf(alloc, field.name.as_str()).map(Some),
+        "name" => name_leaf(alloc, &field.name).map(Some),
         "description" => description_or_null(alloc, field.description.as_ref()).map(Some),
         "args" => kept(asked, schema, field.arguments.as_slice()).map(Some),
         "type" => Ok(Some(type_object(schema, &field.ty))),

@@ -8,7 +8,9 @@ ghost use Rattle.gql_exec_meta.specs.Seen.{Gives, GivesField};
 
 use crate::asked::Asked;
 use crate::deprecation::{deprecation_reason, is_deprecated};
-use crate::leaves::{description_or_null, null_leaf, text_leaf, text_or_null, truth_leaf};
+use crate::leaves::{
+    description_or_null, name_leaf, null_leaf, text_leaf, text_or_null, truth_leaf,
+};
 use crate::meta_object::MetaObject;
 use crate::named_types::type_object;
 use gql_ast_definitions::InputValueDefinition;
@@ -31,7 +33,7 @@ pub(crate) fn input_value_def_field<'a>(
     let alloc = asked.alloc;
     let directives = value.directives.as_slice();
     match asked.field {
-        "name" => text_leaf(alloc, value.name.as_str()).map(Some),
+        "name" => name_leaf(alloc, &value.name).map(Some),
         "description" => description_or_null(alloc, value.description.as_ref()).map(Some),
         "type" => Ok(Some(type_object(schema, &value.ty))),
         "defaultValue" => default_value(alloc, value.default_value.as_ref()).map(Some),

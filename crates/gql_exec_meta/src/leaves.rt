@@ -7,6 +7,7 @@ ghost use Rattle.gql_exec_meta.specs.Answers as spec;
 ghost use Rattle.gql_exec_meta.specs.Seen.{Gives, stands_for};
 
 use crate::meta_object::MetaObject;
+use gql_ast_base::Name;
 use gql_exec_resolve::ResolvedValue;
 use jb_text::{Memory, Text};
 use jb_tree::Value;
@@ -20,6 +21,16 @@ pub(crate) fn text_leaf<'a>(
     ensures { Gives result (spec.text_leaf text.now) }
 {
     Ok(ResolvedValue::Leaf(Value::from_text(alloc, text)?))
+}
+
+/// The text of a name, which is shared and not copied.
+pub(crate) fn name_leaf<'a>(
+    alloc: Global,
+    name: &Name,
+) -> Result<ResolvedValue<MetaObject<'a>>, Memory>
+    ensures { Gives result (spec.text_leaf name.now.text) }
+{
+    Ok(ResolvedValue::Leaf(Value::String(name.text().copy(alloc)?)))
 }
 
 /// A text, or null where there is none.

@@ -14,7 +14,7 @@ ghost use Rattle.gql_exec_meta.specs.TypeDef as spec;
 use crate::asked::Asked;
 use crate::deprecation::specified_by;
 use crate::items::Items;
-use crate::leaves::{description_or_null, null_leaf, text_leaf, text_or_null};
+use crate::leaves::{description_or_null, name_leaf, null_leaf, text_leaf, text_or_null};
 use crate::meta_object::MetaObject;
 use crate::named_types::named_types;
 use crate::shown::kept;
@@ -36,7 +36,7 @@ pub(crate) fn type_def_field<'a>(
     let alloc = asked.alloc;
     match asked.field {
         "kind" => text_leaf(alloc, kind(ty)).map(Some),
-        "name" => text_leaf(alloc, ty.own_name().as_str()).map(Some),
+        "name" => name_leaf(alloc, ty.own_name()).map(Some),
         "description" => description_or_null(alloc, description(ty)).map(Some),
         "fields" => fields(asked, schema, ty).map(Some),
         "interfaces" => interfaces(alloc, schema, ty).map(Some),
