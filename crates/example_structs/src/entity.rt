@@ -1,6 +1,6 @@
 //! The resolver: what a query can reach, lent by the library.
 
-ghost use Rattle.std.specs.Prelude.{◌≡◌, IfOk, map};
+ghost use Rattle.std.specs.Prelude.{◌≡◌, IfOk, Some, map};
 ghost use Rattle.std.specs.List.{find};
 ghost use Rattle.std.specs.Option.{option_copied, option_map};
 ghost use Rattle.std.specs.Str.{bytes_eq};
@@ -72,7 +72,7 @@ fn library_field<'l>(
     ensures { IfOk result (λ made. option_map (meaning_by thing) made ≡ spec.library_field library.now name.now arguments.now) }
 {
     match name {
-        "authors" => Ok(Some(authors(alloc, library)?)),
+        "authors" => list(alloc, authors(alloc, library)?),
         "author" => Ok(Some(author_or_null(author_of_name(library, arguments)))),
         _ => Ok(None),
     }
@@ -80,20 +80,20 @@ fn library_field<'l>(
 
 /// An author, or null where there is none.
 fn author_or_null<'l>(author: Option<&'l Author>) -> ResolvedValue<Entity<'l>>
-    ensures { meaning_by thing result ≡ spec.author_or_null (option_copied author) }
+    ensures { meaning_by thing result ≡ spec.author_or_null (option_copied author.entry) }
 {
     ResolvedValue::nullable_object(author.map(Entity::Author))
 }
 
-/// The authors of a library.
-fn authors<'l>(alloc: Global, library: &'l Library) -> Result<ResolvedValue<Entity<'l>>, Memory>
-    ensures { IfOk result (λ made. meaning_by thing made ≡ gives_objects (map of_author library.now.authors)) }
+/// The authors of a library, as objects.
+fn authors<'l>(alloc: Global, library: &'l Library) -> Result<Listed<Entity<'l>>, Memory>
+    ensures { IfOk result (λ found. map thing found ≡ map of_author library.now.authors) }
 {
     let mut found = Listed::new(alloc);
     for author in library.authors.as_slice() {
         found.push(Entity::Author(author))?;
     }
-    ResolvedValue::objects(alloc, found)
+    Ok(found)
 }
 
 /// The author whom the argument `name` names.
@@ -124,20 +124,20 @@ fn author_field<'l>(
 {
     match name {
         "name" => Ok(Some(text(alloc, author.name.as_str())?)),
-        "books" => Ok(Some(books(alloc, author)?)),
+        "books" => list(alloc, books(alloc, author)?),
         _ => Ok(None),
     }
 }
 
-/// The books of an author.
-fn books<'l>(alloc: Global, author: &'l Author) -> Result<ResolvedValue<Entity<'l>>, Memory>
-    ensures { IfOk result (λ made. meaning_by thing made ≡ gives_objects (map (of_book author.now) author.now.books)) }
+/// The books of an author, as objects.
+fn books<'l>(alloc: Global, author: &'l Author) -> Result<Listed<Entity<'l>>, Memory>
+    ensures { IfOk result (λ found. map thing found ≡ map (of_book author.now) author.now.books) }
 {
     let mut found = Listed::new(alloc);
     for book in author.books.as_slice() {
         found.push(Entity::Book { book, author })?;
     }
-    ResolvedValue::objects(alloc, found)
+    Ok(found)
 }
 
 /// A field of a book.
@@ -172,4 +172,14 @@ fn text<'l>(alloc: Global, text: &str) -> Result<ResolvedValue<Entity<'l>>, Memo
     ensures { IfOk result (λ made. meaning_by thing made ≡ spec.text_leaf text.now) }
 {
     Ok(ResolvedValue::Leaf(Value::from_text(alloc, text)?))
+}
+
+/// A list of these objects.
+fn list<'l>(
+    alloc: Global,
+    objects: Listed<Entity<'l>>,
+) -> Result<Option<ResolvedValue<Entity<'l>>>, Memory>
+    ensures { IfOk result (λ made. option_map (meaning_by thing) made ≡ Some (gives_objects (map thing objects.entry))) }
+{
+    Ok(Some(ResolvedValue::objects(alloc, objects)?))
 }

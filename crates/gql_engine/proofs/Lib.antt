@@ -5,3 +5,4 @@ mod Promise
 mod Running
 mod Usage
 mod LongInput
+pub mod Resolving

@@ -1,11 +1,10 @@
 -- What a list of objects means.
-use Rattle.std.proofs.Common.{◌≡◌, List, [], ◌∷◌, map, Result, Ok, refl, ap, sym, ◌∙◌}
+use Rattle.std.proofs.Common.{◌≡◌, List, [], ◌∷◌, map, Ok, refl, ap, sym, ◌∙◌}
 use Rattle.gql_exec_places.specs.Resolved.{Meaning, gives_object, gives_list, answer_then}
 use Rattle.gql_exec_resolve.proofs.Views.{meaning_list}
 use Rattle.gql_exec_resolve.specs.Meaning.{meaning_by, meanings_by, meaning_step}
-use Rattle.gql_exec_resolve.specs.Objects.{each_object, gives_objects}
-use Rattle.gql_exec_resolve.specs.declared.resolve_error.FieldError.{FieldError}
-use Rattle.gql_exec_resolve.specs.declared.resolved_value.ResolvedValue.{ResolvedValue, fold-roll-ResolvedValue}
+use Rattle.gql_exec_resolve.specs.Objects.{each_object, gives_objects, list_of_objects}
+use Rattle.gql_exec_resolve.specs.declared.resolved_value.ResolvedValue.{fold-roll-ResolvedValue}
 use Rattle.gql_exec_resolve.specs.declared.resolved_value.ResolvedValue as value
 use Rattle.gql_exec_resolve.specs.declared.resolved_value.ResolvedValue.TheVariants.{rolls-Object}
 use Rattle.gql_exec_resolve.specs.declared.resolved_value.ResolvedValue.TheOpen as layer
@@ -21,10 +20,5 @@ meanings-are see (o ∷ os) =
     ap (λ m. answer_then m (meanings_by see (map (λ o. Ok (value.Object o)) os))) (meaning-object see o)
     ∙ ap (answer_then (gives_object (see o))) (meanings-are see os)
 
-pub objects-mean : {O X : Type 0} (see : O → X) (os : List O)
-    → meaning_by see (value.List (map (λ o. Ok (value.Object o)) os)) ≡ gives_objects (map see os)
+pub objects-mean : {O X : Type 0} (see : O → X) (os : List O) → meaning_by see (list_of_objects os) ≡ gives_objects (map see os)
 objects-mean see os = meaning_list see (map (λ o. Ok (value.Object o)) os) ∙ ap gives_list (meanings-are see os)
-
-pub lists-mean : {O X : Type 0} (see : O → X) (os : List O) (items : List (Result (ResolvedValue O) FieldError))
-    → items ≡ map (λ o. Ok (value.Object o)) os → meaning_by see (value.List items) ≡ gives_objects (map see os)
-lists-mean see os items same = ap (λ is. meaning_by see (value.List is)) same ∙ objects-mean see os
