@@ -1,3 +1,4 @@
 pub mod Changes
+pub mod Fields
 pub mod Lists
 pub mod Nodes

@@ -11,10 +11,11 @@ use Rattle.gql_exec_groups.specs.Grouping.{groups_seen}
 use Rattle.gql_exec_groups.specs.Groups.{SameGroups, applying}
 use Rattle.gql_exec_groups.specs.declared.group.Group.{Group}
 use Rattle.gql_exec_plan.specs.Growth.{is_for, AreBegun, IsAdded}
-use Rattle.gql_exec_plan.specs.Plan.{Ground, type_in, parts_in, group_in, nodes_in, groups_in, sets_below, IsTyped, AreCollected, AreNodesTo, AreNodes, HaveNodes, ArePartsOf, IsNodeOf}
+use Rattle.gql_exec_plan.specs.Plan.{Ground, type_in, parts_in, group_in, nodes_in, fields_in, groups_in, groups_from, sets_below, IsTyped, IsPlanned, AreCollected, AreNodesTo, AreNodes, HaveNodes, ArePartsOf, IsNodeOf}
 use Rattle.gql_exec_plan.specs.declared.plan.Node.{Node}
 use Rattle.gql_exec_plan.specs.declared.plan.Part.{Part}
-use Rattle.gql_exec_plan.proofs.Changes.{with_nodes, with_parts, changed-group, changed-nodes, changed-type, changed-parts}
+use Rattle.gql_exec_plan.specs.declared.planned_field.PlannedField.{PlannedField}
+use Rattle.gql_exec_plan.proofs.Changes.{with_nodes, with_parts, changed-field, changed-nodes, changed-type, changed-parts}
 use Rattle.gql_exec_plan.proofs.Lists.{all-at, all-set, all-more, at-end, at-position}
 
 -- two object types of a schema that have one name
@@ -72,18 +73,30 @@ module _ (ground : Ground) where
   part-with parts i part nodes have are =
       part-grown parts i (with_nodes part nodes) have
       (subst (λ ns. AreNodes ground (sets_below (group_in (with_nodes part nodes))) ns) (sym (changed-nodes part nodes))
-      (subst (λ (g : Group). AreNodes ground (sets_below g) nodes) (sym (changed-group part nodes)) are))
+      (subst (λ (field : PlannedField). AreNodes ground (sets_below field.group) nodes) (sym (changed-field part nodes)) are))
 
-  -- nodes below the parts of a node have changed, and its groups have not
+  -- the groups of these sets on an object type
+  abbrev pub HasGroups : ObjectType → List (List Selection) → List Group → Type 0
+  HasGroups U sets groups = SameGroups (groups_seen groups) (applying (setting ground.fragments ground.schema U ground.variables) sets)
+
+  -- parts that are the same but for their nodes
+  same-collected : (U : ObjectType) (sets : List (List Selection)) (parts others : List Part) → fields_in parts ≡ fields_in others
+      → AreCollected ground U sets others → AreCollected ground U sets parts
+  same-collected U sets parts others same are = record {
+    groups = subst (λ (fields : List PlannedField). HasGroups U sets (groups_from fields)) (sym same) are.groups;
+    planned = subst (AllByRecursion (IsPlanned ground U)) (sym same) are.planned;
+  }
+
+  -- nodes below the parts of a node have changed, and nothing else of the parts
   pub node-with : (sets : List (List Selection)) (nodes : List Node) (i : ℕ) (node : Node) (parts : List Part) → AreNodes ground sets nodes → slice_get nodes i ≡ Some node
-      → groups_in parts ≡ groups_in (parts_in node) → HaveNodes ground parts → AreNodes ground sets (slice_set nodes i (with_parts node parts))
+      → fields_in parts ≡ fields_in (parts_in node) → HaveNodes ground parts → AreNodes ground sets (slice_set nodes i (with_parts node parts))
   node-with sets nodes i node parts are is same have =
       let was = node-parts sets nodes i node are is in
       let new = with_parts node parts in
       one-grown sets nodes i new are (subst (IsTyped ground.schema) (sym (changed-type node parts)) (node-typed sets nodes i node are is))
       (subst (λ U. ArePartsOf ground U sets (parts_in new)) (sym (changed-type node parts))
       (subst (λ (ps : List Part). ArePartsOf ground (type_in node) sets ps) (sym (changed-parts node parts))
-      (subst (λ (gs : List Group). SameGroups (groups_seen gs) (applying (setting ground.fragments ground.schema (type_in node) ground.variables) sets)) (sym same) was.0, have)))
+      (same-collected (type_in node) sets parts (parts_in node) same was.0, have)))
 
   fresh-nodes : (n : ℕ) (parts : List Part) → AllByRecursion (λ part. nodes_in part ≡ []) parts → AllByRecursion (HasNodesTo n) parts
   fresh-nodes n [] all = tt
@@ -92,9 +105,12 @@ module _ (ground : Ground) where
 
   -- groups as parts that have no nodes
   pub begun-parts : (U : ObjectType) (sets : List (List Selection)) (groups : List Group) (parts : List Part)
-      → SameGroups (groups_seen groups) (applying (setting ground.fragments ground.schema U ground.variables) sets) → AreBegun groups parts → ArePartsOf ground U sets parts
+      → HasGroups U sets groups → AreBegun ground U groups parts → ArePartsOf ground U sets parts
   begun-parts U sets groups parts same begun = (
-    subst (λ (gs : List Group). SameGroups (groups_seen gs) (applying (setting ground.fragments ground.schema U ground.variables) sets)) (sym begun.same) same,
+    record {
+      groups = subst (HasGroups U sets) (sym begun.same) same;
+      planned = begun.planned;
+    },
     λ n. fresh-nodes n parts begun.fresh,
   )
 

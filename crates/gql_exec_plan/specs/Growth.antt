@@ -5,16 +5,17 @@ use Rattle.std.specs.Str.{bytes_eq}
 use Rattle.gql_document_types.specs.declared.selection.Selection.{Selection}
 use Rattle.gql_schema_types.specs.declared.types.ObjectType.{ObjectType}
 use Rattle.gql_exec_groups.specs.declared.group.Group.{Group}
-use Rattle.gql_exec_plan.specs.Plan.{Ground, type_in, parts_in, groups_in, nodes_in, ArePartsOf}
+use Rattle.gql_exec_plan.specs.Plan.{Ground, type_in, parts_in, fields_in, groups_in, nodes_in, IsPlanned, ArePartsOf}
 use Rattle.gql_exec_plan.specs.declared.plan.Node.{Node}
 use Rattle.gql_exec_plan.specs.declared.plan.Part.{Part}
 
 abbrev pub is_for : List ℕ → Node → Bool
 is_for name node = bytes_eq name (type_in node).name.text
 
--- these groups, and no node below them
-pub record AreBegun (groups : List Group) (parts : List Part) : Type 0 where
+-- these groups with what objects of the type ask by them, and no node below them
+pub record AreBegun (ground : Ground) (U : ObjectType) (groups : List Group) (parts : List Part) : Type 0 where
   pub same : groups_in parts ≡ groups
+  pub planned : AllByRecursion (IsPlanned ground U) (fields_in parts)
   pub fresh : AllByRecursion (λ part. nodes_in part ≡ []) parts
 
 -- a node more

@@ -1,11 +1,18 @@
 -- Plans: groups that were collected once, and stand for those that are collected for each object (GraphQL October 2021,
 -- section 6.3.2).
-use Rattle.std.specs.Prelude.{◌≡◌, ℕ, zero, suc, List, map, Some, slice_get}
+use Rattle.std.specs.Prelude.{◌≡◌, ℕ, zero, suc, List, map, Some, Result, slice_get}
 use Rattle.std.specs.List.{AllByRecursion}
+use Rattle.std.specs.Option.{unwrap_or}
+use Rattle.gql_ast_definitions.specs.declared.field_definition.FieldDefinition.{FieldDefinition}
+use Rattle.gql_coerce.specs.Arguments.{coerced_arguments}
+use Rattle.gql_coerce.specs.Filled.{Members}
+use Rattle.gql_coerce.specs.Outcome.{told_as}
+use Rattle.gql_coerce.specs.Told.{argument_fault}
+use Rattle.gql_coerce.specs.declared.told.ArgumentFault.{ArgumentFault}
 use Rattle.gql_document_types.specs.declared.fragment.Fragment.{Fragment}
 use Rattle.gql_document_types.specs.declared.selection.Field.{Field}
 use Rattle.gql_document_types.specs.declared.selection.Selection.{Selection}
-use Rattle.gql_schema_types.specs.Schemas.{object_of}
+use Rattle.gql_schema_types.specs.Schemas.{field_of, object_of}
 use Rattle.gql_schema_types.specs.declared.schema.Schema.{Schema}
 use Rattle.gql_schema_types.specs.declared.types.ObjectType.{ObjectType}
 use Rattle.gql_exec_groups.specs.Collected.{setting}
@@ -16,6 +23,7 @@ use Rattle.gql_exec_groups.specs.Walk.{fields_of}
 use Rattle.gql_exec_groups.specs.declared.group.Group.{Group}
 use Rattle.gql_exec_plan.specs.declared.plan.Node.{Node, out-Node}
 use Rattle.gql_exec_plan.specs.declared.plan.Part.{Part, out-Part}
+use Rattle.gql_exec_plan.specs.declared.planned_field.PlannedField.{PlannedField}
 use Rattle.gql_exec_plan.specs.declared.planner.Planner.{Planner}
 
 abbrev pub type_in : Node → ObjectType
@@ -24,14 +32,24 @@ type_in node = (out-Node node).object_type.now
 abbrev pub parts_in : Node → List Part
 parts_in node = (out-Node node).parts
 
+abbrev pub field_in : Part → PlannedField
+field_in part = (out-Part part).field
+
 abbrev pub group_in : Part → Group
-group_in part = (out-Part part).group
+group_in part = (field_in part).group
 
 abbrev pub nodes_in : Part → List Node
 nodes_in part = (out-Part part).nodes
 
+-- parts without their nodes
+abbrev pub fields_in : List Part → List PlannedField
+fields_in parts = map field_in parts
+
+abbrev pub groups_from : List PlannedField → List Group
+groups_from fields = map (λ (field : PlannedField). field.group) fields
+
 abbrev pub groups_in : List Part → List Group
-groups_in parts = map group_in parts
+groups_in parts = groups_from (fields_in parts)
 
 -- what is selected below a group, set by set
 abbrev pub sets_below : Group → List (List Selection)
@@ -51,9 +69,23 @@ abbrev pub IsTyped : Schema → ObjectType → Type 0
 IsTyped schema U = object_of schema U.name.text ≡ Some U
 
 module _ (ground : Ground) where
-  -- the groups of these sets on an object type
-  abbrev pub AreCollected : ObjectType → List (List Selection) → List Part → Type 0
-  AreCollected U sets parts = SameGroups (groups_seen (groups_in parts)) (applying (setting ground.fragments ground.schema U ground.variables) sets)
+  -- the definition of a field on an object type, which the first field of each group has; else the one where it is selected
+  abbrev pub definition_on : ObjectType → Field → FieldDefinition
+  definition_on U f = unwrap_or (field_of ground.schema U.name.text f.name.text) f.definition
+
+  -- the arguments of a field by a definition, or the fault of the first that fails
+  abbrev pub arguments_by : FieldDefinition → Field → Result Members ArgumentFault
+  arguments_by definition f = told_as argument_fault (coerced_arguments ground.schema.types ground.variables definition.arguments f.arguments)
+
+  -- what objects of a type ask by a group: its first field as it is defined on the type, with the arguments of that definition
+  pub record IsPlanned (U : ObjectType) (field : PlannedField) : Type 0 where
+    pub definition : field.definition.now ≡ definition_on U field.group.first.now
+    pub arguments : field.arguments ≡ arguments_by field.definition.now field.group.first.now
+
+  -- the groups of these sets on an object type, and what objects of the type ask by them
+  pub record AreCollected (U : ObjectType) (sets : List (List Selection)) (parts : List Part) : Type 0 where
+    pub groups : SameGroups (groups_seen (groups_in parts)) (applying (setting ground.fragments ground.schema U ground.variables) sets)
+    pub planned : AllByRecursion (IsPlanned U) (fields_in parts)
 
   -- each node has the groups of these sets on its type, and so on, so many nodes down
   abbrev pub AreNodesTo : ℕ → List (List Selection) → List Node → Type 0

@@ -3,7 +3,7 @@
 ghost use Rattle.std.specs.Prelude.{◌≡◌, []};
 ghost use Rattle.gql_exec_plan.specs.Plan as spec;
 
-use gql_exec_groups::Group;
+use crate::planned_field::PlannedField;
 use gql_schema_types::ObjectType;
 use jb_text::Listed;
 use std::alloc::Global;
@@ -16,11 +16,11 @@ pub struct Node<'d> {
     pub parts: Listed<Part<'d>>,
 }
 
-/// A group, and the nodes of the objects that its field has led to so far, one for each of their types.
+/// What is asked by a group, and the nodes of the objects that its field has led to so far, one for each of their types.
 #[derive(Drop)]
 #[cycle(plan)]
 pub struct Part<'d> {
-    pub group: Group<'d>,
+    pub field: PlannedField<'d>,
     pub nodes: Listed<Node<'d>>,
 }
 
@@ -35,12 +35,12 @@ impl<'d> Node<'d> {
 }
 
 impl<'d> Part<'d> {
-    /// The part of a group, with no nodes yet.
-    pub(crate) fn new(alloc: Global, group: Group<'d>) -> Part<'d>
-        ensures group { spec.group_in result ≡ group.entry }
+    /// The part of a field, with no nodes yet.
+    pub(crate) fn new(alloc: Global, field: PlannedField<'d>) -> Part<'d>
+        ensures field { spec.field_in result ≡ field.entry }
         ensures nodes { spec.nodes_in result ≡ [] }
     {
         let nodes = Listed::new(alloc);
-        Part { group, nodes }
+        Part { field, nodes }
     }
 }

@@ -8,12 +8,12 @@ ghost use Rattle.gql_exec_plan.specs.Growth as growth;
 ghost use Rattle.gql_exec_plan.specs.Plan as spec;
 
 use crate::plan::{Node, Part};
+use gql_diag::{JsonMap, Valid};
 use gql_document_types::ExecutableDocument;
 use gql_exec_groups::{Group, Pieces, collect_fields};
 use gql_exec_steps::Steps;
 use gql_schema_types::{ObjectType, Schema};
 use jb_text::{Listed, Memory};
-use jb_tree::Map;
 use std::alloc::Global;
 use std::sync::ledger::Ledger;
 
@@ -21,9 +21,9 @@ use std::sync::ledger::Ledger;
 #[derive(Clone, Copy)]
 pub struct Planner<'d> {
     pub alloc: Global,
-    pub schema: &'d Schema,
+    pub schema: &'d Valid<Schema>,
     pub document: &'d ExecutableDocument,
-    pub variables: &'d Map,
+    pub variables: &'d Valid<JsonMap>,
 }
 
 impl<'d> Planner<'d> {
@@ -38,16 +38,18 @@ impl<'d> Planner<'d> {
         requires { (rank : ℕ → ℕ) × AreRanked self.now.document.now.fragments rank }
         ensures { IfOk result (λ parts. spec.ArePartsOf (spec.ground_of self.now) object_type.now (sets_of pieces.now) parts) }
     {
+        let schema = self.schema.as_ref();
+        let variables = self.variables.as_ref();
         let grouped = collect_fields(
             self.alloc,
-            self.schema,
+            schema,
             self.document,
             object_type,
             pieces,
-            self.variables,
+            variables,
             steps,
         )?;
-        begun(self.alloc, grouped.into_groups())
+        self.begun(object_type, grouped.into_groups())
     }
 
     /// The number of the node for objects of this type among those below a group. It is added where none was there. `Err`
@@ -89,6 +91,22 @@ impl<'d> Planner<'d> {
         nodes.push(Node::new(object_type, parts))?;
         Ok(number)
     }
+
+    /// These groups on objects of this type as parts with no nodes.
+    fn begun(
+        &self,
+        object_type: &ObjectType,
+        groups: Listed<Group<'d>>,
+    ) -> Result<Listed<Part<'d>>, Memory>
+        ensures { IfOk result (λ parts. growth.AreBegun (spec.ground_of self.now) object_type.now groups.entry parts) }
+    {
+        let mut parts = Listed::new(self.alloc);
+        for group in groups {
+            let field = self.planned(object_type, group)?;
+            parts.push(Part::new(self.alloc, field))?;
+        }
+        Ok(parts)
+    }
 }
 
 /// Where the node for objects of the type of this name is.
@@ -98,15 +116,4 @@ fn number_of(name: &str, nodes: &[Node<'_>]) -> Option<usize>
     nodes
         .iter()
         .position(|node| name == node.object_type.name.as_str())
-}
-
-/// These groups as parts with no nodes.
-fn begun<'d>(alloc: Global, groups: Listed<Group<'d>>) -> Result<Listed<Part<'d>>, Memory>
-    ensures { IfOk result (λ parts. growth.AreBegun groups.entry parts) }
-{
-    let mut parts = Listed::new(alloc);
-    for group in groups {
-        parts.push(Part::new(alloc, group))?;
-    }
-    Ok(parts)
 }

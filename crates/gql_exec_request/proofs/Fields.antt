@@ -27,12 +27,12 @@ use Rattle.gql_exec_request.proofs.Done.{IsDone, IsRefused, done-field, done-una
 module _ {O X E : Type 0} (see : O → X) (r : Request X) (before after : List GraphQLError) (result : Result Completed E) (U : ObjectType) (x : X) (outer : Trail) (g : Group)
     (key : Named) (definition : FieldDefinition) (asked : Asked O)
     (named : key ≡ response_name g.first) (defined : definition ≡ asks.definition_on r.schema U g.first)
-    (comes : outcome_of see asked ≡ asks.asked r U x g.first.name.text (asks.arguments_at r definition g.first)) where
+    (comes : outcome_of see asked ≡ asks.asks r U x g.first) where
   there : at_field outer g key definition.ty ≡ field_spot (plain_world r) U outer g
   there = field-spot (plain_world r) U outer g key definition.ty named (ap (λ (d : FieldDefinition). d.ty) defined)
 
   comes-as : (other : Asked O) → asked ≡ other → outcome_of see other ≡ asks.asks r U x g.first
-  comes-as other is = ap (outcome_of see) (sym is) ∙ comes ∙ ap (λ (d : FieldDefinition). asks.asked r U x g.first.name.text (asks.arguments_at r d g.first)) defined
+  comes-as other is = ap (outcome_of see) (sym is) ∙ comes
 
   abbrev pub IsFieldDone : Type 0
   IsFieldDone = IsDone (plain_world r) before after result g (λ run. field_made (plain_world r) run (field_spot (plain_world r) U outer g) ((plain_world r).asks U x g))

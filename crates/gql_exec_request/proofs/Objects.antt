@@ -8,7 +8,7 @@ use Rattle.gql_schema_types.specs.declared.types.ObjectType.{ObjectType}
 use Rattle.gql_exec_groups.specs.Ranks.{AreRanked}
 use Rattle.gql_exec_places.specs.Execute.{Member, one_object, settled}
 use Rattle.gql_exec_places.specs.Spot.{trail}
-use Rattle.gql_exec_plan.specs.Plan.{Ground, AreNodes, ArePartsOf, HaveNodes, IsNodeOf, groups_in, parts_in, sets_below}
+use Rattle.gql_exec_plan.specs.Plan.{Ground, AreNodes, ArePartsOf, HaveNodes, IsNodeOf, fields_in, groups_in, parts_in, sets_below}
 use Rattle.gql_exec_plan.specs.declared.plan.Node.{Node}
 use Rattle.gql_exec_plan.specs.declared.plan.Part.{Part}
 use Rattle.gql_exec_plan.proofs.Changes.{with_parts}
@@ -39,9 +39,9 @@ module _ {X : Type 0} (e : Executing) (types : X → List ℕ) (resolves : Resol
   pub object-parts : (sets : List (List Selection)) × ArePartsOf (ground_in e) U sets (parts_in node)
   object-parts = (sets_below place.group.now, node-planned e types resolves U rank ranked (sets_below place.group.now) nodes i node are there (sym value))
 
-  pub object-grown : (parts : List Part) → groups_in parts ≡ groups_in (parts_in node) → HaveNodes (ground_in e) parts
+  pub object-grown : (parts : List Part) → fields_in parts ≡ fields_in (parts_in node) → HaveNodes (ground_in e) parts
       → AreNodes (ground_in e) (sets_below place.group.now) (slice_set nodes i (with_parts node parts))
-  object-grown parts groups have = node-with (ground_in e) (sets_below place.group.now) nodes i node parts are (sym value) groups have
+  object-grown parts same-fields have = node-with (ground_in e) (sets_below place.group.now) nodes i node parts are (sym value) same-fields have
 
   module _ (x : X) (before after : List GraphQLError) where
     -- what is made where its members are these

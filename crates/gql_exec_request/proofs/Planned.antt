@@ -1,6 +1,6 @@
 -- Parts of a plan in an execution.
 use Rattle.std.proofs.Common.{arith, ◌≡◌, ℕ, zero, suc, ◌+◌, ◌*◌, ◌<◌, Bool, true, false, cond, List, [], ◌∷◌, drop, length, get_or, Option, Some, None, is_some, slice_get, refl, sym, ap, ◌∙◌, subst}
-use Rattle.std.specs.List.{find}
+use Rattle.std.specs.List.{AllByRecursion, find}
 use Rattle.std.specs.Option.{option_and_then}
 use Rattle.std.proofs.lemmas.Slice.Eq.{bytes_eq-Decides}
 use Rattle.gql_document_types.specs.declared.document.ExecutableDocument.{ExecutableDocument}
@@ -19,10 +19,12 @@ use Rattle.gql_exec_groups.specs.Ranks.{AreRanked}
 use Rattle.gql_exec_groups.specs.declared.group.Group.{Group as FieldsOfKey}
 use Rattle.gql_exec_places.specs.Execute.{Member}
 use Rattle.gql_exec_places.specs.Trail.{Trail}
-use Rattle.gql_exec_plan.specs.Plan.{Ground, AreNodes, ArePartsOf, HaveNodes, IsNodeOf, IsTyped, group_in, groups_in, nodes_in, parts_in, sets_below, type_in}
+use Rattle.gql_exec_plan.specs.Plan.{Ground, AreNodes, ArePartsOf, HaveNodes, IsNodeOf, IsPlanned, IsTyped, field_in, fields_in, group_in, groups_from, groups_in, nodes_in, parts_in, sets_below, type_in}
 use Rattle.gql_exec_plan.specs.declared.plan.Node.{Node}
 use Rattle.gql_exec_plan.specs.declared.plan.Part.{Part}
-use Rattle.gql_exec_plan.proofs.Changes.{with_nodes, changed-group}
+use Rattle.gql_exec_plan.specs.declared.planned_field.PlannedField.{PlannedField}
+use Rattle.gql_exec_plan.proofs.Changes.{with_nodes, changed-field}
+use Rattle.gql_exec_plan.proofs.Fields.{field-at}
 use Rattle.gql_exec_plan.proofs.Nodes.{node-parts, part-nodes}
 use Rattle.gql_exec_introspected.specs.ThingMeaning.{Resolving}
 use Rattle.gql_exec_world.specs.Nesting.{nesting}
@@ -54,7 +56,7 @@ group-there parts i part groups is same =
 
 -- the response key of a part whose nodes have changed
 pub changed-key : (part : Part) (nodes : List Node) → (response_name (group_in (with_nodes part nodes)).first.now).text ≡ (response_name (group_in part).first.now).text
-changed-key part nodes = ap (λ (group : FieldsOfKey). (response_name group.first.now).text) (changed-group part nodes)
+changed-key part nodes = ap (λ (field : PlannedField). (response_name field.group.first.now).text) (changed-field part nodes)
 
 -- an object type that a schema has under a name has that name
 find-holds : {A : Type 0} (p : A → Bool) (xs : List A) (x : A) → find p xs ≡ Some x → p x ≡ true
@@ -86,10 +88,8 @@ object-typed schema name U is = by (type_called name schema.types) refl is
 abbrev ground : ExecutableDocument → Schema → Members → Ground
 ground document schema variables = record { fragments = document.fragments; schema = schema; variables = variables }
 
-pub same-ground : (d document : ExecutableDocument) (s schema : Schema) (v variables : Members) → d ≡ document → s ≡ schema → v ≡ variables
-    → ground d s v ≡ ground document schema variables
-same-ground d document s schema v variables first second third =
-    ap (λ (x : ExecutableDocument). ground x s v) first ∙ ap (λ (x : Schema). ground document x v) second ∙ ap (λ x. ground document schema x) third
+pub same-ground : (d document : ExecutableDocument) (schema : Schema) (variables : Members) → d ≡ document → ground d schema variables ≡ ground document schema variables
+same-ground d document schema variables same = ap (λ (x : ExecutableDocument). ground x schema variables) same
 
 -- an execution on an object type by a plan
 module _ {X : Type 0} (e : Executing) (types : X → List ℕ) (resolves : Resolving X) (U : ObjectType) (rank : ℕ → ℕ) (ranked : AreRanked (fragments_in e) rank)
@@ -100,17 +100,19 @@ module _ {X : Type 0} (e : Executing) (types : X → List ℕ) (resolves : Resol
     pub defined : is_some (field_of (schema_in e) U.name.text (group_in part).first.now.name.text) ≡ true
     pub smaller : measure e (group_of (group_in part)).pieces (4 * top (schema_in e) + 7) < room e * deepest (fragments_in e) (groups_in all)
     pub nodes : AreNodes (ground_in e) (sets_below (group_in part)) (nodes_in part)
+    pub asked : IsPlanned (ground_in e) U (field_in part)
 
-  pub here : (all now : List Part) (i : ℕ) (part : Part) → ArePartsOf (ground_in e) U sets all → groups_in now ≡ groups_in all → HaveNodes (ground_in e) now
+  pub here : (all now : List Part) (i : ℕ) (part : Part) → ArePartsOf (ground_in e) U sets all → fields_in now ≡ fields_in all → HaveNodes (ground_in e) now
       → slice_get now i ≡ Some part → IsHere all i part
   here all now i part planned same have is =
       let groups = groups_in all in
-      let there = group-there now i part groups is same in
+      let there = group-there now i part groups is (ap groups_from same) in
       record {
         first = views-step groups i (group_in part) there.0 there.1;
-        defined = (view-below (request_of e types resolves) U groups sets planned.0 rank ranked i (group_in part) there.0 there.1).1;
+        defined = (view-below (request_of e types resolves) U groups sets planned.0.groups rank ranked i (group_in part) there.0 there.1).1;
         smaller = group-less e groups i (group_in part) there.0 there.1;
         nodes = part-nodes (ground_in e) now i part have is;
+        asked = field-at (IsPlanned (ground_in e) U) now i part (subst (AllByRecursion (IsPlanned (ground_in e) U)) (sym same) planned.0.planned) is;
       }
 
   -- the node that is there
@@ -129,7 +131,7 @@ module _ {X : Type 0} (e : Executing) (types : X → List ℕ) (resolves : Resol
         let s = setting_on (request_of e types resolves) U in
         groups-less e (groups_in (parts_in node)) sets
         (deepest-below (schema_in e) U (fragments_in e) (nesting (fragments_in e) sets) (groups_in (parts_in node))
-        (groups-below s rank ranked (groups_seen (groups_in (parts_in node))) sets node-planned.0))
+        (groups-below s rank ranked (groups_seen (groups_in (parts_in node))) sets node-planned.0.groups))
 
     -- its parts are executed as the sets are
     pub node-executed : (x : X) (outer : Trail) (found : Option (List Member)) (before after : List GraphQLError)
@@ -137,4 +139,4 @@ module _ {X : Type 0} (e : Executing) (types : X → List ℕ) (resolves : Resol
         → Executes (plain_world (request_of e types resolves)) U x outer sets found before after
     node-executed x outer found before after executes =
         executed-sets (plain_world (request_of e types resolves)) U x outer sets (views (groups_in (parts_in node))) found before after
-        (views-run (request_of e types resolves) U (groups_in (parts_in node)) sets node-planned.0) executes
+        (views-run (request_of e types resolves) U (groups_in (parts_in node)) sets node-planned.0.groups) executes

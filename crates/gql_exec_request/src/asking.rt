@@ -1,25 +1,26 @@
-//! What comes of a field on an object: its arguments are coerced, and then its resolver is asked.
+//! What comes of a field on an object: its resolver is asked with the arguments that are planned.
 
-ghost use Rattle.std.specs.Prelude.{◌≡◌, Ok, IfOk};
+ghost use Rattle.std.specs.Prelude.{◌≡◌, IfOk};
 ghost use Rattle.gql_exec_resolve.specs.Meaning.{Answers};
 ghost use Rattle.gql_exec_places.specs.Resolved.{answered, Meaning};
+ghost use Rattle.gql_exec_plan.specs.Plan.{IsPlanned};
 ghost use Rattle.gql_exec_world.specs.Asks as spec;
 ghost use Rattle.gql_exec_request.specs.Asking.{outcome_of};
 ghost use Rattle.gql_exec_request.specs.Executing as executing;
 ghost use Rattle.gql_exec_request.specs.Executing.{request_of};
+ghost use Rattle.gql_exec_request.specs.Planning.{ground_in};
 
 use crate::executing::Executing;
-use gql_ast_definitions::FieldDefinition;
-use gql_coerce::{ArgumentFault, coerce_arguments};
+use gql_coerce::ArgumentFault;
 use gql_diag::JsonMap;
-use gql_document_types::Field;
 use gql_exec_groups::Group;
 use gql_exec_introspected::is_introspection;
+use gql_exec_plan::PlannedField;
 use gql_exec_resolve::{FieldError, ObjectValue, ResolveError, ResolveInfo, ResolvedValue};
 use gql_schema_types::ObjectType;
-use jb_text::{Memory, Refused, Text};
+use jb_text::{Memory, Text};
 use jb_tree::Value;
-use std::alloc::AllocError;
+use std::alloc::{AllocError, Global};
 
 /// What comes of a field: what its resolver gives, its failure, or the fault of an argument.
 #[derive(Drop)]
@@ -30,29 +31,25 @@ pub(crate) enum Asked<O> {
 }
 
 impl<'s> Executing<'s> {
-    /// What comes of the field of a group on an object of this type (GraphQL October 2021, sections 6.4.1 and 6.4.2), where
-    /// this is its definition. `Err` only for want of memory.
+    /// What comes of a field on an object of the type that it is planned on (GraphQL October 2021, sections 6.4.1 and 6.4.2).
+    /// `Err` only for want of memory.
     pub(crate) fn ask<O: ObjectValue>(
         &self,
         object_type: &ObjectType,
         object: &O,
-        definition: &FieldDefinition,
-        group: &Group<'_>,
+        field: &PlannedField<'_>,
     ) -> Result<Asked<O>, Memory>
+        requires { IsPlanned (ground_in self.now) object_type.now field.now }
         ensures { IfOk result (λ asked.
             let r = request_of self.now O.type_of O.resolves in
-            outcome_of O.seen asked ≡ spec.asked r object_type.now (O.seen object.now) group.now.first.now.name.text (spec.arguments_at r definition.now group.now.first.now)) }
+            outcome_of O.seen asked ≡ spec.asks r object_type.now (O.seen object.now) field.now.group.first.now) }
     {
-        match coerce_arguments(
-            self.alloc,
-            self.request.schema,
-            definition,
-            &group.first.arguments,
-            self.variables,
-        ) {
-            Ok(arguments) => self.resolve(object_type, object, group, &arguments),
-            Err(Refused::Fault(fault)) => Ok(Asked::Refused(fault)),
-            Err(Refused::Memory) => Err(AllocError),
+        match &field.arguments {
+            Ok(arguments) => self.resolve(object_type, object, &field.group, arguments),
+            Err(fault) => {
+                let fault = copied(self.alloc, fault)?;
+                Ok(Asked::Refused(fault))
+            }
         }
     }
 
@@ -92,24 +89,17 @@ impl<'s> Executing<'s> {
     {
         !self.introspection && is_introspection(self.schema(), object_type, name)
     }
+}
 
-    /// The definition of a field on this type, which every group that is collected has; else that on the type that it is
-    /// selected on.
-    pub(crate) fn definition_on<'f>(
-        &self,
-        object_type: &ObjectType,
-        field: &'f Field,
-    ) -> &'f FieldDefinition
-    where
-        's: 'f,
-        ensures { result.now ≡ spec.definition_on self.now.request.schema.now object_type.now field.now }
-    {
-        let schema = self.schema();
-        match schema.type_field(object_type.name.as_str(), field.name.as_str()) {
-            Some(definition) => definition,
-            None => &field.definition,
-        }
-    }
+/// A copy of the fault of an argument. `Err` only for want of memory.
+fn copied(alloc: Global, fault: &ArgumentFault) -> Result<ArgumentFault, Memory>
+    ensures { IfOk result (λ copy. copy ≡ fault.now) }
+{
+    Ok(ArgumentFault {
+        message: fault.message.copy(alloc)?,
+        location: fault.location,
+        suspected: fault.suspected,
+    })
 }
 
 /// What a resolver's answer is.

@@ -7,7 +7,7 @@ ghost use Rattle.gql_exec_places.specs.Execute.{completed, execute, field_made, 
 ghost use Rattle.gql_exec_places.specs.Resolved.{gives_leaf, gives_list, gives_object};
 ghost use Rattle.gql_exec_places.specs.Spot.{field_spot, item_spot, trail};
 ghost use Rattle.gql_exec_places.specs.Types as places;
-ghost use Rattle.gql_exec_plan.specs.Plan.{AreNodes, ArePartsOf, HaveNodes, IsTyped, ground_of, groups_in, sets_below};
+ghost use Rattle.gql_exec_plan.specs.Plan.{AreNodes, ArePartsOf, HaveNodes, IsPlanned, IsTyped, fields_in, ground_of, groups_in, sets_below};
 ghost use Rattle.gql_document_types.specs.declared.selection.Selection.{Selection};
 ghost use Rattle.gql_exec_resolve.specs.Meaning.{item_by, meaning_by, meanings_by};
 ghost use Rattle.gql_exec_request.specs.Executed.{ExecutesGroups, MakesBelow};
@@ -24,8 +24,7 @@ use gql_ast_values::TypeRef;
 use gql_diag::{JsonMap, Valid};
 use gql_document_types::ExecutableDocument;
 use gql_exec_complete::{fitting_object, item_type, list_misfit};
-use gql_exec_groups::Group;
-use gql_exec_plan::{Node, Part, Planner};
+use gql_exec_plan::{Node, Part, PlannedField, Planner};
 use gql_exec_resolve::{FieldError, ObjectValue, RequestInfo, ResolvedValue};
 use gql_exec_steps::Steps;
 use gql_response::GraphQLError;
@@ -66,9 +65,9 @@ impl<'s> Executing<'s> {
     {
         Planner {
             alloc: self.alloc,
-            schema: self.schema(),
+            schema: self.request.schema,
             document: self.document(),
-            variables: self.variables.as_ref(),
+            variables: self.variables,
         }
     }
 
@@ -88,7 +87,7 @@ impl<'s> Executing<'s> {
         requires planned { (sets : List (List Selection)) × ArePartsOf (ground_in self.now) object_type.now sets parts.old }
         ensures executed { IfOk result (λ members. ExecutesGroups (world_of self.now O.type_of O.resolves)
             object_type.now (O.seen object.now) (trail_of path.now) (map group_of (groups_in parts.old)) members errors.old errors.new) }
-        ensures same { OnOk result (groups_in parts.new ≡ groups_in parts.old) }
+        ensures same { OnOk result (fields_in parts.new ≡ fields_in parts.old) }
         ensures planned { OnOk result (HaveNodes (ground_in self.now) parts.new) }
     {
         let mut members = Map::new(self.alloc);
@@ -101,13 +100,13 @@ impl<'s> Executing<'s> {
                 object_type,
                 object,
                 path,
-                &part.group,
+                &part.field,
                 &mut part.nodes,
                 errors,
                 steps,
             )? {
                 Completed::Value(value) => {
-                    let key = ByteString::from_text(self.alloc, part.group.key().as_str())?;
+                    let key = ByteString::from_text(self.alloc, part.field.group.key().as_str())?;
                     members.insert_new(key, value)?;
                 }
                 Completed::LeftOut => {}
@@ -124,30 +123,30 @@ impl<'s> Executing<'s> {
         object_type: &ObjectType,
         object: &O,
         path: &Path<'_>,
-        group: &Group<'s>,
+        field: &PlannedField<'s>,
         nodes: &mut Listed<Node<'s>>,
         errors: &mut Listed<GraphQLError>,
         steps: &mut Steps<L>,
     ) -> Result<Completed, Memory>
         requires ranked { (rank : ℕ → ℕ) × AreRanked self.now.request.document.now.fragments rank }
-        requires planned { AreNodes (ground_in self.now) (sets_below group.now) nodes.old }
-        requires defined { is_some (field_of self.now.request.schema.now object_type.now.name.text group.now.first.now.name.text) ≡ true }
+        requires planned { AreNodes (ground_in self.now) (sets_below field.now.group) nodes.old }
+        requires asked { IsPlanned (ground_in self.now) object_type.now field.now }
+        requires defined { is_some (field_of self.now.request.schema.now object_type.now.name.text field.now.group.first.now.name.text) ≡ true }
         ensures made { IfOk result (λ done.
             let w = world_of self.now O.type_of O.resolves in
-            MakesBelow w (group_of group.now) (made_of done) errors.old errors.new
-            (λ run. field_made w run (field_spot w object_type.now (trail_of path.now) (group_of group.now))
-            (w.asks object_type.now (O.seen object.now) (group_of group.now)))) }
-        ensures planned { OnOk result (AreNodes (ground_in self.now) (sets_below group.now) nodes.new) }
+            let group = group_of field.now.group in
+            MakesBelow w group (made_of done) errors.old errors.new
+            (λ run. field_made w run (field_spot w object_type.now (trail_of path.now) group) (w.asks object_type.now (O.seen object.now) group))) }
+        ensures planned { OnOk result (AreNodes (ground_in self.now) (sets_below field.now.group) nodes.new) }
     {
-        let definition = self.definition_on(object_type, group.first);
         // The way is lent again, for as long as the group.
         let place = Place {
             around: &*path,
-            step: Step::Key(group.key()),
-            ty: &definition.ty,
-            group,
+            step: Step::Key(field.group.key()),
+            ty: &field.definition.ty,
+            group: &field.group,
         };
-        match self.ask(object_type, object, definition, group)? {
+        match self.ask(object_type, object, field)? {
             Asked::Gave(resolved) => self.complete_value(&place, resolved, nodes, errors, steps),
             Asked::Failed(error) => self.fail::<O>(&place, error, errors),
             Asked::Refused(fault) => self.refuse_argument::<O>(&place, fault, errors),

@@ -1,12 +1,12 @@
-use Rattle.std.proofs.Common.{List, sym, subst}
+use Rattle.std.proofs.Common.{sym, subst}
 use Rattle.std.proofs.lemmas.Result.{IfOk-weaker}
 use Rattle.gql_exec_groups.specs.Collected.{setting, sets_of}
 use Rattle.gql_exec_groups.specs.Grouping.{groups_seen}
 use Rattle.gql_exec_groups.specs.Groups.{SameGroups, applying}
-use Rattle.gql_exec_groups.specs.declared.group.Group.{Group}
 use Rattle.gql_exec_plan.specs.Growth.{AreBegun}
 use Rattle.gql_exec_plan.specs.Plan.{ArePartsOf, ground_of}
-use Rattle.gql_exec_plan.proofs.Nodes.{begun-parts}
+use Rattle.gql_exec_plan.proofs.Nodes.{HasGroups, begun-parts}
+use Rattle.gql_schema_types.specs.declared.schema.Schema.{Schema}
 use Rattle.gql_exec_plan.proofs.planner.Planner.parts.Goals as goal
 
 pub collect_fields-requires : goal.collect_fields-requires
@@ -18,7 +18,10 @@ returns g c =
     let U = c.args.object_type.now in
     let sets = sets_of c.args.pieces.now in
     let groups = c.into_groups.result in
-    let same = subst (λ (gs : List Group). SameGroups (groups_seen gs) (applying (setting ground.fragments ground.schema U ground.variables) sets))
-    (sym c.into_groups.ensures) c.in_ok-grouped.ensures.groups in
-    IfOk-weaker c.begun.result (λ parts. AreBegun groups parts) (λ parts. ArePartsOf ground U sets parts)
+    let seen = groups_seen c.in_ok-grouped.grouped in
+    let by_schema = subst (λ (schema : Schema). SameGroups seen (applying (setting ground.fragments schema U c.as_ref-variables.result.now) sets))
+    c.as_ref-schema.ensures c.in_ok-grouped.ensures.groups in
+    let by_ground = subst (λ values. SameGroups seen (applying (setting ground.fragments ground.schema U values) sets)) c.as_ref-variables.ensures by_schema in
+    let same = subst (HasGroups ground U sets) (sym c.into_groups.ensures) by_ground in
+    IfOk-weaker c.begun.result (λ parts. AreBegun ground U groups parts) (λ parts. ArePartsOf ground U sets parts)
     (λ parts begun. begun-parts ground U sets groups parts same begun) c.begun.ensures

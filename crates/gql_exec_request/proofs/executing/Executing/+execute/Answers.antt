@@ -27,13 +27,14 @@ use Rattle.gql_exec_request.proofs.Ways.{item-place, item_in}
 use Rattle.gql_exec_request.proofs.executing.Executing.+execute.Goals as goal
 use Rattle.gql_exec_request.proofs.executing.Executing.+execute.Goals.{complete_items-in-Value+in_ok-push-in-Value, complete_items-in-LeftOut, execute_parts-in-Value+in_ok-key-in-Value+in_ok-insert_new-in-Value, execute_parts-in-LeftOut}
 use Rattle.gql_exec_groups.specs.Ranks.{AreRanked}
-use Rattle.gql_exec_plan.specs.Plan.{Ground, ground_of, AreNodes, IsTyped, groups_in, sets_below, HaveNodes, group_in}
+use Rattle.gql_exec_plan.specs.Plan.{Ground, ground_of, AreNodes, IsTyped, field_in, fields_in, groups_in, sets_below, HaveNodes, group_in}
+use Rattle.gql_exec_plan.specs.declared.planned_field.PlannedField.{PlannedField}
 use Rattle.gql_exec_plan.proofs.Nodes.{part-with}
 use Rattle.gql_exec_request.specs.Planning.{ground_in}
 use Rattle.gql_exec_request.proofs.Views.{views}
 use Rattle.gql_ast_base.specs.Names.{Named}
 use Rattle.gql_exec_world.specs.RequestWorld.{plain_world}
-use Rattle.gql_exec_plan.proofs.Changes.{with_nodes, changed-group}
+use Rattle.gql_exec_plan.proofs.Changes.{with_nodes, changed-field}
 use Rattle.gql_exec_request.proofs.Collecting.{views-apart, views-end}
 use Rattle.gql_exec_request.proofs.Groups.{IsExecuting, executing-begun, executing-more, executing-less, executing-stops, executing-ends}
 use Rattle.gql_exec_request.proofs.Keys.{key-free}
@@ -266,26 +267,27 @@ complete_item-returns-in_ok-list_failure-in-Err-clause-made g t c =
 
 pub execute_field-complete_value-requires : goal.execute_field-complete_value-requires
 execute_field-complete_value-requires g t c =
-    let pieces = (group_of c.args.group.now).pieces in
+    let pieces = (group_of c.args.field.now.group).pieces in
     let schema = schema_in c.args.self.now in
-    let field = c.args.group.now.first.now in
-    let low : height c.definition_on-definition.result.now.ty ≤ top schema =
-    subst (λ (d : FieldDefinition). height d.ty ≤ top schema) (sym c.definition_on-definition.ensures)
-    (definition-top schema c.args.object_type.now.name.text field.name.text field.definition c.requires.defined) in
-    let smaller : measure c.args.self.now pieces (4 * height c.definition_on-definition.result.now.ty + 3) < measure c.args.self.now pieces (4 * top schema + 7) = omega (arith, low) in
+    let first = c.args.field.now.group.first.now in
+    let definition = c.args.field.now.definition.now in
+    let low : height definition.ty ≤ top schema =
+    subst (λ (d : FieldDefinition). height d.ty ≤ top schema) (sym c.requires.asked.definition)
+    (definition-top schema c.args.object_type.now.name.text first.name.text first.definition c.requires.defined) in
+    let smaller : measure c.args.self.now pieces (4 * height definition.ty + 3) < measure c.args.self.now pieces (4 * top schema + 7) = omega (arith, low) in
     search rules
 
 pub execute_field-returns-in-Gave-clause-made : goal.execute_field-returns-in-Gave-clause-made
 execute_field-returns-in-Gave-clause-made g t c =
     field-gave g.O.ObjectValue.seen (request_of c.args.self.now g.O.ObjectValue.type_of g.O.ObjectValue.resolves) c.args.errors.now c.complete_value.new.errors c.complete_value.result
-    c.args.object_type.now (g.O.ObjectValue.seen c.args.object.now) (trail_of c.args.path.now) (group_of c.args.group.now) c.key.result.now c.definition_on-definition.result.now
-    c.in_ok-resolved.field-0 c.key.ensures c.definition_on-definition.ensures c.in_ok-resolved.ensures c.in-Gave.resolved c.in-Gave.is c.complete_value.ensures.made
+    c.args.object_type.now (g.O.ObjectValue.seen c.args.object.now) (trail_of c.args.path.now) (group_of c.args.field.now.group) c.key.result.now c.args.field.now.definition.now
+    c.in_ok-resolved.field-0 c.key.ensures c.requires.asked.definition c.in_ok-resolved.ensures c.in-Gave.resolved c.in-Gave.is c.complete_value.ensures.made
 
 pub execute_field-returns-in-Failed-clause-made : goal.execute_field-returns-in-Failed-clause-made
 execute_field-returns-in-Failed-clause-made g t c =
     field-failed g.O.ObjectValue.seen (request_of c.args.self.now g.O.ObjectValue.type_of g.O.ObjectValue.resolves) c.args.errors.now c.fail.new.errors c.fail.result
-    c.args.object_type.now (g.O.ObjectValue.seen c.args.object.now) (trail_of c.args.path.now) (group_of c.args.group.now) c.key.result.now c.definition_on-definition.result.now
-    c.in_ok-resolved.field-0 c.key.ensures c.definition_on-definition.ensures c.in_ok-resolved.ensures c.in-Failed.error c.in-Failed.is c.fail.ensures
+    c.args.object_type.now (g.O.ObjectValue.seen c.args.object.now) (trail_of c.args.path.now) (group_of c.args.field.now.group) c.key.result.now c.args.field.now.definition.now
+    c.in_ok-resolved.field-0 c.key.ensures c.requires.asked.definition c.in_ok-resolved.ensures c.in-Failed.error c.in-Failed.is c.fail.ensures
 
 pub execute_field-returns-in-Failed-clause-planned : goal.execute_field-returns-in-Failed-clause-planned
 execute_field-returns-in-Failed-clause-planned g t c = ok-anyway c.fail.result _ c.requires.planned
@@ -293,8 +295,8 @@ execute_field-returns-in-Failed-clause-planned g t c = ok-anyway c.fail.result _
 pub execute_field-returns-in-Refused-clause-made : goal.execute_field-returns-in-Refused-clause-made
 execute_field-returns-in-Refused-clause-made g t c =
     field-faulted g.O.ObjectValue.seen (request_of c.args.self.now g.O.ObjectValue.type_of g.O.ObjectValue.resolves) c.args.errors.now c.refuse_argument.new.errors c.refuse_argument.result
-    c.args.object_type.now (g.O.ObjectValue.seen c.args.object.now) (trail_of c.args.path.now) (group_of c.args.group.now) c.key.result.now c.definition_on-definition.result.now
-    c.in_ok-resolved.field-0 c.key.ensures c.definition_on-definition.ensures c.in_ok-resolved.ensures c.in-Refused.fault c.in-Refused.is c.refuse_argument.ensures
+    c.args.object_type.now (g.O.ObjectValue.seen c.args.object.now) (trail_of c.args.path.now) (group_of c.args.field.now.group) c.key.result.now c.args.field.now.definition.now
+    c.in_ok-resolved.field-0 c.key.ensures c.requires.asked.definition c.in_ok-resolved.ensures c.in-Refused.fault c.in-Refused.is c.refuse_argument.ensures
 
 pub execute_field-returns-in-Refused-clause-planned : goal.execute_field-returns-in-Refused-clause-planned
 execute_field-returns-in-Refused-clause-planned g t c = ok-anyway c.refuse_argument.result _ c.requires.planned
@@ -312,7 +314,7 @@ execute_parts-loop-number-init g t c =
       same = refl;
       planned = c.requires.planned.1.1;
       so_far = subst (λ ms. IsExecuting w U x outer ms before before (views groups) (views groups)) (sym c.new-members.ensures)
-          (executing-begun w U x outer before (views groups) (views groups) refl (views-apart r U groups c.requires.planned.0 c.requires.planned.1.0));
+          (executing-begun w U x outer before (views groups) (views groups) refl (views-apart r U groups c.requires.planned.0 c.requires.planned.1.0.groups));
     }
 
 pub execute_parts-execute_field-requires : goal.execute_parts-execute_field-requires
@@ -323,6 +325,7 @@ execute_parts-execute_field-requires g t c =
     let smaller = at.smaller in
     let defined = at.defined in
     let planned = at.nodes in
+    let asked = at.asked in
     search rules
 
 pub execute_parts-insert_new-requires : goal.execute_parts-insert_new-requires
@@ -348,7 +351,7 @@ execute_parts-returns-in-NullPasses g t c =
       executed = executing-stops (world_of c.args.self.now g.O.ObjectValue.type_of g.O.ObjectValue.resolves) c.args.object_type.now (g.O.ObjectValue.seen c.args.object.now) (trail_of c.args.path.now)
           c.loop-number.members c.loop-number.errors c.args.errors.now c.execute_field.new.errors (views (drop i groups)) (views groups) (views (drop (i + 1) groups))
           (group_of (group_in part)) (made_of c.in_ok-value.field-0) (ap made_of c.in-NullPasses.is) at.first c.in_ok-value.ensures.made c.loop-number.invariant.so_far;
-      same = map-set group_in c.loop-number.parts i part (with_nodes part c.execute_field.new.nodes) is (changed-group part c.execute_field.new.nodes) ∙ c.loop-number.invariant.same;
+      same = map-set field_in c.loop-number.parts i part (with_nodes part c.execute_field.new.nodes) is (changed-field part c.execute_field.new.nodes) ∙ c.loop-number.invariant.same;
       planned = part-with (ground_in c.args.self.now) c.loop-number.parts i part c.execute_field.new.nodes c.loop-number.invariant.planned c.in_ok-value.ensures.planned;
     }
 
@@ -366,12 +369,12 @@ execute_parts-loop-number-preserved g t c =
     let at = here c.args.self.now g.O.ObjectValue.type_of g.O.ObjectValue.resolves U c.requires.ranked.0 c.requires.ranked.1 c.requires.planned.0 c.args.parts.now
     c.loop-number.parts i part c.requires.planned.1 c.loop-number.invariant.same c.loop-number.invariant.planned is in
     let group = group_of (group_in part) in
-    let same = map-set group_in c.loop-number.parts i part (with_nodes part nodes) is (changed-group part nodes) ∙ c.loop-number.invariant.same in
+    let same = map-set field_in c.loop-number.parts i part (with_nodes part nodes) is (changed-field part nodes) ∙ c.loop-number.invariant.same in
     let have = part-with (ground_in c.args.self.now) c.loop-number.parts i part nodes c.loop-number.invariant.planned c.in_ok-value.ensures.planned in
     elim c.match-branch-2.branch [
       | execute_parts-in-Value+in_ok-key-in-Value+in_ok-insert_new-in-Value b ↦
           record {
-            same = ap groups_in b.parts-is ∙ same;
+            same = ap fields_in b.parts-is ∙ same;
             planned = subst (HaveNodes (ground_in c.args.self.now)) (sym b.parts-is) have;
             so_far = executing-more w U x outer c.loop-number.members c.match-branch-2.members c.loop-number.errors c.args.errors.now c.execute_field.new.errors (views (drop i groups)) (views groups)
                 (views (drop (i + 1) groups)) group b.in_ok-key-in-Value.key b.in-Value.value (made_of c.in_ok-value.field-0) (ap made_of b.in-Value.is) at.first
@@ -380,7 +383,7 @@ execute_parts-loop-number-preserved g t c =
           }
       | execute_parts-in-LeftOut b ↦
           record {
-            same = ap groups_in b.parts-is ∙ same;
+            same = ap fields_in b.parts-is ∙ same;
             planned = subst (HaveNodes (ground_in c.args.self.now)) (sym b.parts-is) have;
             so_far = subst (λ ms. IsExecuting w U x outer ms c.execute_field.new.errors c.args.errors.now (views (drop (i + 1) groups)) (views groups)) (sym b.members-is)
                 (executing-less w U x outer c.loop-number.members c.loop-number.errors c.args.errors.now c.execute_field.new.errors (views (drop i groups)) (views groups)
@@ -393,5 +396,5 @@ execute_parts-returns-clause-executed g t c =
     let w = world_of c.args.self.now g.O.ObjectValue.type_of g.O.ObjectValue.resolves in
     let groups = groups_in c.args.parts.now in
     let i = c.loop-number.number in
-    let past : length groups ≤ i = omega (arith, length-map c.args.parts.now group_in, c.len-number-end.ensures, c.loop-number-test.false, c.loop-number.auto.number-end) in
+    let past : length groups ≤ i = omega (arith, length-map (fields_in c.args.parts.now) (λ (field : PlannedField). field.group), length-map c.args.parts.now field_in, c.len-number-end.ensures, c.loop-number-test.false, c.loop-number.auto.number-end) in
     executing-ends w c.args.object_type.now (g.O.ObjectValue.seen c.args.object.now) (trail_of c.args.path.now) c.loop-number.members c.loop-number.errors c.args.errors.now (views (drop i groups)) (views groups) (views-end groups i past) c.loop-number.invariant.so_far

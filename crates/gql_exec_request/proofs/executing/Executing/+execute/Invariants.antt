@@ -1,5 +1,5 @@
 use Rattle.std.proofs.Common.{◌≡◌, ◌+◌, ◌*◌, drop, length}
-use Rattle.gql_exec_plan.specs.Plan.{AreNodes, HaveNodes, groups_in, sets_below}
+use Rattle.gql_exec_plan.specs.Plan.{AreNodes, HaveNodes, fields_in, groups_in, sets_below}
 use Rattle.gql_exec_resolve.specs.Meaning.{meanings_by}
 use Rattle.gql_exec_resolve.proofs.Height.{height}
 use Rattle.gql_exec_request.specs.Planning.{ground_in}
@@ -16,7 +16,7 @@ abbrev pub decreases-execute_parts : goal.decreases-execute_parts
 decreases-execute_parts g l = room l.self.now * deepest (fragments_in l.self.now) (groups_in l.parts.now)
 
 abbrev pub decreases-execute_field : goal.decreases-execute_field
-decreases-execute_field g l = measure l.self.now (group_of l.group.now).pieces (4 * top (schema_in l.self.now) + 7)
+decreases-execute_field g l = measure l.self.now (group_of l.field.now.group).pieces (4 * top (schema_in l.self.now) + 7)
 
 abbrev pub decreases-complete_value : goal.decreases-complete_value
 decreases-complete_value g l = measure l.self.now (group_of l.place.now.group.now).pieces (4 * height l.place.now.ty.now + 3)
@@ -39,7 +39,7 @@ decreases-complete_item g l = measure l.self.now (group_of l.list.now.group.now)
 abbrev pub invariant-execute_parts-loop-number : goal.invariant-execute_parts-loop-number
 invariant-execute_parts-loop-number g l =
     record {
-      same : groups_in l.parts ≡ groups_in l.fn.parts;
+      same : fields_in l.parts ≡ fields_in l.fn.parts;
       planned : HaveNodes (ground_in l.self) l.parts;
       so_far : IsExecuting (world_of l.self g.O.ObjectValue.type_of g.O.ObjectValue.resolves) l.object_type (g.O.ObjectValue.seen l.object) (trail_of l.path)
           l.members l.errors l.fn.errors (views (drop l.number (groups_in l.fn.parts))) (views (groups_in l.fn.parts));

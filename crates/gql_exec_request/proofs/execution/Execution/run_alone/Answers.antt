@@ -28,7 +28,7 @@ returns g c =
     let groups = groups_in c.in_ok-parts.parts in
     let found = c.in_ok-root.root in
     let after = c.execute_parts.new.errors in
-    let executes = executed-sets (plain_world r) root x (trail_of Root) sets (views groups) found c.new-errors.result after (views-run r root groups sets parts.0) c.in_ok-root.ensures.executed in
+    let executes = executed-sets (plain_world r) root x (trail_of Root) sets (views groups) found c.new-errors.result after (views-run r root groups sets parts.0.groups) c.in_ok-root.ensures.executed in
     answered-alone r ranked.0 (fragments-ranked all ranked.0 ranked.1) root x selections (trail_of Root) sets found c.new-errors.result after trail-root alone c.new-errors.ensures executes
 
 pub parts-requires : goal.parts-requires
