@@ -1,4 +1,6 @@
+mod Agreement
 mod ClassGrowth
+mod FamilySets
 mod Keyed
 mod Likeness
 mod Pairing

@@ -3,6 +3,7 @@ pub mod ClassSteps
 pub mod ConflictingFieldArgument
 pub mod ConflictingFieldName
 pub mod ConflictingFieldType
+pub mod Families
 pub mod FieldSelectionMerging
 pub mod Gathering
 pub mod Keying

@@ -208,7 +208,7 @@ fn has_class(base: usize, classes: &[usize], item: usize) -> bool
 }
 
 /// The class of a field, its own where it has none yet.
-fn class_of(classes: &[usize], field: usize) -> usize
+pub(crate) fn class_of(classes: &[usize], field: usize) -> usize
     ensures { result ≡ step.class_of classes.now field }
 {
     match classes.get(field) {

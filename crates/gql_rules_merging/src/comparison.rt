@@ -67,7 +67,7 @@ fn below(
 }
 
 /// Whether two fields have different names or different arguments.
-fn differ(one: &Selected<'_>, other: &Selected<'_>) -> bool
+pub(crate) fn differ(one: &Selected<'_>, other: &Selected<'_>) -> bool
     ensures { result ≡ spec.differ (selected_of one.now) (selected_of other.now) }
 {
     names_conflict(one, other) || !have_same_arguments(one, other)

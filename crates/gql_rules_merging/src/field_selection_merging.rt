@@ -10,6 +10,7 @@ ghost use Rattle.gql_rules_merging.specs.Telling as telling;
 
 use crate::classes::classes_of;
 use crate::comparison::Comparison;
+use crate::families::is_sound_by_families;
 use crate::numbering::{Numbered, number_fields};
 use crate::response_keys::key_numbers;
 use gql_diag_messages::DiagnosticData;
@@ -36,8 +37,8 @@ pub fn list_conflicting_fields(
     Ok(())
 }
 
-/// The same of a document whose fields are numbered. Where many fields are alike, one of each class is compared first: if no
-/// pair of those breaks the rule, none does.
+/// The same of a document whose fields are numbered. Pairs are looked at one by one only where no faster way tells that none breaks
+/// the rule.
 fn list_numbered(
     alloc: Global,
     types: &Table<ExtendedType>,
@@ -48,13 +49,29 @@ fn list_numbered(
     requires { keys.now ≡ telling.key_numbers (fields_of numbered.now.fields) }
     ensures { OnOk result ((told : List DiagnosticData) × telling.AreConflictsOf types.now (numbered_of numbered.now) told × (faults.new ≡ faults.old ++ told)) }
 {
-    let fields = numbered.fields.as_slice();
-    let classes = classes_of(alloc, numbered.fragments.len(), fields)?;
-    if is_sound_by_classes(alloc, types, numbered, keys, classes.as_slice())? {
+    if none_breaks(alloc, types, numbered, keys)? {
         return Ok(());
     }
     list_each(alloc, types, numbered, keys, faults)?;
     Ok(())
+}
+
+/// Whether no pair of fields breaks the rule, as their families tell, or else one field of each class. It may be false where no pair
+/// does.
+fn none_breaks(
+    alloc: Global,
+    types: &Table<ExtendedType>,
+    numbered: &Numbered<'_>,
+    keys: &[usize],
+) -> Result<bool, Memory>
+    requires { keys.now ≡ telling.key_numbers (fields_of numbered.now.fields) }
+    ensures { IfOk result (λ none. none ≡ true → telling.NoneBreaks types.now (numbered_of numbered.now)) }
+{
+    if is_sound_by_families(alloc, types, numbered, keys)? {
+        return Ok(true);
+    }
+    let classes = classes_of(alloc, numbered.fragments.len(), numbered.fields.as_slice())?;
+    is_sound_by_classes(alloc, types, numbered, keys, classes.as_slice())
 }
 
 /// Whether no pair of fields breaks the rule, as the pairs of their classes tell. It may be false where no pair does.

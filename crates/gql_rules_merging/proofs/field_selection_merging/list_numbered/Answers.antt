@@ -6,4 +6,4 @@ use Rattle.gql_rules_merging.proofs.field_selection_merging.list_numbered.Goals 
 
 pub returns-then-branch : goal.returns-then-branch
 returns-then-branch c =
-    ([], none_told c.args.types.now (numbered_of c.args.numbered.now) (c.in_ok-is_sound_by_classes.ensures c.if-branch.true), sym (append-nil c.args.faults.now))
+    ([], none_told c.args.types.now (numbered_of c.args.numbered.now) (c.in_ok-none_breaks.ensures c.if-branch.true), sym (append-nil c.args.faults.now))

@@ -1,0 +1,8 @@
+use Rattle.std.proofs.Common.{◌≡◌, ℕ, ◌<◌, true}
+use Rattle.gql_rules_merging.specs.Families.{is_agreed_at}
+use Rattle.gql_rules_merging.specs.Gathering.{fields_of}
+use Rattle.gql_rules_merging.proofs.families.all_agree.Given as goal
+
+-- the fields before this one agree
+abbrev pub invariant-loop-number : goal.invariant-loop-number
+invariant-loop-number l = (a : ℕ) → a < l.number → is_agreed_at l.types (fields_of l.fields) l.families a ≡ true

@@ -1,0 +1,16 @@
+use Rattle.std.proofs.Common.{◌<◌, length, sym, subst}
+use Rattle.gql_rules_pairs.specs.Explored.{class_of}
+use Rattle.gql_rules_merging.proofs.Agreement.{families_within, none_break}
+use Rattle.gql_rules_merging.proofs.FamilySets.{fields_length}
+use Rattle.gql_rules_merging.specs.Gathering.{fields_of, numbered_of}
+use Rattle.gql_rules_merging.proofs.families.are_closed.Goals as goal
+
+pub gathered-requires : goal.gathered-requires
+gathered-requires c number within =
+    let held = c.args.numbered.now.fields in
+    subst (λ n. class_of c.args.families.now number < n) (fields_length held)
+    (families_within c.args.types.now (fields_of held) c.args.families.now c.requires.agreed number (subst (λ n. number < n) (sym (fields_length held)) within))
+
+pub returns : goal.returns
+returns c closed =
+    none_break c.args.types.now (numbered_of c.args.numbered.now) c.args.families.now c.in_ok-rows.rows c.requires.agreed c.in_ok-rows.ensures (c.in_ok-none_meet.ensures closed)
