@@ -66,8 +66,8 @@ impl<'s> Executing<'s> {
     {
         let name = group.first.name.as_str();
         if name == "__typename" {
-            let text = Value::from_text(self.alloc, object_type.name.as_str())?;
-            return Ok(Asked::Gave(ResolvedValue::Leaf(text)));
+            let text = object_type.name.text().copy(self.alloc)?;
+            return Ok(Asked::Gave(ResolvedValue::Leaf(Value::String(text))));
         }
         if self.is_hidden(object_type, name) {
             let message = Text::from_str(self.alloc, "schema introspection is disabled")?;

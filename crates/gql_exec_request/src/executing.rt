@@ -29,7 +29,7 @@ use gql_exec_resolve::{FieldError, ObjectValue, RequestInfo, ResolvedValue};
 use gql_exec_steps::Steps;
 use gql_response::GraphQLError;
 use gql_schema_types::{ObjectType, Schema};
-use jb_text::{ByteString, Listed, Memory, Refused};
+use jb_text::{Listed, Memory, Refused};
 use jb_tree::{Map, Value};
 use std::alloc::{AllocError, Global};
 use std::sync::ledger::Ledger;
@@ -90,7 +90,7 @@ impl<'s> Executing<'s> {
         ensures same { OnOk result (fields_in parts.new ≡ fields_in parts.old) }
         ensures planned { OnOk result (HaveNodes (ground_in self.now) parts.new) }
     {
-        let mut members = Map::new(self.alloc);
+        let mut members = Map::with_capacity(self.alloc, parts.len())?;
         for number in 0..parts.len() {
             // There is a part of each number below their count.
             let Some(part) = parts.get_mut(number) else {
@@ -106,7 +106,7 @@ impl<'s> Executing<'s> {
                 steps,
             )? {
                 Completed::Value(value) => {
-                    let key = ByteString::from_text(self.alloc, part.field.group.key().as_str())?;
+                    let key = part.field.group.key().text().copy(self.alloc)?;
                     members.insert_new(key, value)?;
                 }
                 Completed::LeftOut => {}

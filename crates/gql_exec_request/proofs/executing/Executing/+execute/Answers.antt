@@ -313,7 +313,7 @@ execute_parts-loop-number-init g t c =
     record {
       same = refl;
       planned = c.requires.planned.1.1;
-      so_far = subst (λ ms. IsExecuting w U x outer ms before before (views groups) (views groups)) (sym c.new-members.ensures)
+      so_far = subst (λ ms. IsExecuting w U x outer ms before before (views groups) (views groups)) (sym c.in_ok-members.ensures)
           (executing-begun w U x outer before (views groups) (views groups) refl (views-apart r U groups c.requires.planned.0 c.requires.planned.1.0.groups));
     }
 
@@ -378,7 +378,7 @@ execute_parts-loop-number-preserved g t c =
             planned = subst (HaveNodes (ground_in c.args.self.now)) (sym b.parts-is) have;
             so_far = executing-more w U x outer c.loop-number.members c.match-branch-2.members c.loop-number.errors c.args.errors.now c.execute_field.new.errors (views (drop i groups)) (views groups)
                 (views (drop (i + 1) groups)) group b.in_ok-key-in-Value.key b.in-Value.value (made_of c.in_ok-value.field-0) (ap made_of b.in-Value.is) at.first
-                (b.in_ok-key-in-Value.ensures ∙ b.as_str.ensures.text ∙ ap (λ (n : Named). n.text) b.key.ensures ∙ changed-key part nodes) (b.members-is ∙ b.in_ok-insert_new-in-Value.ensures.pairs) c.in_ok-value.ensures.made
+                (b.in_ok-key-in-Value.ensures ∙ b.text.ensures ∙ ap (λ (n : Named). n.text) b.key.ensures ∙ changed-key part nodes) (b.members-is ∙ b.in_ok-insert_new-in-Value.ensures.pairs) c.in_ok-value.ensures.made
                 c.loop-number.invariant.so_far;
           }
       | execute_parts-in-LeftOut b ↦
