@@ -1,4 +1,10 @@
 pub mod Changes
 pub mod Fields
+pub mod Growing
+pub mod Joined
 pub mod Lists
 pub mod Nodes
+pub mod Room
+pub mod Totals
+pub mod Ways
+pub mod Weights

@@ -1,28 +1,54 @@
 -- Nodes of a plan: one that is there, one that has grown, one more.
-use Rattle.std.proofs.Common.{◌≡◌, ℕ, zero, suc, List, [], ◌∷◌, ◌++◌, Some, slice_get, slice_set, refl, sym, ap, ◌∙◌, subst}
-use Rattle.std.specs.List.{AllByRecursion, position}
+use Rattle.std.proofs.Common.{◌≡◌, ℕ, zero, suc, Bool, true, false, cond, List, [], ◌∷◌, ◌++◌, map, Option, Some, None, option_map, slice_get, slice_set, inl, inr, refl, sym, ap, ◌∙◌, subst}
+use Rattle.std.specs.List.{AllByRecursion, find, position}
 use Rattle.std.proofs.lemmas.Slice.Eq.{bytes_eq-Decides}
 use Rattle.gql_document_types.specs.declared.selection.Selection.{Selection}
 use Rattle.gql_schema_types.specs.Schemas.{object_of}
 use Rattle.gql_schema_types.specs.declared.schema.Schema.{Schema}
 use Rattle.gql_schema_types.specs.declared.types.ObjectType.{ObjectType}
+use Rattle.gql_schema_types.proofs.Lookups.{missing}
 use Rattle.gql_exec_groups.specs.Collected.{setting}
 use Rattle.gql_exec_groups.specs.Grouping.{groups_seen}
 use Rattle.gql_exec_groups.specs.Groups.{SameGroups, applying}
 use Rattle.gql_exec_groups.specs.declared.group.Group.{Group}
 use Rattle.gql_exec_plan.specs.Growth.{is_for, AreBegun, IsAdded}
-use Rattle.gql_exec_plan.specs.Plan.{Ground, type_in, parts_in, group_in, nodes_in, fields_in, groups_in, groups_from, sets_below, IsTyped, IsPlanned, AreCollected, AreNodesTo, AreNodes, HaveNodes, ArePartsOf, IsNodeOf}
+use Rattle.gql_exec_plan.specs.Lists.{IsOneOf, AreApart}
+use Rattle.gql_exec_plan.specs.Plan.{Ground, type_in, parts_in, group_in, nodes_in, names_in, fields_in, groups_in, groups_from, sets_below, IsTyped, IsWithin, IsPlanned, AreCollected, AreNodesTo, AreNodes, HaveNodes, ArePartsOf, IsNodeOf}
 use Rattle.gql_exec_plan.specs.declared.plan.Node.{Node}
 use Rattle.gql_exec_plan.specs.declared.plan.Part.{Part}
 use Rattle.gql_exec_plan.specs.declared.planned_field.PlannedField.{PlannedField}
 use Rattle.gql_exec_plan.proofs.Changes.{with_nodes, with_parts, changed-field, changed-nodes, changed-type, changed-parts}
-use Rattle.gql_exec_plan.proofs.Lists.{all-at, all-set, all-more, at-end, at-position}
+use Rattle.gql_exec_plan.proofs.Lists.{all-at, all-set, all-more, at-end, at-position, map-set}
 
 -- two object types of a schema that have one name
 pub one-type : (schema : Schema) (U V : ObjectType) → IsTyped schema U → IsTyped schema V → U.name.text ≡ V.name.text → U ≡ V
 one-type schema U V typed other same =
     let both : Some U ≡ Some V = sym typed ∙ ap (object_of schema) same ∙ other in
     cc
+
+-- a name that no node's type has
+names-new : (name : List ℕ) (nodes : List Node) → find (is_for name) nodes ≡ None → ¬ (IsOneOf name (names_in nodes))
+names-new name [] none one = absurd one
+names-new name (node ∷ nodes) none one = by (is_for name node) refl (names-new name nodes) none one
+  where
+    by : (b : Bool) → is_for name node ≡ b → (find (is_for name) nodes ≡ None → ¬ (IsOneOf name (names_in nodes))) → cond b (Some node) (find (is_for name) nodes) ≡ None
+        → IsOneOf name (names_in (node ∷ nodes)) → ⊥
+    by true here rest e one = let f : Some node ≡ None = e in cc
+    by false here rest e (inl same) = let f : true ≡ false = sym ((bytes_eq-Decides name (type_in node).name.text).1 same) ∙ here in cc
+    by false here rest e (inr later) = rest e later
+
+apart-more : (names : List (List ℕ)) (name : List ℕ) → AreApart names → ¬ (IsOneOf name names) → AreApart (names ++ name ∷ [])
+apart-more [] name apart new = (λ one. one, tt)
+apart-more (n ∷ ns) name apart new = (
+  λ one. not_last ns one apart.0,
+  apart-more ns name apart.1 (λ one. new (inr one)),
+)
+  where
+    not_last : (ms : List (List ℕ)) → IsOneOf n (ms ++ name ∷ []) → ¬ (IsOneOf n ms) → ⊥
+    not_last [] (inl same) none = new (inl (sym same))
+    not_last [] (inr one) none = absurd one
+    not_last (m ∷ ms) (inl same) none = none (inl same)
+    not_last (m ∷ ms) (inr one) none = not_last ms one (λ later. none (inr later))
 
 module _ (ground : Ground) where
   -- what a node in its place must be
@@ -34,26 +60,38 @@ module _ (ground : Ground) where
 
   pub node-typed : (sets : List (List Selection)) (nodes : List Node) (i : ℕ) (node : Node) → AreNodes ground sets nodes → slice_get nodes i ≡ Some node
       → IsTyped ground.schema (type_in node)
-  node-typed sets nodes i node are is = (all-at (IsNodeTo zero sets) nodes i node (are (suc zero)) is).0
+  node-typed sets nodes i node are is = (all-at (IsNodeTo zero sets) nodes i node (are (suc zero)).2 is).0
 
   pub node-parts : (sets : List (List Selection)) (nodes : List Node) (i : ℕ) (node : Node) → AreNodes ground sets nodes → slice_get nodes i ≡ Some node
       → ArePartsOf ground (type_in node) sets (parts_in node)
   node-parts sets nodes i node are is =
-      ((all-at (IsNodeTo zero sets) nodes i node (are (suc zero)) is).1, λ n. (all-at (IsNodeTo n sets) nodes i node (are (suc n)) is).2)
+      ((all-at (IsNodeTo zero sets) nodes i node (are (suc zero)).2 is).1, λ n. (all-at (IsNodeTo n sets) nodes i node (are (suc n)).2 is).2)
 
-  pub none : (sets : List (List Selection)) → AreNodes ground sets []
-  none sets zero = tt
-  none sets (suc n) = tt
+  pub none : (sets : List (List Selection)) → IsWithin ground sets → AreNodes ground sets []
+  none sets within zero = within
+  none sets within (suc n) = (within, tt, tt)
 
-  pub one-more : (sets : List (List Selection)) (nodes : List Node) (node : Node) → AreNodes ground sets nodes → IsTyped ground.schema (type_in node)
-      → ArePartsOf ground (type_in node) sets (parts_in node) → AreNodes ground sets (nodes ++ node ∷ [])
-  one-more sets nodes node are typed parts zero = tt
-  one-more sets nodes node are typed parts (suc n) = all-more (IsNodeTo n sets) nodes node (are (suc n)) (typed, parts.0, parts.1 n)
+  names-more : (nodes : List Node) (node : Node) → names_in (nodes ++ node ∷ []) ≡ names_in nodes ++ (type_in node).name.text ∷ []
+  names-more [] node = refl
+  names-more (n ∷ ns) node = ap (λ names. (type_in n).name.text ∷ names) (names-more ns node)
 
-  pub one-grown : (sets : List (List Selection)) (nodes : List Node) (i : ℕ) (node : Node) → AreNodes ground sets nodes → IsTyped ground.schema (type_in node)
-      → ArePartsOf ground (type_in node) sets (parts_in node) → AreNodes ground sets (slice_set nodes i node)
-  one-grown sets nodes i node are typed parts zero = tt
-  one-grown sets nodes i node are typed parts (suc n) = all-set (IsNodeTo n sets) nodes i node (are (suc n)) (typed, parts.0, parts.1 n)
+  pub one-more : (sets : List (List Selection)) (nodes : List Node) (node : Node) → AreNodes ground sets nodes → ¬ (IsOneOf (type_in node).name.text (names_in nodes))
+      → IsTyped ground.schema (type_in node) → ArePartsOf ground (type_in node) sets (parts_in node) → AreNodes ground sets (nodes ++ node ∷ [])
+  one-more sets nodes node are new typed parts zero = are zero
+  one-more sets nodes node are new typed parts (suc n) = (
+    are zero,
+    subst AreApart (sym (names-more nodes node)) (apart-more (names_in nodes) (type_in node).name.text (are (suc n)).1 new),
+    all-more (IsNodeTo n sets) nodes node (are (suc n)).2 (typed, parts.0, parts.1 n),
+  )
+
+  pub one-grown : (sets : List (List Selection)) (nodes : List Node) (i : ℕ) (old node : Node) → AreNodes ground sets nodes → slice_get nodes i ≡ Some old
+      → type_in node ≡ type_in old → ArePartsOf ground (type_in node) sets (parts_in node) → AreNodes ground sets (slice_set nodes i node)
+  one-grown sets nodes i old node are is same parts zero = are zero
+  one-grown sets nodes i old node are is same parts (suc n) = (
+    are zero,
+    subst AreApart (sym (map-set (λ it. (type_in it).name.text) nodes i old node is (ap (λ (U : ObjectType). U.name.text) same))) (are (suc n)).1,
+    all-set (IsNodeTo n sets) nodes i node (are (suc n)).2 (subst (IsTyped ground.schema) (sym same) (node-typed sets nodes i old are is), parts.0, parts.1 n),
+  )
 
   -- the nodes of a part
   abbrev pub HasNodesTo : ℕ → Part → Type 0
@@ -93,25 +131,31 @@ module _ (ground : Ground) where
   node-with sets nodes i node parts are is same have =
       let was = node-parts sets nodes i node are is in
       let new = with_parts node parts in
-      one-grown sets nodes i new are (subst (IsTyped ground.schema) (sym (changed-type node parts)) (node-typed sets nodes i node are is))
+      one-grown sets nodes i node new are is (changed-type node parts)
       (subst (λ U. ArePartsOf ground U sets (parts_in new)) (sym (changed-type node parts))
       (subst (λ (ps : List Part). ArePartsOf ground (type_in node) sets ps) (sym (changed-parts node parts))
       (same-collected (type_in node) sets parts (parts_in node) same was.0, have)))
 
-  fresh-nodes : (n : ℕ) (parts : List Part) → AllByRecursion (λ part. nodes_in part ≡ []) parts → AllByRecursion (HasNodesTo n) parts
-  fresh-nodes n [] all = tt
-  fresh-nodes n (part ∷ parts) all =
-      (subst (λ nodes. AreNodesTo ground n (sets_below (group_in part)) nodes) (sym all.0) (none (sets_below (group_in part)) n), fresh-nodes n parts all.1)
+  -- there is room for what is selected below each group
+  abbrev pub AreWithin : List Group → Type 0
+  AreWithin groups = AllByRecursion (λ (group : Group). IsWithin ground (sets_below group)) groups
+
+  fresh-nodes : (n : ℕ) (parts : List Part) → AllByRecursion (λ part. nodes_in part ≡ []) parts → AreWithin (groups_in parts) → AllByRecursion (HasNodesTo n) parts
+  fresh-nodes n [] all within = tt
+  fresh-nodes n (part ∷ parts) all within = (
+    subst (λ nodes. AreNodesTo ground n (sets_below (group_in part)) nodes) (sym all.0) (none (sets_below (group_in part)) within.0 n),
+    fresh-nodes n parts all.1 within.1,
+  )
 
   -- groups as parts that have no nodes
   pub begun-parts : (U : ObjectType) (sets : List (List Selection)) (groups : List Group) (parts : List Part)
-      → HasGroups U sets groups → AreBegun ground U groups parts → ArePartsOf ground U sets parts
-  begun-parts U sets groups parts same begun = (
+      → HasGroups U sets groups → AreWithin groups → AreBegun ground U groups parts → ArePartsOf ground U sets parts
+  begun-parts U sets groups parts same within begun = (
     record {
       groups = subst (HasGroups U sets) (sym begun.same) same;
       planned = begun.planned;
     },
-    λ n. fresh-nodes n parts begun.fresh,
+    λ n. fresh-nodes n parts begun.fresh (subst AreWithin (sym begun.same) within),
   )
 
   -- a node that is found by the name of its type
@@ -136,10 +180,12 @@ module _ (ground : Ground) where
   }
 
   pub added-nodes : (sets : List (List Selection)) (U : ObjectType) (before after : List Node) (number : ℕ) → IsTyped ground.schema U → AreNodes ground sets before
-      → IsAdded ground U sets before after number → AreNodes ground sets after
-  added-nodes sets U before after number typed are added =
+      → position (is_for U.name.text) before ≡ None → IsAdded ground U sets before after number → AreNodes ground sets after
+  added-nodes sets U before after number typed are none added =
       subst (AreNodes ground sets) (sym added.added)
-      (one-more sets before added.node are (subst (IsTyped ground.schema) (sym added.typed) typed)
+      (one-more sets before added.node are
+      (subst (λ V. ¬ (IsOneOf V.name.text (names_in before))) (sym added.typed) (names-new U.name.text before (missing (is_for U.name.text) before none)))
+      (subst (IsTyped ground.schema) (sym added.typed) typed)
       (subst (λ V. ArePartsOf ground V sets (parts_in added.node)) (sym added.typed) added.planned))
 
 -- a group more as a part

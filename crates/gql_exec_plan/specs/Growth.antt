@@ -12,11 +12,15 @@ use Rattle.gql_exec_plan.specs.declared.plan.Part.{Part}
 abbrev pub is_for : List ℕ → Node → Bool
 is_for name node = bytes_eq name (type_in node).name.text
 
+-- no node stands below these parts yet
+abbrev pub AreFresh : List Part → Type 0
+AreFresh parts = AllByRecursion (λ part. nodes_in part ≡ []) parts
+
 -- these groups with what objects of the type ask by them, and no node below them
 pub record AreBegun (ground : Ground) (U : ObjectType) (groups : List Group) (parts : List Part) : Type 0 where
   pub same : groups_in parts ≡ groups
   pub planned : AllByRecursion (IsPlanned ground U) (fields_in parts)
-  pub fresh : AllByRecursion (λ part. nodes_in part ≡ []) parts
+  pub fresh : AreFresh parts
 
 -- a node more
 pub record IsAdded (ground : Ground) (U : ObjectType) (sets : List (List Selection)) (before after : List Node) (number : ℕ) : Type 0 where
@@ -25,3 +29,4 @@ pub record IsAdded (ground : Ground) (U : ObjectType) (sets : List (List Selecti
   pub last : number ≡ length before
   pub typed : type_in node ≡ U
   pub planned : ArePartsOf ground U sets (parts_in node)
+  pub fresh : AreFresh (parts_in node)

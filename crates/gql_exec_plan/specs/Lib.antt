@@ -1,2 +1,5 @@
+pub mod Lists
+pub mod Room
 pub mod Plan
 pub mod Growth
+pub mod Ways

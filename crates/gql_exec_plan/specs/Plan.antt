@@ -21,6 +21,8 @@ use Rattle.gql_exec_groups.specs.Groups.{SameGroups, applying}
 use Rattle.gql_exec_groups.specs.Kept.{Variables}
 use Rattle.gql_exec_groups.specs.Walk.{fields_of}
 use Rattle.gql_exec_groups.specs.declared.group.Group.{Group}
+use Rattle.gql_exec_plan.specs.Lists.{AreApart}
+use Rattle.gql_exec_plan.specs.Room.{HasRoom, all_selections}
 use Rattle.gql_exec_plan.specs.declared.plan.Node.{Node, out-Node}
 use Rattle.gql_exec_plan.specs.declared.plan.Part.{Part, out-Part}
 use Rattle.gql_exec_plan.specs.declared.planned_field.PlannedField.{PlannedField}
@@ -41,6 +43,10 @@ group_in part = (field_in part).group
 abbrev pub nodes_in : Part → List Node
 nodes_in part = (out-Part part).nodes
 
+-- the names of the types that nodes are for
+abbrev pub names_in : List Node → List (List ℕ)
+names_in nodes = map (λ node. (type_in node).name.text) nodes
+
 -- parts without their nodes
 abbrev pub fields_in : List Part → List PlannedField
 fields_in parts = map field_in parts
@@ -55,20 +61,34 @@ groups_in parts = groups_from (fields_in parts)
 abbrev pub sets_below : Group → List (List Selection)
 sets_below group = map (λ (field : Field). field.selection_set.selections) (fields_of group.fields)
 
--- what a plan is made from
+-- what a plan is made from; of the operation its selections
 pub record Ground : Type 0 where
+  pub operation : List Selection
   pub fragments : List Fragment
   pub schema : Schema
   pub variables : Variables
 
 abbrev pub ground_of : Planner → Ground
-ground_of planner = record { fragments = planner.document.now.fragments; schema = planner.schema.now; variables = planner.variables.now }
+ground_of planner = record {
+  operation = planner.operation.now.selection_set.selections;
+  fragments = planner.document.now.fragments;
+  schema = planner.schema.now;
+  variables = planner.variables.now;
+}
+
+-- the most looks of one collection
+abbrev pub most_looks : Ground → ℕ
+most_looks ground = all_selections ground.fragments ground.operation
 
 -- it is the schema's object type of its name
 abbrev pub IsTyped : Schema → ObjectType → Type 0
 IsTyped schema U = object_of schema U.name.text ≡ Some U
 
 module _ (ground : Ground) where
+  -- a collection of these sets looks at no more than what the operation and the fragments have
+  abbrev pub IsWithin : List (List Selection) → Type 0
+  IsWithin sets = HasRoom ground.fragments ground.operation sets
+
   -- the definition of a field on an object type, which the first field of each group has; else the one where it is selected
   abbrev pub definition_on : ObjectType → Field → FieldDefinition
   definition_on U f = unwrap_or (field_of ground.schema U.name.text f.name.text) f.definition
@@ -87,11 +107,13 @@ module _ (ground : Ground) where
     pub groups : SameGroups (groups_seen (groups_in parts)) (applying (setting ground.fragments ground.schema U ground.variables) sets)
     pub planned : AllByRecursion (IsPlanned U) (fields_in parts)
 
-  -- each node has the groups of these sets on its type, and so on, so many nodes down
+  -- each node has the groups of these sets on a type of its own, and so on, so many nodes down
   abbrev pub AreNodesTo : ℕ → List (List Selection) → List Node → Type 0
-  AreNodesTo zero sets nodes = Unit {0}
+  AreNodesTo zero sets nodes = IsWithin sets
   AreNodesTo (suc n) sets nodes =
-      AllByRecursion (λ node.
+      IsWithin sets
+      × AreApart (names_in nodes)
+      × AllByRecursion (λ node.
       IsTyped ground.schema (type_in node)
       × AreCollected (type_in node) sets (parts_in node)
       × AllByRecursion (λ part. AreNodesTo n (sets_below (group_in part)) (nodes_in part)) (parts_in node)

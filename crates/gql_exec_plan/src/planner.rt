@@ -1,15 +1,17 @@
 //! How plans begin and grow.
 
-ghost use Rattle.std.specs.Prelude.{◌≡◌, ◌++◌, ◌∷◌, [], ℕ, IfOk, OnOk};
+ghost use Rattle.std.specs.Prelude.{◌≡◌, ◌≤◌, ◌+◌, ◌++◌, ◌∷◌, [], ℕ, IfOk, OnOk};
 ghost use Rattle.std.specs.List.{position};
 ghost use Rattle.gql_exec_groups.specs.Collected.{sets_of};
 ghost use Rattle.gql_exec_groups.specs.Ranks.{AreRanked};
+ghost use Rattle.gql_exec_groups.specs.Sizes.{outer_size};
 ghost use Rattle.gql_exec_plan.specs.Growth as growth;
 ghost use Rattle.gql_exec_plan.specs.Plan as spec;
+ghost use Rattle.gql_exec_plan.specs.Ways.{Grows, turns_to};
 
 use crate::plan::{Node, Part};
 use gql_diag::{JsonMap, Valid};
-use gql_document_types::ExecutableDocument;
+use gql_document_types::{ExecutableDocument, Operation};
 use gql_exec_groups::{Group, Pieces, collect_fields};
 use gql_exec_steps::Steps;
 use gql_schema_types::{ObjectType, Schema};
@@ -17,26 +19,34 @@ use jb_text::{Listed, Memory};
 use std::alloc::Global;
 use std::sync::ledger::Ledger;
 
-/// What stays the same while a plan grows: the schema, the document, and the values of the variables.
+/// What stays the same while a plan grows: the schema, the document with the operation that is executed, and the values of
+/// the variables.
 #[derive(Clone, Copy)]
 pub struct Planner<'d> {
     pub alloc: Global,
     pub schema: &'d Valid<Schema>,
     pub document: &'d ExecutableDocument,
+    pub operation: &'d Operation,
     pub variables: &'d Valid<JsonMap>,
 }
 
 impl<'d> Planner<'d> {
     /// The parts of selection sets on objects of this type, with no nodes below them yet (GraphQL October 2021, section
-    /// 6.3.2, CollectFields). `Err` only for want of memory.
+    /// 6.3.2, CollectFields). `Err` only for want of memory. No more steps are counted than the operation and all fragments
+    /// have selections, at every depth.
     pub fn parts<L: Ledger>(
         &self,
         object_type: &ObjectType,
         pieces: &Pieces<'d>,
         steps: &mut Steps<L>,
     ) -> Result<Listed<Part<'d>>, Memory>
-        requires { (rank : ℕ → ℕ) × AreRanked self.now.document.now.fragments rank }
-        ensures { IfOk result (λ parts. spec.ArePartsOf (spec.ground_of self.now) object_type.now (sets_of pieces.now) parts) }
+        requires ranked { (rank : ℕ → ℕ) × AreRanked self.now.document.now.fragments rank }
+        requires within { spec.IsWithin (spec.ground_of self.now) (sets_of pieces.now) }
+        ensures parts { IfOk result (λ parts. spec.ArePartsOf (spec.ground_of self.now) object_type.now (sets_of pieces.now) parts) }
+        ensures fresh { IfOk result growth.AreFresh }
+        ensures looks { steps.new ≤ steps.old + spec.most_looks (spec.ground_of self.now) }
+        ensures rises { steps.old ≤ steps.new }
+        ensures counted { OnOk result (steps.old + outer_size (sets_of pieces.now) ≤ steps.new) }
     {
         let schema = self.schema.as_ref();
         let variables = self.variables.as_ref();
@@ -52,8 +62,8 @@ impl<'d> Planner<'d> {
         self.begun(object_type, grouped.into_groups())
     }
 
-    /// The number of the node for objects of this type among those below a group. It is added where none was there. `Err`
-    /// only for want of memory.
+    /// The number of the node for objects of this type among those below a group. It is added where none was there, and only
+    /// then steps are counted. `Err` only for want of memory.
     pub fn node_number<L: Ledger>(
         &self,
         object_type: &'d ObjectType,
@@ -66,6 +76,8 @@ impl<'d> Planner<'d> {
         requires planned { spec.AreNodes (spec.ground_of self.now) (spec.sets_below group.now) nodes.old }
         ensures planned { OnOk result (spec.AreNodes (spec.ground_of self.now) (spec.sets_below group.now) nodes.new) }
         ensures there { IfOk result (λ number. spec.IsNodeOf object_type.now nodes.new number) }
+        ensures grows { OnOk result (Grows (spec.most_looks (spec.ground_of self.now)) steps.old steps.new
+            (λ n. turns_to n nodes.old) (λ n. turns_to n nodes.new) (λ turn. turn ≡ (object_type.now, []))) }
     {
         match number_of(object_type.name.as_str(), nodes.as_slice()) {
             Some(number) => Ok(number),
@@ -81,9 +93,12 @@ impl<'d> Planner<'d> {
         nodes: &mut Listed<Node<'d>>,
         steps: &mut Steps<L>,
     ) -> Result<usize, Memory>
-        requires { (rank : ℕ → ℕ) × AreRanked self.now.document.now.fragments rank }
-        ensures { IfOk result (λ number.
+        requires ranked { (rank : ℕ → ℕ) × AreRanked self.now.document.now.fragments rank }
+        requires within { spec.IsWithin (spec.ground_of self.now) (spec.sets_below group.now) }
+        ensures added { IfOk result (λ number.
             growth.IsAdded (spec.ground_of self.now) object_type.now (spec.sets_below group.now) nodes.old nodes.new number) }
+        ensures looks { steps.new ≤ steps.old + spec.most_looks (spec.ground_of self.now) }
+        ensures rises { steps.old ≤ steps.new }
     {
         let pieces = group.sub_selections(self.alloc)?;
         let parts = self.parts(object_type, &pieces, steps)?;

@@ -1,19 +1,22 @@
-use Rattle.std.proofs.Common.{sym, subst}
+use Rattle.std.proofs.Common.{List, ◌++◌, sym, subst}
 use Rattle.std.proofs.lemmas.Result.{IfOk-weaker}
 use Rattle.gql_exec_groups.specs.Collected.{setting, sets_of}
-use Rattle.gql_exec_groups.specs.Grouping.{groups_seen}
+use Rattle.gql_exec_groups.specs.Grouping.{fields_in_groups, groups_seen}
 use Rattle.gql_exec_groups.specs.Groups.{SameGroups, applying}
-use Rattle.gql_exec_plan.specs.Growth.{AreBegun}
+use Rattle.gql_exec_groups.specs.Standing.{NoneMoreOften, fields_in_all, fields_in_fragments}
+use Rattle.gql_exec_groups.specs.declared.group.Group.{Group}
+use Rattle.gql_exec_plan.specs.Growth.{AreBegun, AreFresh}
 use Rattle.gql_exec_plan.specs.Plan.{ArePartsOf, ground_of}
 use Rattle.gql_exec_plan.proofs.Nodes.{HasGroups, begun-parts}
+use Rattle.gql_exec_plan.proofs.Room.{room-groups}
 use Rattle.gql_schema_types.specs.declared.schema.Schema.{Schema}
 use Rattle.gql_exec_plan.proofs.planner.Planner.parts.Goals as goal
 
 pub collect_fields-requires : goal.collect_fields-requires
-collect_fields-requires g c = c.requires
+collect_fields-requires g c = c.requires.ranked
 
-pub returns : goal.returns
-returns g c =
+pub returns-clause-parts : goal.returns-clause-parts
+returns-clause-parts g c =
     let ground = ground_of c.args.self.now in
     let U = c.args.object_type.now in
     let sets = sets_of c.args.pieces.now in
@@ -23,5 +26,13 @@ returns g c =
     c.as_ref-schema.ensures c.in_ok-grouped.ensures.groups in
     let by_ground = subst (λ values. SameGroups seen (applying (setting ground.fragments ground.schema U values) sets)) c.as_ref-variables.ensures by_schema in
     let same = subst (HasGroups ground U sets) (sym c.into_groups.ensures) by_ground in
+    let once = subst (λ (gs : List Group). NoneMoreOften (fields_in_groups (groups_seen gs)) (fields_in_all sets ++ fields_in_fragments ground.fragments))
+    (sym c.into_groups.ensures) c.in_ok-grouped.ensures.once in
+    let within = room-groups ground.fragments ground.operation sets groups c.requires.within once in
     IfOk-weaker c.begun.result (λ parts. AreBegun ground U groups parts) (λ parts. ArePartsOf ground U sets parts)
-    (λ parts begun. begun-parts ground U sets groups parts same begun) c.begun.ensures
+    (λ parts begun. begun-parts ground U sets groups parts same within begun) c.begun.ensures
+
+pub returns-clause-fresh : goal.returns-clause-fresh
+returns-clause-fresh g c =
+    IfOk-weaker c.begun.result (λ parts. AreBegun (ground_of c.args.self.now) c.args.object_type.now c.into_groups.result parts) (λ parts. AreFresh parts)
+    (λ parts begun. begun.fresh) c.begun.ensures
