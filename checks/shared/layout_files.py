@@ -4,6 +4,8 @@ import re
 from shared.sources import code_of, crates, files_of, shown
 
 MOST_LINES = 400
+# The prover reads the answers of functions that call one another from one file.
+MOST_LINES_OF_A_CYCLE = 500
 MOST_BYTES_A_LINE = 160
 
 
@@ -23,8 +25,9 @@ def faults():
 
 def length(file):
     lines = file.read_text().count("\n")
-    if lines > MOST_LINES:
-        yield f"{shown(file)}: {lines} lines, at most {MOST_LINES}"
+    most = MOST_LINES_OF_A_CYCLE if file.parent.name.startswith("+") else MOST_LINES
+    if lines > most:
+        yield f"{shown(file)}: {lines} lines, at most {most}"
 
 
 def opening(file):

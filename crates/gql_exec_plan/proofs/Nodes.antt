@@ -118,7 +118,7 @@ module _ (ground : Ground) where
   HasGroups U sets groups = SameGroups (groups_seen groups) (applying (setting ground.fragments ground.schema U ground.variables) sets)
 
   -- parts that are the same but for their nodes
-  same-collected : (U : ObjectType) (sets : List (List Selection)) (parts others : List Part) → fields_in parts ≡ fields_in others
+  pub same-collected : (U : ObjectType) (sets : List (List Selection)) (parts others : List Part) → fields_in parts ≡ fields_in others
       → AreCollected ground U sets others → AreCollected ground U sets parts
   same-collected U sets parts others same are = record {
     groups = subst (λ (fields : List PlannedField). HasGroups U sets (groups_from fields)) (sym same) are.groups;

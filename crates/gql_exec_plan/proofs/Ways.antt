@@ -9,7 +9,7 @@ use Rattle.gql_exec_groups.specs.Groups.{response_key}
 use Rattle.gql_exec_plan.specs.Growth.{AreFresh}
 use Rattle.gql_exec_plan.specs.Lists.{IsOneOf}
 use Rattle.gql_exec_plan.specs.Plan.{nodes_in, parts_in, type_in}
-use Rattle.gql_exec_plan.specs.Ways.{Way, Turn, key_in, part_ways, node_turns, turns_to, ways_to, Grows}
+use Rattle.gql_exec_plan.specs.Ways.{Way, Turn, key_in, part_ways, node_turns, turns_to, ways_to, Grows, TurnsTo}
 use Rattle.gql_exec_plan.specs.declared.plan.Node.{Node}
 use Rattle.gql_exec_plan.specs.declared.plan.Part.{Part}
 use Rattle.gql_exec_plan.specs.declared.planned_field.PlannedField.{PlannedField}
@@ -80,10 +80,6 @@ turns-with : (n : ℕ) (node : Node) (parts : List Part)
 turns-with n node parts =
     ap (λ (V : ObjectType). map (λ (way : Way). (V, way)) ([] ∷ ways_to n (parts_in (with_parts node parts)))) (changed-type node parts)
     ∙ ap (λ ps. map (λ (way : Way). (type_in node, way)) ([] ∷ ways_to n ps)) (changed-parts node parts)
-
--- a turn to this type, with a way on of which this holds
-abbrev pub TurnsTo : ObjectType → (Way → Type 0) → Turn → Type 0
-TurnsTo U Holds turn = (turn.0 ≡ U) × Holds turn.1
 
 module _ (most before after : ℕ) (nodes : List Node) (i : ℕ) (node : Node) (parts : List Part) (there : slice_get nodes i ≡ Some node) where
   abbrev now : List Node

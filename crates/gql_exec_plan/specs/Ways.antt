@@ -41,3 +41,7 @@ pub record Grows {A : Type 0} (most before after : ℕ) (old new : ℕ → List 
   pub levels : ℕ
   pub looks : (n : ℕ) → levels ≤ n → after + length (old n) * most ≤ before + length (new n) * most
   pub holds : (n : ℕ) (item : A) → IsOneOf item (new n) → IsOneOf item (old n) ⊎ Holds item
+
+-- a turn to this type, with a way on of which this holds
+abbrev pub TurnsTo : ObjectType → (Way → Type 0) → Turn → Type 0
+TurnsTo U Holds turn = (turn.0 ≡ U) × Holds turn.1

@@ -8,7 +8,8 @@ use Rattle.gql_schema_types.specs.declared.types.ObjectType.{ObjectType}
 use Rattle.gql_exec_groups.specs.Ranks.{AreRanked}
 use Rattle.gql_exec_places.specs.Execute.{Member, one_object, settled}
 use Rattle.gql_exec_places.specs.Spot.{trail}
-use Rattle.gql_exec_plan.specs.Plan.{Ground, AreNodes, ArePartsOf, HaveNodes, IsNodeOf, fields_in, groups_in, parts_in, sets_below}
+use Rattle.gql_exec_plan.specs.Plan.{Ground, AreNodes, ArePartsOf, HaveNodes, IsNodeOf, fields_in, groups_in, most_looks, parts_in, sets_below}
+use Rattle.gql_exec_plan.specs.Ways.{Grows, TurnsTo, turns_to}
 use Rattle.gql_exec_plan.specs.declared.plan.Node.{Node}
 use Rattle.gql_exec_plan.specs.declared.plan.Part.{Part}
 use Rattle.gql_exec_plan.proofs.Changes.{with_parts}
@@ -18,12 +19,15 @@ use Rattle.gql_exec_request.specs.Executed.{Executes, ExecutesGroups, MakesBelow
 use Rattle.gql_exec_request.specs.declared.executing.Executing.{Executing}
 use Rattle.gql_exec_request.specs.declared.path.Path.TheVariants.{Below}
 use Rattle.gql_exec_request.specs.declared.place.Place.{Place}
-use Rattle.gql_exec_request.specs.Executing.{world_of}
+use Rattle.gql_exec_request.specs.Executing.{request_of, world_of}
+use Rattle.gql_exec_request.specs.Looks.{NodesGrow, PartsGrow}
+use Rattle.gql_exec_request.specs.Opened.{Opens, OpensBy}
 use Rattle.gql_exec_request.specs.Planning.{ground_in}
 use Rattle.gql_exec_request.specs.Trails.{group_of, null_at, spot_of, trail_of}
+use Rattle.gql_exec_request.proofs.Grown.{grown-node}
 use Rattle.gql_exec_request.proofs.Measures.{fragments_in, room, measure, deepest}
 use Rattle.gql_exec_request.proofs.Places.{made-members, made-null}
-use Rattle.gql_exec_request.proofs.Planned.{node-executed, node-less, node-planned}
+use Rattle.gql_exec_request.proofs.Planned.{node-executed, node-less, node-of, node-planned}
 use Rattle.gql_exec_request.proofs.Views.{views}
 use Rattle.gql_exec_request.proofs.Ways.{trail-place}
 
@@ -42,6 +46,16 @@ module _ {X : Type 0} (e : Executing) (types : X → List ℕ) (resolves : Resol
   pub object-grown : (parts : List Part) → fields_in parts ≡ fields_in (parts_in node) → HaveNodes (ground_in e) parts
       → AreNodes (ground_in e) (sets_below place.group.now) (slice_set nodes i (with_parts node parts))
   object-grown parts same-fields have = node-with (ground_in e) (sets_below place.group.now) nodes i node parts are (sym value) same-fields have
+
+  -- the ways of the nodes have grown by those of the object
+  pub object-growth : (x : X) (before between after : ℕ) (old : List Node) (parts : List Part)
+      → Grows (most_looks planner) before between (λ n. turns_to n old) (λ n. turns_to n nodes) (λ turn. turn ≡ (U, []))
+      → PartsGrow e between after (parts_in node) parts (OpensBy (world_of e types resolves) (views (groups_in (parts_in node))) U x)
+      → NodesGrow e before after old (slice_set nodes i (with_parts node parts)) (TurnsTo U (λ way. Opens (world_of e types resolves) way U x (sets_below place.group.now)))
+  object-growth x before between after old parts first grows =
+      let typed = node-of e types resolves U rank ranked (sets_below place.group.now) nodes i node are there (sym value) in
+      let collected = node-planned e types resolves U rank ranked (sets_below place.group.now) nodes i node are there (sym value) in
+      grown-node e (request_of e types resolves) U x (sets_below place.group.now) before between after old nodes i node parts planner same first (sym value) typed collected.0.groups grows
 
   module _ (x : X) (before after : List GraphQLError) where
     -- what is made where its members are these

@@ -85,11 +85,12 @@ object-typed schema name U is = by (type_called name schema.types) refl is
     by None at e = absurd (let f : None ≡ Some U = e in cc)
     by (Some ty) at e = of ty at e
 
-abbrev ground : ExecutableDocument → Schema → Members → Ground
-ground document schema variables = record { fragments = document.fragments; schema = schema; variables = variables }
+abbrev ground : List Selection → ExecutableDocument → Schema → Members → Ground
+ground operation document schema variables = record { operation = operation; fragments = document.fragments; schema = schema; variables = variables }
 
-pub same-ground : (d document : ExecutableDocument) (schema : Schema) (variables : Members) → d ≡ document → ground d schema variables ≡ ground document schema variables
-same-ground d document schema variables same = ap (λ (x : ExecutableDocument). ground x schema variables) same
+pub same-ground : (operation : List Selection) (d document : ExecutableDocument) (schema : Schema) (variables : Members) → d ≡ document
+    → ground operation d schema variables ≡ ground operation document schema variables
+same-ground operation d document schema variables same = ap (λ (x : ExecutableDocument). ground operation x schema variables) same
 
 -- an execution on an object type by a plan
 module _ {X : Type 0} (e : Executing) (types : X → List ℕ) (resolves : Resolving X) (U : ObjectType) (rank : ℕ → ℕ) (ranked : AreRanked (fragments_in e) rank)

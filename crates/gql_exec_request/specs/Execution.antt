@@ -21,6 +21,7 @@ use Rattle.gql_exec_introspected.specs.ThingMeaning.{Resolving, thing_meaning}
 use Rattle.gql_exec_world.specs.Request.{Members, Request}
 use Rattle.gql_exec_world.specs.Response.{IsExecuted, IsExplained}
 use Rattle.gql_exec_request.specs.Executing.{request_by}
+use Rattle.gql_exec_request.specs.Looks.{AreLooks}
 use Rattle.gql_exec_request.specs.declared.execution.Execution.{Execution}
 use Rattle.gql_exec_request.specs.declared.execution.Given.{Given}
 use Rattle.gql_exec_request.specs.declared.execution.Given.TheVariants.{Nothing, Coerced, Raw}
@@ -136,3 +137,40 @@ AnswersBy false execution types resolves x answer = AnswersOver execution types 
 -- over the user's objects; and with introspection over these and its own, from the user's object under the schema
 abbrev pub Answers : {X : Type 0} → Execution → (X → List ℕ) → Resolving X → X → Result ExecutionResponse (Refused RequestError) → Type 0
 Answers execution types resolves x answer = AnswersBy execution.introspection execution types resolves x answer
+
+-- ---- how many selections it looks at
+
+-- Where there is a response: the looks at selections from the one count to the other are those of an execution of what is
+-- prepared
+abbrev pub Looks : {X : Type 0} → Execution → (X → List ℕ) → Resolving X → X → (before after : ℕ) → Result Prepared RequestError
+    → Result ExecutionResponse (Refused RequestError) → Type 0
+Looks execution types resolves x before after wanted (Ok response) =
+    (p : Prepared) × (wanted ≡ Ok p)
+    × AreLooks (request_in execution p.variables types resolves) p.root x p.operation.selection_set.selections before after
+Looks execution types resolves x before after wanted (Err refused) = Unit {0}
+
+-- over the user's objects; and with introspection over these and its own
+abbrev pub CountsBy : {X : Type 0} → Bool → Execution → (X → List ℕ) → Resolving X → X → (before after : ℕ)
+    → Result ExecutionResponse (Refused RequestError) → Type 0
+CountsBy true execution types resolves x before after answer =
+    Looks execution (type_of_thing types) (thing_meaning resolves) (of_user execution.schema.now x) before after (prepared execution) answer
+CountsBy false execution types resolves x before after answer = Looks execution types resolves x before after (prepared execution) answer
+
+abbrev pub Counts : {X : Type 0} → Execution → (X → List ℕ) → Resolving X → X → (before after : ℕ)
+    → Result ExecutionResponse (Refused RequestError) → Type 0
+Counts execution types resolves x before after answer = CountsBy execution.introspection execution types resolves x before after answer
+
+-- the answer, and the looks for it
+abbrev pub IsCounted : {X : Type 0} → Execution → (X → List ℕ) → Resolving X → X → (before after : ℕ) → Result Prepared RequestError
+    → Result ExecutionResponse (Refused RequestError) → Type 0
+IsCounted execution types resolves x before after wanted (Ok response) =
+    (p : Prepared) × (wanted ≡ Ok p)
+    × IsExecuted (request_in execution p.variables types resolves) p.root x p.operation.selection_set.selections response
+    × IsExplained (request_in execution p.variables types resolves) p.root x p.operation.selection_set.selections response
+    × AreLooks (request_in execution p.variables types resolves) p.root x p.operation.selection_set.selections before after
+IsCounted execution types resolves x before after wanted (Err (Fault fault)) = wanted ≡ Err fault
+IsCounted execution types resolves x before after wanted (Err Memory) = Unit {0}
+
+abbrev pub CountsOver : {X : Type 0} → Execution → (X → List ℕ) → Resolving X → X → (before after : ℕ)
+    → Result ExecutionResponse (Refused RequestError) → Type 0
+CountsOver execution types resolves x before after answer = IsCounted execution types resolves x before after (prepared execution) answer

@@ -1,6 +1,8 @@
 pub mod Trails
 pub mod Executing
 pub mod Planning
+pub mod Opened
+pub mod Looks
 pub mod Asking
 pub mod Executed
 pub mod Execution

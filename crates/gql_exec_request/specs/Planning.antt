@@ -4,4 +4,9 @@ use Rattle.gql_exec_request.specs.declared.executing.Executing.{Executing}
 
 abbrev pub ground_in : Executing → Ground
 ground_in executing =
-    record { fragments = executing.request.document.now.fragments; schema = executing.request.schema.now; variables = executing.variables.now }
+    record {
+      operation = executing.operation.now.selection_set.selections;
+      fragments = executing.request.document.now.fragments;
+      schema = executing.request.schema.now;
+      variables = executing.variables.now;
+    }

@@ -7,11 +7,14 @@ ghost use Rattle.gql_exec_places.specs.Execute.{completed, execute, field_made, 
 ghost use Rattle.gql_exec_places.specs.Resolved.{gives_leaf, gives_list, gives_object};
 ghost use Rattle.gql_exec_places.specs.Spot.{field_spot, item_spot, trail};
 ghost use Rattle.gql_exec_places.specs.Types as places;
+ghost use Rattle.gql_exec_plan.specs.Ways.{TurnsTo};
 ghost use Rattle.gql_exec_plan.specs.Plan.{AreNodes, ArePartsOf, HaveNodes, IsPlanned, IsTyped, fields_in, ground_of, groups_in, sets_below};
 ghost use Rattle.gql_document_types.specs.declared.selection.Selection.{Selection};
 ghost use Rattle.gql_exec_resolve.specs.Meaning.{item_by, meaning_by, meanings_by};
 ghost use Rattle.gql_exec_request.specs.Executed.{ExecutesGroups, MakesBelow};
 ghost use Rattle.gql_exec_request.specs.Executing.{world_of};
+ghost use Rattle.gql_exec_request.specs.Looks.{NodesGrow, PartsGrow};
+ghost use Rattle.gql_exec_request.specs.Opened as opened;
 ghost use Rattle.gql_exec_request.specs.Planning.{ground_in};
 ghost use Rattle.gql_exec_request.specs.Trails.{group_of, made_of, spot_of, trail_of};
 ghost use Rattle.gql_schema_types.specs.Schemas.{field_of};
@@ -22,7 +25,7 @@ use crate::path::{Path, Step};
 use crate::place::Place;
 use gql_ast_values::TypeRef;
 use gql_diag::{JsonMap, Valid};
-use gql_document_types::ExecutableDocument;
+use gql_document_types::{ExecutableDocument, Operation};
 use gql_exec_complete::{fitting_object, item_type, list_misfit};
 use gql_exec_plan::{Node, Part, PlannedField, Planner};
 use gql_exec_resolve::{FieldError, ObjectValue, RequestInfo, ResolvedValue};
@@ -39,6 +42,7 @@ use std::sync::ledger::Ledger;
 pub(crate) struct Executing<'s> {
     pub(crate) alloc: Global,
     pub(crate) request: RequestInfo<'s>,
+    pub(crate) operation: &'s Operation,
     pub(crate) variables: &'s Valid<JsonMap>,
     /// Whether fields that tell of the schema are asked for as any other.
     pub(crate) introspection: bool,
@@ -67,6 +71,7 @@ impl<'s> Executing<'s> {
             alloc: self.alloc,
             schema: self.request.schema,
             document: self.document(),
+            operation: self.operation,
             variables: self.variables,
         }
     }
@@ -89,6 +94,8 @@ impl<'s> Executing<'s> {
             object_type.now (O.seen object.now) (trail_of path.now) (map group_of (groups_in parts.old)) members errors.old errors.new) }
         ensures same { OnOk result (fields_in parts.new ≡ fields_in parts.old) }
         ensures planned { OnOk result (HaveNodes (ground_in self.now) parts.new) }
+        ensures grows { OnOk result (PartsGrow self.now steps.old steps.new parts.old parts.new
+            (opened.OpensBy (world_of self.now O.type_of O.resolves) (map group_of (groups_in parts.old)) object_type.now (O.seen object.now))) }
     {
         let mut members = Map::with_capacity(self.alloc, parts.len())?;
         for number in 0..parts.len() {
@@ -138,6 +145,10 @@ impl<'s> Executing<'s> {
             MakesBelow w group (made_of done) errors.old errors.new
             (λ run. field_made w run (field_spot w object_type.now (trail_of path.now) group) (w.asks object_type.now (O.seen object.now) group))) }
         ensures planned { OnOk result (AreNodes (ground_in self.now) (sets_below field.now.group) nodes.new) }
+        ensures grows { OnOk result (NodesGrow self.now steps.old steps.new nodes.old nodes.new (λ turn.
+            let w = world_of self.now O.type_of O.resolves in
+            let group = group_of field.now.group in
+            opened.Brings w (opened.Turns w (w.below group) turn) (w.type_at object_type.now group) (w.asks object_type.now (O.seen object.now) group))) }
     {
         // The way is lent again, for as long as the group.
         let place = Place {
@@ -170,6 +181,8 @@ impl<'s> Executing<'s> {
             MakesBelow w (group_of place.now.group.now) (made_of done) errors.old errors.new
             (λ run. completed w run (spot_of place.now) (meaning_by O.seen resolved))) }
         ensures planned { OnOk result (AreNodes (ground_in self.now) (sets_below place.now.group.now) nodes.new) }
+        ensures grows { OnOk result (NodesGrow self.now steps.old steps.new nodes.old nodes.new
+            (opened.MakesTurn (world_of self.now O.type_of O.resolves) (spot_of place.now) (meaning_by O.seen resolved))) }
     {
         match resolved {
             ResolvedValue::Leaf(value) => self.complete_leaf::<O>(place, value, errors),
@@ -198,6 +211,8 @@ impl<'s> Executing<'s> {
             MakesBelow w (group_of place.now.group.now) (made_of done) errors.old errors.new
             (λ run. completed w run (spot_of place.now) (gives_object (O.seen object.now)))) }
         ensures planned { OnOk result (AreNodes (ground_in self.now) (sets_below place.now.group.now) nodes.new) }
+        ensures grows { OnOk result (NodesGrow self.now steps.old steps.new nodes.old nodes.new
+            (opened.MakesTurn (world_of self.now O.type_of O.resolves) (spot_of place.now) (gives_object (O.seen object.now)))) }
     {
         match fitting_object(self.alloc, self.schema(), place.ty, object.type_name()) {
             Ok(object_type) => self.execute_object(
@@ -233,6 +248,8 @@ impl<'s> Executing<'s> {
             (λ run. settled (spot_of place.now) (one_object
             (run object_type.now (O.seen object.now) (trail (spot_of place.now)) (group_of place.now.group.now).pieces)))) }
         ensures planned { OnOk result (AreNodes (ground_in self.now) (sets_below place.now.group.now) nodes.new) }
+        ensures grows { OnOk result (NodesGrow self.now steps.old steps.new nodes.old nodes.new
+            (TurnsTo object_type.now (λ way. opened.Opens (world_of self.now O.type_of O.resolves) way object_type.now (O.seen object.now) (sets_below place.now.group.now)))) }
     {
         let number = self
             .planner()
@@ -265,6 +282,8 @@ impl<'s> Executing<'s> {
             MakesBelow w (group_of place.now.group.now) (made_of done) errors.old errors.new
             (λ run. completed w run (spot_of place.now) (gives_list (meanings_by O.seen items)))) }
         ensures planned { OnOk result (AreNodes (ground_in self.now) (sets_below place.now.group.now) nodes.new) }
+        ensures grows { OnOk result (NodesGrow self.now steps.old steps.new nodes.old nodes.new
+            (opened.MakesTurn (world_of self.now O.type_of O.resolves) (spot_of place.now) (gives_list (meanings_by O.seen items)))) }
     {
         match list_misfit(self.alloc, place.ty)? {
             Some(misfit) => self.refuse::<O>(place, misfit, errors),
@@ -290,6 +309,9 @@ impl<'s> Executing<'s> {
             MakesBelow w (group_of place.now.group.now) (made_of done) errors.old errors.new
             (λ run. settled (spot_of place.now) (one_array (items_made w run (spot_of place.now) 0 (meanings_by O.seen items))))) }
         ensures planned { OnOk result (AreNodes (ground_in self.now) (sets_below place.now.group.now) nodes.new) }
+        ensures grows { OnOk result (NodesGrow self.now steps.old steps.new nodes.old nodes.new (λ turn.
+            let w = world_of self.now O.type_of O.resolves in
+            opened.AnyGives w (opened.Turns w (sets_below place.now.group.now) turn) (places.item_type place.now.ty.now) (meanings_by O.seen items))) }
     {
         let count = items.len();
         let mut index = 0;
@@ -327,6 +349,8 @@ impl<'s> Executing<'s> {
             MakesBelow w (group_of list.now.group.now) (made_of done) errors.old errors.new
             (λ run. settled_item spot m (unless_misfit w spot (w.misfit spot.type m) (value_made w run spot m)))) }
         ensures planned { OnOk result (AreNodes (ground_in self.now) (sets_below list.now.group.now) nodes.new) }
+        ensures grows { OnOk result (NodesGrow self.now steps.old steps.new nodes.old nodes.new
+            (opened.MakesTurn (world_of self.now O.type_of O.resolves) (item_spot (spot_of list.now) index) (item_by O.seen item))) }
     {
         let around = Path::Below(list.around, list.step, list.ty);
         let place = Place {

@@ -10,6 +10,7 @@ ghost use Rattle.gql_exec_introspected.specs.ThingMeaning.{thing_meaning};
 ghost use Rattle.gql_exec_request.specs.Execution as spec;
 ghost use Rattle.gql_exec_variables.specs.RequestErrors.{request_error};
 ghost use Rattle.gql_exec_request.specs.declared.execution.Given.TheVariants as given;
+ghost use Rattle.gql_exec_request.specs.Looks.{AreLooks};
 ghost use Rattle.gql_exec_world.specs.Response.{IsExecuted, IsExplained};
 ghost use Rattle.gql_rules_graph.specs.Cycles.{IsOnCycle};
 
@@ -162,127 +163,171 @@ impl<'a> Execution<'a> {
         requires acyclic { (v : ℕ) → IsOnCycle (spread_graph self.now.document.now.fragments) v → ⊥ }
         ensures { spec.Answers self.now O.type_of O.resolves (O.seen initial.now) result }
     {
+        self.execute_alone::<O, Brand>(alloc, initial, Blank::new(1))
+    }
+
+    /// The same, with a counter of its own.
+    fn execute_alone<O: ObjectValue, L: Ledger>(
+        &self,
+        alloc: Global,
+        initial: &O,
+        blank: Blank,
+    ) -> Result<ExecutionResponse, Refused<RequestError>>
+        requires acyclic { (v : ℕ) → IsOnCycle (spread_graph self.now.document.now.fragments) v → ⊥ }
+        requires name { blank.name ≡ L.name }
+        requires parts { blank.parts ≡ L.parts }
+        requires some { 0 < blank.parts }
+        ensures { spec.Answers self.now O.type_of O.resolves (O.seen initial.now) result }
+    {
+        let mut steps = Steps::<L>::open(blank);
+        self.execute_counted(alloc, initial, &mut steps)
+    }
+
+    /// The same as [`Execution::execute_sync`], and `steps` counts the looks at selections. Where there is a response, these are
+    /// at least those of the operation's own set. They are at most as many as the operation and all fragments have selections,
+    /// at every depth, for the root and for each way of response keys and object types from it that leads to objects which
+    /// fit their places: however long lists are, the fields of their items are collected once for each type.
+    pub fn execute_counted<O: ObjectValue, L: Ledger>(
+        &self,
+        alloc: Global,
+        initial: &O,
+        steps: &mut Steps<L>,
+    ) -> Result<ExecutionResponse, Refused<RequestError>>
+        requires acyclic { (v : ℕ) → IsOnCycle (spread_graph self.now.document.now.fragments) v → ⊥ }
+        ensures answer { spec.Answers self.now O.type_of O.resolves (O.seen initial.now) result }
+        ensures looks { spec.Counts self.now O.type_of O.resolves (O.seen initial.now) steps.old steps.new result }
+    {
         if self.introspection {
-            self.execute_introspected(alloc, initial)
+            self.execute_introspected(alloc, initial, steps)
         } else {
-            self.execute(alloc, initial)
+            self.execute(alloc, initial, steps)
         }
     }
 
     /// The same over the user's objects and those of introspection, from the user's object under the schema.
-    fn execute_introspected<O: ObjectValue>(
+    fn execute_introspected<O: ObjectValue, L: Ledger>(
         &self,
         alloc: Global,
         initial: &O,
+        steps: &mut Steps<L>,
     ) -> Result<ExecutionResponse, Refused<RequestError>>
         requires { (v : ℕ) → IsOnCycle (spread_graph self.now.document.now.fragments) v → ⊥ }
-        ensures { spec.AnswersOver self.now (type_of_thing O.type_of) (thing_meaning O.resolves) (of_user self.now.schema.now (O.seen initial.now)) result }
+        ensures { spec.CountsOver self.now (type_of_thing O.type_of) (thing_meaning O.resolves) (of_user self.now.schema.now (O.seen initial.now)) steps.old steps.new result }
     {
         let root = Introspected::root(self.schema, initial);
-        self.execute(alloc, &root)
+        self.execute(alloc, &root, steps)
     }
 
     /// The same over objects of one kind.
-    fn execute<O: ObjectValue>(
+    fn execute<O: ObjectValue, L: Ledger>(
         &self,
         alloc: Global,
         initial: &O,
+        steps: &mut Steps<L>,
     ) -> Result<ExecutionResponse, Refused<RequestError>>
         requires { (v : ℕ) → IsOnCycle (spread_graph self.now.document.now.fragments) v → ⊥ }
-        ensures { spec.AnswersOver self.now O.type_of O.resolves (O.seen initial.now) result }
+        ensures { spec.CountsOver self.now O.type_of O.resolves (O.seen initial.now) steps.old steps.new result }
     {
         match self.operation {
-            Some(operation) => self.execute_operation(alloc, operation, initial),
+            Some(operation) => self.execute_operation(alloc, operation, initial, steps),
             None => match self.document.as_ref().operations_get(alloc, None) {
-                Ok(operation) => self.execute_operation(alloc, operation, initial),
+                Ok(operation) => self.execute_operation(alloc, operation, initial, steps),
                 Err(refused) => Err(refused),
             },
         }
     }
 
     /// The same of this operation (section 6.2).
-    fn execute_operation<O: ObjectValue>(
+    fn execute_operation<O: ObjectValue, L: Ledger>(
         &self,
         alloc: Global,
         operation: &'a Operation,
         initial: &O,
+        steps: &mut Steps<L>,
     ) -> Result<ExecutionResponse, Refused<RequestError>>
         requires { (v : ℕ) → IsOnCycle (spread_graph self.now.document.now.fragments) v → ⊥ }
-        ensures { spec.IsAnswer self.now O.type_of O.resolves (O.seen initial.now)
+        ensures { spec.IsCounted self.now O.type_of O.resolves (O.seen initial.now) steps.old steps.new
             (spec.of_operation self.now.schema.now self.now.given operation.now) result }
     {
         let name = operation.object_type().as_str();
         match self.schema.as_ref().get_object(name) {
-            Some(root) => self.execute_on(alloc, operation, root, initial),
+            Some(root) => self.execute_on(alloc, operation, root, initial, steps),
             None => Err(undefined_root(alloc)),
         }
     }
 
     /// The same on this root type.
-    fn execute_on<O: ObjectValue>(
+    fn execute_on<O: ObjectValue, L: Ledger>(
         &self,
         alloc: Global,
         operation: &'a Operation,
         root: &ObjectType,
         initial: &O,
+        steps: &mut Steps<L>,
     ) -> Result<ExecutionResponse, Refused<RequestError>>
         requires { (v : ℕ) → IsOnCycle (spread_graph self.now.document.now.fragments) v → ⊥ }
-        ensures { spec.IsAnswer self.now O.type_of O.resolves (O.seen initial.now)
+        ensures { spec.IsCounted self.now O.type_of O.resolves (O.seen initial.now) steps.old steps.new
             (spec.with_variables operation.now root.now (spec.variables_of self.now.schema.now operation.now self.now.given)) result }
     {
         match self.given {
-            Given::Coerced(values) => self.execute_with(alloc, operation, root, values, initial),
-            Given::Raw(values) => self.execute_given(alloc, operation, root, values, initial),
+            Given::Coerced(values) => self.execute_with(
+                alloc, operation, root, values, initial, steps,
+            ),
+            Given::Raw(values) => self.execute_given(
+                alloc, operation, root, values, initial, steps,
+            ),
             Given::Nothing => {
                 let values = JsonMap::new(alloc);
-                self.execute_given(alloc, operation, root, &values, initial)
+                self.execute_given(alloc, operation, root, &values, initial, steps)
             }
         }
     }
 
     /// The same where variables are given these values.
-    fn execute_given<O: ObjectValue>(
+    fn execute_given<O: ObjectValue, L: Ledger>(
         &self,
         alloc: Global,
         operation: &'a Operation,
         root: &ObjectType,
         values: &JsonMap,
         initial: &O,
+        steps: &mut Steps<L>,
     ) -> Result<ExecutionResponse, Refused<RequestError>>
         requires { (v : ℕ) → IsOnCycle (spread_graph self.now.document.now.fragments) v → ⊥ }
-        ensures { spec.IsAnswer self.now O.type_of O.resolves (O.seen initial.now)
+        ensures { spec.IsCounted self.now O.type_of O.resolves (O.seen initial.now) steps.old steps.new
             (spec.with_variables operation.now root.now (told_as request_error (coerced_variables self.now.schema.now.types operation.now.variables values.now))) result }
     {
         match coerce_variable_values(alloc, self.schema, operation, values) {
-            Ok(values) => self.execute_with(alloc, operation, root, &values, initial),
+            Ok(values) => self.execute_with(alloc, operation, root, &values, initial, steps),
             Err(refused) => Err(refused),
         }
     }
 
     /// The same where variables have these values.
-    fn execute_with<O: ObjectValue>(
+    fn execute_with<O: ObjectValue, L: Ledger>(
         &self,
         alloc: Global,
         operation: &'a Operation,
         root: &ObjectType,
         values: &Valid<JsonMap>,
         initial: &O,
+        steps: &mut Steps<L>,
     ) -> Result<ExecutionResponse, Refused<RequestError>>
         requires { (v : ℕ) → IsOnCycle (spread_graph self.now.document.now.fragments) v → ⊥ }
-        ensures { spec.IsAnswer self.now O.type_of O.resolves (O.seen initial.now)
+        ensures { spec.IsCounted self.now O.type_of O.resolves (O.seen initial.now) steps.old steps.new
             (spec.with_variables operation.now root.now (Ok values.now)) result }
     {
         match self.implementers {
-            Some(map) => Ok(self.run(alloc, operation, root, values, map, initial)?),
+            Some(map) => Ok(self.run(alloc, operation, root, values, map, initial, steps)?),
             None => {
                 let map = self.schema.as_ref().implementers_map(alloc)?;
-                Ok(self.run(alloc, operation, root, values, &map, initial)?)
+                Ok(self.run(alloc, operation, root, values, &map, initial, steps)?)
             }
         }
     }
 
     /// The response. `Err` only for want of memory.
-    fn run<O: ObjectValue>(
+    fn run<O: ObjectValue, L: Ledger>(
         &self,
         alloc: Global,
         operation: &'a Operation,
@@ -290,43 +335,14 @@ impl<'a> Execution<'a> {
         variables: &Valid<JsonMap>,
         implementers_map: &ImplementersMap,
         initial: &O,
+        steps: &mut Steps<L>,
     ) -> Result<ExecutionResponse, Memory>
         requires { (v : ℕ) → IsOnCycle (spread_graph self.now.document.now.fragments) v → ⊥ }
         ensures { IfOk result (λ response.
             let r = spec.request_in self.now variables.now O.type_of O.resolves in
             IsExecuted r root.now (O.seen initial.now) operation.now.selection_set.selections response
-            × IsExplained r root.now (O.seen initial.now) operation.now.selection_set.selections response) }
-    {
-        self.run_alone::<O, Brand>(
-            alloc,
-            operation,
-            root,
-            variables,
-            implementers_map,
-            initial,
-            Blank::new(1),
-        )
-    }
-
-    /// The same, with a counter of its own.
-    fn run_alone<O: ObjectValue, L: Ledger>(
-        &self,
-        alloc: Global,
-        operation: &'a Operation,
-        root: &ObjectType,
-        variables: &Valid<JsonMap>,
-        implementers_map: &ImplementersMap,
-        initial: &O,
-        blank: Blank,
-    ) -> Result<ExecutionResponse, Memory>
-        requires acyclic { (v : ℕ) → IsOnCycle (spread_graph self.now.document.now.fragments) v → ⊥ }
-        requires name { blank.name ≡ L.name }
-        requires parts { blank.parts ≡ L.parts }
-        requires some { 0 < blank.parts }
-        ensures { IfOk result (λ response.
-            let r = spec.request_in self.now variables.now O.type_of O.resolves in
-            IsExecuted r root.now (O.seen initial.now) operation.now.selection_set.selections response
-            × IsExplained r root.now (O.seen initial.now) operation.now.selection_set.selections response) }
+            × IsExplained r root.now (O.seen initial.now) operation.now.selection_set.selections response
+            × AreLooks r root.now (O.seen initial.now) operation.now.selection_set.selections steps.old steps.new) }
     {
         laws::acyclic_graphs_have_ranks();
         let executing = Executing {
@@ -336,21 +352,21 @@ impl<'a> Execution<'a> {
                 implementers_map,
                 document: self.document,
             },
+            operation,
             variables,
             introspection: self.introspection,
         };
         let mut pieces = Pieces::new(alloc);
         pieces.add(&operation.selection_set)?;
         let mut errors = Listed::new(alloc);
-        let mut steps = Steps::<L>::open(blank);
-        let mut parts = executing.planner().parts(root, &pieces, &mut steps)?;
+        let mut parts = executing.planner().parts(root, &pieces, steps)?;
         let root = executing.execute_parts(
             root,
             initial,
             &Path::Root,
             &mut parts,
             &mut errors,
-            &mut steps,
+            steps,
         )?;
         Ok(ExecutionResponse { errors, root })
     }

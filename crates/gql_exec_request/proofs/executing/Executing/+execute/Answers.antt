@@ -1,10 +1,11 @@
-use Rattle.std.proofs.Common.{rules, arith, ◌≡◌, ◌+◌, ◌*◌, ◌<◌, ◌≤◌, [], ◌∷◌, length, suc, Some, Err, sym, ap, ◌∙◌, subst, refl, drop}
+use Rattle.std.proofs.Common.{rules, arith, ◌≡◌, ◌+◌, ◌*◌, ◌<◌, ◌≤◌, [], ◌∷◌, length, suc, Some, Err, inr, sym, ap, ◌∙◌, subst, refl, drop}
 use Rattle.std.proofs.lemmas.List.{append-nil, length-map}
 use Rattle.gql_ast_definitions.specs.declared.field_definition.FieldDefinition.{FieldDefinition}
 use Rattle.gql_exec_complete.specs.Seen.{seen, misfit_seen, IsFitOfObject}
 use Rattle.gql_exec_places.specs.Execute.{completed, items_made, one_array, settled}
 use Rattle.gql_exec_places.specs.Resolved.{gives_leaf, gives_list, gives_object, gives_skip}
 use Rattle.gql_exec_places.specs.Spot.{item_spot}
+use Rattle.gql_exec_places.specs.Types.{item_type}
 use Rattle.gql_exec_resolve.specs.Meaning.{item_by, meaning_by, meanings_by}
 use Rattle.gql_exec_resolve.proofs.Height.{height, height-item}
 use Rattle.gql_exec_resolve.proofs.Views.{meaning_list}
@@ -13,21 +14,27 @@ use Rattle.gql_exec_request.specs.Executed.{MakesBelow}
 use Rattle.gql_exec_request.specs.declared.path.Path.TheVariants.{Below}
 use Rattle.gql_exec_request.specs.Executing.{request_of, world_of}
 use Rattle.gql_exec_request.specs.Trails.{group_of, made_of, spot_of, trail_of}
-use Rattle.gql_exec_request.proofs.Completing.{made-value}
+use Rattle.gql_exec_request.specs.Asking.{outcome_of}
+use Rattle.gql_exec_request.specs.Looks.{PartsGrow}
+use Rattle.gql_exec_request.specs.Opened.{AnyGives, OpensBy, Turns}
+use Rattle.gql_exec_request.proofs.Completing.{at_field, made-value}
 use Rattle.gql_exec_request.proofs.Done.{done-meant, done-misfit, done-fits, done-object, done-item, done-failed}
 use Rattle.gql_exec_request.proofs.Fields.{field-gave, field-failed, field-faulted}
+use Rattle.gql_exec_request.proofs.Grown.{none-grown, grown-meant, grown-object, grown-list, grown-place, grown-field, grown-item, grown-part}
 use Rattle.gql_exec_request.proofs.Heights.{top}
 use Rattle.gql_exec_request.proofs.Items.{IsCompleting, completing-begun, completing-more, completing-stops, completing-ends}
 use Rattle.gql_exec_request.proofs.Measures.{schema_in, measure, definition-top}
 use Rattle.gql_exec_request.proofs.Misfits.{fits-list, same-misfit, same-object}
 use Rattle.gql_exec_request.proofs.Planned.{changed-key, object-typed, here}
-use Rattle.gql_exec_request.proofs.Objects.{object-less, object-parts, object-grown, object-made, object-null}
+use Rattle.gql_exec_request.proofs.Objects.{object-less, object-parts, object-grown, object-growth, object-made, object-null}
 use Rattle.gql_exec_request.proofs.Values.{meaning-leaf, meaning-object, meaning-skip}
 use Rattle.gql_exec_request.proofs.Ways.{item-place, item_in}
 use Rattle.gql_exec_request.proofs.executing.Executing.+execute.Goals as goal
 use Rattle.gql_exec_request.proofs.executing.Executing.+execute.Goals.{complete_items-in-Value+in_ok-push-in-Value, complete_items-in-LeftOut, execute_parts-in-Value+in_ok-key-in-Value+in_ok-insert_new-in-Value, execute_parts-in-LeftOut}
 use Rattle.gql_exec_groups.specs.Ranks.{AreRanked}
-use Rattle.gql_exec_plan.specs.Plan.{Ground, ground_of, AreNodes, IsTyped, field_in, fields_in, groups_in, sets_below, HaveNodes, group_in}
+use Rattle.gql_exec_plan.specs.Plan.{Ground, ground_of, AreNodes, IsTyped, field_in, fields_in, groups_in, sets_below, HaveNodes, group_in, most_looks}
+use Rattle.gql_exec_plan.specs.Ways.{ways_to}
+use Rattle.gql_exec_plan.proofs.Growing.{grows-none}
 use Rattle.gql_exec_plan.specs.declared.planned_field.PlannedField.{PlannedField}
 use Rattle.gql_exec_plan.proofs.Nodes.{part-with}
 use Rattle.gql_exec_request.specs.Planning.{ground_in}
@@ -43,78 +50,95 @@ use Rattle.gql_exec_request.proofs.Keys.{key-free}
 
 pub complete_value-complete_object-requires : goal.complete_value-complete_object-requires
 complete_value-complete_object-requires g t c =
-    let smaller : measure c.args.self.now (group_of c.args.place.now.group.now).pieces 2 < measure c.args.self.now (group_of c.args.place.now.group.now).pieces (4 * height c.args.place.now.ty.now + 3) =
-    omega arith in
+    let smaller : measure c.args.self.now (group_of c.args.place.now.group.now).pieces 2 < measure c.args.self.now (group_of c.args.place.now.group.now).pieces (4 * height c.args.place.now.ty.now + 3) = omega arith in
     search rules
 
 pub complete_value-complete_list-requires : goal.complete_value-complete_list-requires
 complete_value-complete_list-requires g t c =
-    let pieces = (group_of c.args.place.now.group.now).pieces in
-    let smaller : measure c.args.self.now pieces (4 * height c.args.place.now.ty.now + 2) < measure c.args.self.now pieces (4 * height c.args.place.now.ty.now + 3) = omega arith in
+    let smaller : measure c.args.self.now (group_of c.args.place.now.group.now).pieces (4 * height c.args.place.now.ty.now + 2) < measure c.args.self.now (group_of c.args.place.now.group.now).pieces (4 * height c.args.place.now.ty.now + 3) = omega arith in
     search rules
 
-pub complete_value-returns-in-Leaf-clause-made : goal.complete_value-returns-in-Leaf-clause-made
-complete_value-returns-in-Leaf-clause-made g t c =
+pub complete_value-returns-in-Leaf : goal.complete_value-returns-in-Leaf
+complete_value-returns-in-Leaf g t c =
     let see = g.O.ObjectValue.seen in
     let is : meaning_by see c.args.resolved ≡ gives_leaf c.in-Leaf.value = ap (meaning_by see) c.in-Leaf.is ∙ meaning-leaf see c.in-Leaf.value in
-    done-meant (world_of c.args.self.now g.O.ObjectValue.type_of g.O.ObjectValue.resolves) c.args.errors.now c.complete_leaf.new.errors c.complete_leaf.result (spot_of c.args.place.now) (meaning_by see c.args.resolved) (gives_leaf c.in-Leaf.value) is c.complete_leaf.ensures
+    record {
+      made = done-meant (world_of c.args.self.now g.O.ObjectValue.type_of g.O.ObjectValue.resolves) c.args.errors.now c.complete_leaf.new.errors c.complete_leaf.result (spot_of c.args.place.now) (meaning_by see c.args.resolved) (gives_leaf c.in-Leaf.value) is c.complete_leaf.ensures;
+      planned = ok-anyway c.complete_leaf.result _ c.requires.planned;
+      grows = ok-anyway c.complete_leaf.result _ (none-grown c.args.self.now c.args.steps.now c.args.nodes.now _);
+    }
 
-pub complete_value-returns-in-Leaf-clause-planned : goal.complete_value-returns-in-Leaf-clause-planned
-complete_value-returns-in-Leaf-clause-planned g t c = ok-anyway c.complete_leaf.result _ c.requires.planned
-
-pub complete_value-returns-in-Object-clause-made : goal.complete_value-returns-in-Object-clause-made
-complete_value-returns-in-Object-clause-made g t c =
+pub complete_value-returns-in-Object : goal.complete_value-returns-in-Object
+complete_value-returns-in-Object g t c =
     let see = g.O.ObjectValue.seen in
     let x = see c.in-Object.object in
     let is : meaning_by see c.args.resolved ≡ gives_object x = ap (meaning_by see) c.in-Object.is ∙ meaning-object see c.in-Object.object in
-    done-meant (world_of c.args.self.now g.O.ObjectValue.type_of g.O.ObjectValue.resolves) c.args.errors.now c.complete_object.new.errors c.complete_object.result (spot_of c.args.place.now) (meaning_by see c.args.resolved) (gives_object x) is c.complete_object.ensures.made
+    record {
+      made = done-meant (world_of c.args.self.now g.O.ObjectValue.type_of g.O.ObjectValue.resolves) c.args.errors.now c.complete_object.new.errors c.complete_object.result (spot_of c.args.place.now) (meaning_by see c.args.resolved) (gives_object x) is c.complete_object.ensures.made;
+      planned = c.complete_object.ensures.planned;
+      grows = grown-meant c.args.self.now c.args.steps.now c.args.nodes.now c.complete_object.new.steps c.complete_object.new.nodes c.complete_object.result
+          (world_of c.args.self.now g.O.ObjectValue.type_of g.O.ObjectValue.resolves) (spot_of c.args.place.now) (meaning_by see c.args.resolved) (gives_object x) is c.complete_object.ensures.grows;
+    }
 
-pub complete_value-returns-in-List-clause-made : goal.complete_value-returns-in-List-clause-made
-complete_value-returns-in-List-clause-made g t c =
+pub complete_value-returns-in-List : goal.complete_value-returns-in-List
+complete_value-returns-in-List g t c =
     let see = g.O.ObjectValue.seen in
     let ms = meanings_by see c.in-List.items in
     let is : meaning_by see c.args.resolved ≡ gives_list ms = ap (meaning_by see) c.in-List.is ∙ meaning_list see c.in-List.items in
-    done-meant (world_of c.args.self.now g.O.ObjectValue.type_of g.O.ObjectValue.resolves) c.args.errors.now c.complete_list.new.errors c.complete_list.result (spot_of c.args.place.now) (meaning_by see c.args.resolved) (gives_list ms) is c.complete_list.ensures.made
+    record {
+      made = done-meant (world_of c.args.self.now g.O.ObjectValue.type_of g.O.ObjectValue.resolves) c.args.errors.now c.complete_list.new.errors c.complete_list.result (spot_of c.args.place.now) (meaning_by see c.args.resolved) (gives_list ms) is c.complete_list.ensures.made;
+      planned = c.complete_list.ensures.planned;
+      grows = grown-meant c.args.self.now c.args.steps.now c.args.nodes.now c.complete_list.new.steps c.complete_list.new.nodes c.complete_list.result
+          (world_of c.args.self.now g.O.ObjectValue.type_of g.O.ObjectValue.resolves) (spot_of c.args.place.now) (meaning_by see c.args.resolved) (gives_list ms) is c.complete_list.ensures.grows;
+    }
 
-pub complete_value-returns-in-SkipForPartialExecution-clause-made : goal.complete_value-returns-in-SkipForPartialExecution-clause-made
-complete_value-returns-in-SkipForPartialExecution-clause-made g t c =
+pub complete_value-returns-in-SkipForPartialExecution : goal.complete_value-returns-in-SkipForPartialExecution
+complete_value-returns-in-SkipForPartialExecution g t c =
     let see = g.O.ObjectValue.seen in
     let w = world_of c.args.self.now g.O.ObjectValue.type_of g.O.ObjectValue.resolves in
     let spot = spot_of c.args.place.now in
     let errors = c.args.errors.now in
     let is : meaning_by see c.args.resolved ≡ gives_skip = ap (meaning_by see) c.in-SkipForPartialExecution.is ∙ meaning-skip see in
-    subst (λ m. MakesBelow w spot.group (Some []) errors errors (λ run. completed w run spot m)) (sym is) (λ depth enough. made-value [] errors)
+    record {
+      made = subst (λ m. MakesBelow w spot.group (Some []) errors errors (λ run. completed w run spot m)) (sym is) (λ depth enough. made-value [] errors);
+      planned = c.requires.planned;
+      grows = none-grown c.args.self.now c.args.steps.now c.args.nodes.now _;
+    }
 
 -- ---- an object
 
 pub complete_object-execute_object-requires : goal.complete_object-execute_object-requires
 complete_object-execute_object-requires g t c =
-    let pieces = (group_of c.args.place.now.group.now).pieces in
     let schema = schema_in c.args.self.now in
     let x = g.O.ObjectValue.seen c.args.object.now in
     let typed = object-typed schema (g.O.ObjectValue.type_of x) c.in-Ok.object_type.now (sym (same-object c.schema.result.now schema c.type_name.result.now (g.O.ObjectValue.type_of x) c.schema.ensures c.type_name.ensures) ∙ c.in-Ok.ensures.1) in
-    let smaller : measure c.args.self.now pieces 1 < measure c.args.self.now pieces 2 = omega arith in
+    let smaller : measure c.args.self.now (group_of c.args.place.now.group.now).pieces 1 < measure c.args.self.now (group_of c.args.place.now.group.now).pieces 2 = omega arith in
     search rules
 
-pub complete_object-returns-in-Ok-clause-made : goal.complete_object-returns-in-Ok-clause-made
-complete_object-returns-in-Ok-clause-made g t c =
+pub complete_object-returns-in-Ok : goal.complete_object-returns-in-Ok
+complete_object-returns-in-Ok g t c =
     let w = world_of c.args.self.now g.O.ObjectValue.type_of g.O.ObjectValue.resolves in
     let x = g.O.ObjectValue.seen c.args.object.now in
     let spot = spot_of c.args.place.now in
     let fits = same-misfit c.schema.result.now (schema_in c.args.self.now) c.type_name.result.now (g.O.ObjectValue.type_of x) c.schema.ensures c.type_name.ensures spot.type in
     let found = same-object c.schema.result.now (schema_in c.args.self.now) c.type_name.result.now (g.O.ObjectValue.type_of x) c.schema.ensures c.type_name.ensures in
-    done-object w c.args.errors.now c.execute_object.new.errors c.execute_object.result spot x c.in-Ok.object_type.now (sym fits ∙ c.in-Ok.ensures.0) (sym found ∙ c.in-Ok.ensures.1) c.execute_object.ensures.made
+    record {
+      made = done-object w c.args.errors.now c.execute_object.new.errors c.execute_object.result spot x c.in-Ok.object_type.now (sym fits ∙ c.in-Ok.ensures.0) (sym found ∙ c.in-Ok.ensures.1) c.execute_object.ensures.made;
+      planned = c.execute_object.ensures.planned;
+      grows = grown-object c.args.self.now c.args.steps.now c.args.nodes.now c.execute_object.new.steps c.execute_object.new.nodes c.execute_object.result w spot x c.in-Ok.object_type.now (sym fits ∙ c.in-Ok.ensures.0) (sym found ∙ c.in-Ok.ensures.1) c.execute_object.ensures.grows;
+    }
 
-pub complete_object-returns-in-Err-Fault-clause-made : goal.complete_object-returns-in-Err-Fault-clause-made
-complete_object-returns-in-Err-Fault-clause-made g t c =
+pub complete_object-returns-in-Err-Fault : goal.complete_object-returns-in-Err-Fault
+complete_object-returns-in-Err-Fault g t c =
     let x = g.O.ObjectValue.seen c.args.object.now in
     let spot = spot_of c.args.place.now in
     let fits = same-misfit c.schema.result.now (schema_in c.args.self.now) c.type_name.result.now (g.O.ObjectValue.type_of x) c.schema.ensures c.type_name.ensures spot.type in
     let misfits = subst (λ fault. IsFitOfObject c.schema.result.now spot.type c.type_name.result.now (Err fault)) c.in-Err-Fault.field-0-is c.in-Err-Fault.ensures in
-    done-misfit (world_of c.args.self.now g.O.ObjectValue.type_of g.O.ObjectValue.resolves) c.args.errors.now c.refuse.new.errors c.refuse.result spot (gives_object x) (seen c.in-Err-Fault.misfit) (sym fits ∙ misfits) c.refuse.ensures
-
-pub complete_object-returns-in-Err-Fault-clause-planned : goal.complete_object-returns-in-Err-Fault-clause-planned
-complete_object-returns-in-Err-Fault-clause-planned g t c = ok-anyway c.refuse.result _ c.requires.planned
+    record {
+      made = done-misfit (world_of c.args.self.now g.O.ObjectValue.type_of g.O.ObjectValue.resolves) c.args.errors.now c.refuse.new.errors c.refuse.result spot (gives_object x) (seen c.in-Err-Fault.misfit) (sym fits ∙ misfits) c.refuse.ensures;
+      planned = ok-anyway c.refuse.result _ c.requires.planned;
+      grows = ok-anyway c.refuse.result _ (none-grown c.args.self.now c.args.steps.now c.args.nodes.now _);
+    }
 
 pub execute_object-node_number-requires : goal.execute_object-node_number-requires
 execute_object-node_number-requires g t c =
@@ -141,6 +165,9 @@ execute_object-returns-in-Some-2 g t c =
           c.node_number.new.nodes c.in_ok-number.number c.in-Some.node.now c.in_ok-number.ensures.planned c.in_ok-number.ensures.there c.in-Some.ensures.value
           (g.O.ObjectValue.seen c.args.object.now) c.args.errors.now c.execute_parts.new.errors c.in_ok-members.field-0 c.in-Some-2.members c.in-Some-2.is c.in_ok-members.ensures.executed;
       planned = grown c.execute_parts.new.parts c.in_ok-members.ensures.same c.in_ok-members.ensures.planned;
+      grows = object-growth c.args.self.now g.O.ObjectValue.type_of g.O.ObjectValue.resolves c.args.place.now c.args.object_type.now c.requires.ranked.0 c.requires.ranked.1 (ground_of c.planner.result) c.planner.ensures
+          c.node_number.new.nodes c.in_ok-number.number c.in-Some.node.now c.in_ok-number.ensures.planned c.in_ok-number.ensures.there c.in-Some.ensures.value
+          (g.O.ObjectValue.seen c.args.object.now) c.args.steps.now c.node_number.new.steps c.execute_parts.new.steps c.args.nodes.now c.execute_parts.new.parts c.in_ok-number.ensures.grows c.in_ok-members.ensures.grows;
     }
 
 pub execute_object-returns-in-None : goal.execute_object-returns-in-None
@@ -152,34 +179,41 @@ execute_object-returns-in-None g t c =
           c.node_number.new.nodes c.in_ok-number.number c.in-Some.node.now c.in_ok-number.ensures.planned c.in_ok-number.ensures.there c.in-Some.ensures.value
           (g.O.ObjectValue.seen c.args.object.now) c.args.errors.now c.execute_parts.new.errors c.in_ok-members.field-0 (made_of c.null.result) c.in-None.is c.null.ensures c.in_ok-members.ensures.executed;
       planned = grown c.execute_parts.new.parts c.in_ok-members.ensures.same c.in_ok-members.ensures.planned;
+      grows = object-growth c.args.self.now g.O.ObjectValue.type_of g.O.ObjectValue.resolves c.args.place.now c.args.object_type.now c.requires.ranked.0 c.requires.ranked.1 (ground_of c.planner.result) c.planner.ensures
+          c.node_number.new.nodes c.in_ok-number.number c.in-Some.node.now c.in_ok-number.ensures.planned c.in_ok-number.ensures.there c.in-Some.ensures.value
+          (g.O.ObjectValue.seen c.args.object.now) c.args.steps.now c.node_number.new.steps c.execute_parts.new.steps c.args.nodes.now c.execute_parts.new.parts c.in_ok-number.ensures.grows c.in_ok-members.ensures.grows;
     }
 
 -- ---- a list and its items
 
 pub complete_list-complete_items-requires : goal.complete_list-complete_items-requires
 complete_list-complete_items-requires g t c =
-    let pieces = (group_of c.args.place.now.group.now).pieces in
     let list = fits-list c.args.place.now.ty.now (sym c.in_ok-misfit.ensures ∙ ap misfit_seen c.in-None.is) in
-    let smaller : measure c.args.self.now pieces (4 * height c.args.place.now.ty.now + 1) < measure c.args.self.now pieces (4 * height c.args.place.now.ty.now + 2) = omega arith in
+    let smaller : measure c.args.self.now (group_of c.args.place.now.group.now).pieces (4 * height c.args.place.now.ty.now + 1) < measure c.args.self.now (group_of c.args.place.now.group.now).pieces (4 * height c.args.place.now.ty.now + 2) = omega arith in
     search rules
 
-pub complete_list-returns-in-Some-clause-made : goal.complete_list-returns-in-Some-clause-made
-complete_list-returns-in-Some-clause-made g t c =
-    done-misfit (world_of c.args.self.now g.O.ObjectValue.type_of g.O.ObjectValue.resolves) c.args.errors.now c.refuse.new.errors c.refuse.result (spot_of c.args.place.now) (gives_list (meanings_by g.O.ObjectValue.seen c.args.items)) (seen c.in-Some.misfit)
-    (sym c.in_ok-misfit.ensures ∙ ap misfit_seen c.in-Some.is) c.refuse.ensures
+pub complete_list-returns-in-Some : goal.complete_list-returns-in-Some
+complete_list-returns-in-Some g t c =
+    record {
+      made = done-misfit (world_of c.args.self.now g.O.ObjectValue.type_of g.O.ObjectValue.resolves) c.args.errors.now c.refuse.new.errors c.refuse.result (spot_of c.args.place.now) (gives_list (meanings_by g.O.ObjectValue.seen c.args.items)) (seen c.in-Some.misfit)
+          (sym c.in_ok-misfit.ensures ∙ ap misfit_seen c.in-Some.is) c.refuse.ensures;
+      planned = ok-anyway c.refuse.result _ c.requires.planned;
+      grows = ok-anyway c.refuse.result _ (none-grown c.args.self.now c.args.steps.now c.args.nodes.now _);
+    }
 
-pub complete_list-returns-in-Some-clause-planned : goal.complete_list-returns-in-Some-clause-planned
-complete_list-returns-in-Some-clause-planned g t c = ok-anyway c.refuse.result _ c.requires.planned
-
-pub complete_list-returns-in-None-clause-made : goal.complete_list-returns-in-None-clause-made
-complete_list-returns-in-None-clause-made g t c =
-    done-fits (world_of c.args.self.now g.O.ObjectValue.type_of g.O.ObjectValue.resolves) c.args.errors.now c.complete_items.new.errors c.complete_items.result (spot_of c.args.place.now) (gives_list (meanings_by g.O.ObjectValue.seen c.args.items))
-    (sym c.in_ok-misfit.ensures ∙ ap misfit_seen c.in-None.is) c.complete_items.ensures.made
+pub complete_list-returns-in-None : goal.complete_list-returns-in-None
+complete_list-returns-in-None g t c =
+    record {
+      made = done-fits (world_of c.args.self.now g.O.ObjectValue.type_of g.O.ObjectValue.resolves) c.args.errors.now c.complete_items.new.errors c.complete_items.result (spot_of c.args.place.now) (gives_list (meanings_by g.O.ObjectValue.seen c.args.items))
+          (sym c.in_ok-misfit.ensures ∙ ap misfit_seen c.in-None.is) c.complete_items.ensures.made;
+      planned = c.complete_items.ensures.planned;
+      grows = grown-list c.args.self.now c.args.steps.now c.args.nodes.now c.complete_items.new.steps c.complete_items.new.nodes c.complete_items.result
+          (world_of c.args.self.now g.O.ObjectValue.type_of g.O.ObjectValue.resolves) (spot_of c.args.place.now) (meanings_by g.O.ObjectValue.seen c.args.items) (sym c.in_ok-misfit.ensures ∙ ap misfit_seen c.in-None.is) c.complete_items.ensures.grows;
+    }
 
 pub complete_items-complete_item-requires : goal.complete_items-complete_item-requires
 complete_items-complete_item-requires g t c =
-    let pieces = (group_of c.args.place.now.group.now).pieces in
-    let smaller : measure c.args.self.now pieces (4 * height c.args.place.now.ty.now) < measure c.args.self.now pieces (4 * height c.args.place.now.ty.now + 1) = omega arith in
+    let smaller : measure c.args.self.now (group_of c.args.place.now.group.now).pieces (4 * height c.args.place.now.ty.now) < measure c.args.self.now (group_of c.args.place.now.group.now).pieces (4 * height c.args.place.now.ty.now + 1) = omega arith in
     search rules
 
 pub complete_items-loop-item-init : goal.complete_items-loop-item-init
@@ -193,11 +227,13 @@ complete_items-loop-item-init g t c =
     record {
       counted = omega (arith, ap length c.into_iter-item-iterator.ensures.into_iter_gives);
       planned = c.requires.planned;
+      grows = none-grown c.args.self.now c.args.steps.now c.args.nodes.now _;
+      among = λ turn gives. subst (λ ms. AnyGives w (Turns w (sets_below c.args.place.now.group.now) turn) (item_type list.type) ms) (ap (meanings_by see) c.into_iter-item-iterator.ensures.into_iter_gives) gives;
       so_far = subst (λ vs. IsCompleting w list vs before before 0 left all) (sym c.new-values.ensures) (completing-begun w list before left all (ap (meanings_by see) c.into_iter-item-iterator.ensures.into_iter_gives));
     }
 
-pub complete_items-returns-in-NullPasses-clause-made : goal.complete_items-returns-in-NullPasses-clause-made
-complete_items-returns-in-NullPasses-clause-made g t c =
+pub complete_items-returns-in-NullPasses : goal.complete_items-returns-in-NullPasses
+complete_items-returns-in-NullPasses g t c =
     let w = world_of c.args.self.now g.O.ObjectValue.type_of g.O.ObjectValue.resolves in
     let see = g.O.ObjectValue.seen in
     let list = spot_of c.args.place.now in
@@ -206,7 +242,13 @@ complete_items-returns-in-NullPasses-clause-made g t c =
     let all = meanings_by see c.args.items in
     let null = completing-stops w list c.loop-item.values c.loop-item.errors before after c.loop-item.index (meanings_by see c.loop-item.item-iterator) (meanings_by see c.next.new.self) all (item_by see c.in-Some.item) (made_of c.in_ok-value.field-0)
     (ap made_of c.in-NullPasses.is) (ap (meanings_by see) c.in-Some.ensures.steps) c.in_ok-value.ensures.made c.loop-item.invariant.so_far in
-    subst (λ found. MakesBelow w list.group found before after (λ run. settled list (one_array (items_made w run list 0 all)))) (sym c.null.ensures) null
+    record {
+      made = subst (λ found. MakesBelow w list.group found before after (λ run. settled list (one_array (items_made w run list 0 all)))) (sym c.null.ensures) null;
+      planned = c.in_ok-value.ensures.planned;
+      grows = grown-item c.args.self.now c.args.steps.now c.loop-item.steps c.complete_item.new.steps w list (item_spot list c.loop-item.index) (item_by see c.in-Some.item)
+          (meanings_by see c.loop-item.item-iterator) (meanings_by see c.next.new.self) (meanings_by see c.args.items) refl refl (ap (meanings_by see) c.in-Some.ensures.steps)
+          c.loop-item.invariant.among c.args.nodes.now c.loop-item.nodes c.complete_item.new.nodes c.loop-item.invariant.grows c.in_ok-value.ensures.grows;
+    }
 
 pub complete_items-prove-unreachable-requires : goal.complete_items-prove-unreachable-requires
 complete_items-prove-unreachable-requires g t c =
@@ -226,6 +268,10 @@ complete_items-loop-item-preserved g t c =
     record {
       counted = omega (arith, c.loop-item.invariant.counted, ap length c.in-Some.ensures.steps);
       planned = c.in_ok-value.ensures.planned;
+      grows = grown-item c.args.self.now c.args.steps.now c.loop-item.steps c.complete_item.new.steps w list (item_spot list c.loop-item.index) (item_by see c.in-Some.item)
+          (meanings_by see c.loop-item.item-iterator) (meanings_by see c.next.new.self) (meanings_by see c.args.items) refl refl (ap (meanings_by see) c.in-Some.ensures.steps)
+          c.loop-item.invariant.among c.args.nodes.now c.loop-item.nodes c.complete_item.new.nodes c.loop-item.invariant.grows c.in_ok-value.ensures.grows;
+      among = λ turn gives. c.loop-item.invariant.among turn (subst (λ ms. AnyGives w (Turns w (sets_below c.args.place.now.group.now) turn) (item_type list.type) ms) (sym (ap (meanings_by see) c.in-Some.ensures.steps)) (inr gives));
       so_far = elim c.match-branch-2.branch [
         | complete_items-in-Value+in_ok-push-in-Value b ↦
             completing-more w list c.loop-item.values c.match-branch-2.values (b.in-Value.value ∷ []) c.loop-item.errors before after c.loop-item.index left rest all m (made_of c.in_ok-value.field-0)
@@ -244,62 +290,86 @@ complete_items-returns-clause-made g t c =
 
 pub complete_item-complete_value-requires : goal.complete_item-complete_value-requires
 complete_item-complete_value-requires g t c =
-    let pieces = (group_of c.args.list.now.group.now).pieces in
     let lower : height c.args.list.now.ty.now ≡ suc (height c.item_of.result.now) = height-item c.args.list.now.ty.now c.requires.list ∙ ap (λ u. suc (height u)) (sym c.item_of.ensures) in
-    let smaller : measure c.args.self.now pieces (4 * height c.item_of.result.now + 3) < measure c.args.self.now pieces (4 * height c.args.list.now.ty.now) = omega (arith, lower) in
+    let smaller : measure c.args.self.now (group_of c.args.list.now.group.now).pieces (4 * height c.item_of.result.now + 3) < measure c.args.self.now (group_of c.args.list.now.group.now).pieces (4 * height c.args.list.now.ty.now) = omega (arith, lower) in
     search rules
 
-pub complete_item-returns-in-Ok-clause-made : goal.complete_item-returns-in-Ok-clause-made
-complete_item-returns-in-Ok-clause-made g t c =
+pub complete_item-returns-in-Ok : goal.complete_item-returns-in-Ok
+complete_item-returns-in-Ok g t c =
     let list = c.args.list.now in
     let here = item_in (trail_of (Below list.around list.step list.ty)) c.args.index c.item_of.result.now (group_of list.group.now) in
-    done-item (world_of c.args.self.now g.O.ObjectValue.type_of g.O.ObjectValue.resolves) c.args.errors.now c.complete_value.new.errors c.complete_value.result g.O.ObjectValue.seen here (item_spot (spot_of list) c.args.index)
-    c.in-Ok.resolved c.args.item (item-place list c.args.index c.item_of.result.now c.item_of.ensures) c.in-Ok.is c.complete_value.ensures.made
+    let see = g.O.ObjectValue.seen in
+    let w = world_of c.args.self.now g.O.ObjectValue.type_of g.O.ObjectValue.resolves in
+    let e = c.args.self.now in
+    let was = c.args.steps.now in
+    let nodes = c.args.nodes.now in
+    let is = c.complete_value.new.steps in
+    let now = c.complete_value.new.nodes in
+    record {
+      made = done-item (world_of c.args.self.now g.O.ObjectValue.type_of g.O.ObjectValue.resolves) c.args.errors.now c.complete_value.new.errors c.complete_value.result g.O.ObjectValue.seen here (item_spot (spot_of list) c.args.index)
+          c.in-Ok.resolved c.args.item (item-place list c.args.index c.item_of.result.now c.item_of.ensures) c.in-Ok.is c.complete_value.ensures.made;
+      planned = c.complete_value.ensures.planned;
+      grows = grown-meant e was nodes is now c.complete_value.result w (item_spot (spot_of list) c.args.index) (item_by see c.args.item) (meaning_by see c.in-Ok.resolved) (ap (item_by see) c.in-Ok.is)
+          (grown-place e was nodes is now c.complete_value.result w here (item_spot (spot_of list) c.args.index) (meaning_by see c.in-Ok.resolved) (item-place list c.args.index c.item_of.result.now c.item_of.ensures) c.complete_value.ensures.grows);
+    }
 
-pub complete_item-returns-in_ok-list_failure-in-Err-clause-made : goal.complete_item-returns-in_ok-list_failure-in-Err-clause-made
-complete_item-returns-in_ok-list_failure-in-Err-clause-made g t c =
+pub complete_item-returns-in_ok-list_failure-in-Err : goal.complete_item-returns-in_ok-list_failure-in-Err
+complete_item-returns-in_ok-list_failure-in-Err g t c =
     let list = c.args.list.now in
     let here = item_in (trail_of (Below list.around list.step list.ty)) c.args.index c.item_of.result.now (group_of list.group.now) in
-    done-failed g.O.ObjectValue.seen (request_of c.args.self.now g.O.ObjectValue.type_of g.O.ObjectValue.resolves) here (item_spot (spot_of list) c.args.index) c.args.errors.now c.list_failure.new.errors c.args.item c.in-Err.error
-    (item-place list c.args.index c.item_of.result.now c.item_of.ensures) c.in-Err.is c.in_ok-list_failure-in-Err.ensures
+    record {
+      made = done-failed g.O.ObjectValue.seen (request_of c.args.self.now g.O.ObjectValue.type_of g.O.ObjectValue.resolves) here (item_spot (spot_of list) c.args.index) c.args.errors.now c.list_failure.new.errors c.args.item c.in-Err.error
+          (item-place list c.args.index c.item_of.result.now c.item_of.ensures) c.in-Err.is c.in_ok-list_failure-in-Err.ensures;
+      planned = c.requires.planned;
+      grows = none-grown c.args.self.now c.args.steps.now c.args.nodes.now _;
+    }
 
 -- ---- a field, and parts
 
 pub execute_field-complete_value-requires : goal.execute_field-complete_value-requires
 execute_field-complete_value-requires g t c =
-    let pieces = (group_of c.args.field.now.group).pieces in
     let schema = schema_in c.args.self.now in
     let first = c.args.field.now.group.first.now in
     let definition = c.args.field.now.definition.now in
     let low : height definition.ty ≤ top schema =
-    subst (λ (d : FieldDefinition). height d.ty ≤ top schema) (sym c.requires.asked.definition)
-    (definition-top schema c.args.object_type.now.name.text first.name.text first.definition c.requires.defined) in
-    let smaller : measure c.args.self.now pieces (4 * height definition.ty + 3) < measure c.args.self.now pieces (4 * top schema + 7) = omega (arith, low) in
+    subst (λ (d : FieldDefinition). height d.ty ≤ top schema) (sym c.requires.asked.definition) (definition-top schema c.args.object_type.now.name.text first.name.text first.definition c.requires.defined) in
+    let smaller : measure c.args.self.now (group_of c.args.field.now.group).pieces (4 * height definition.ty + 3) < measure c.args.self.now (group_of c.args.field.now.group).pieces (4 * top schema + 7) = omega (arith, low) in
     search rules
 
-pub execute_field-returns-in-Gave-clause-made : goal.execute_field-returns-in-Gave-clause-made
-execute_field-returns-in-Gave-clause-made g t c =
-    field-gave g.O.ObjectValue.seen (request_of c.args.self.now g.O.ObjectValue.type_of g.O.ObjectValue.resolves) c.args.errors.now c.complete_value.new.errors c.complete_value.result
-    c.args.object_type.now (g.O.ObjectValue.seen c.args.object.now) (trail_of c.args.path.now) (group_of c.args.field.now.group) c.key.result.now c.args.field.now.definition.now
-    c.in_ok-resolved.field-0 c.key.ensures c.requires.asked.definition c.in_ok-resolved.ensures c.in-Gave.resolved c.in-Gave.is c.complete_value.ensures.made
+pub execute_field-returns-in-Gave : goal.execute_field-returns-in-Gave
+execute_field-returns-in-Gave g t c =
+    let see = g.O.ObjectValue.seen in
+    let w = world_of c.args.self.now g.O.ObjectValue.type_of g.O.ObjectValue.resolves in
+    let definition = c.args.field.now.definition.now in
+    record {
+      made = field-gave g.O.ObjectValue.seen (request_of c.args.self.now g.O.ObjectValue.type_of g.O.ObjectValue.resolves) c.args.errors.now c.complete_value.new.errors c.complete_value.result
+          c.args.object_type.now (g.O.ObjectValue.seen c.args.object.now) (trail_of c.args.path.now) (group_of c.args.field.now.group) c.key.result.now c.args.field.now.definition.now
+          c.in_ok-resolved.field-0 c.key.ensures c.requires.asked.definition c.in_ok-resolved.ensures c.in-Gave.resolved c.in-Gave.is c.complete_value.ensures.made;
+      planned = c.complete_value.ensures.planned;
+      grows = grown-field c.args.self.now c.args.steps.now c.args.nodes.now c.complete_value.new.steps c.complete_value.new.nodes c.complete_value.result w c.args.object_type.now (see c.args.object.now)
+          (group_of c.args.field.now.group) (at_field (trail_of c.args.path.now) (group_of c.args.field.now.group) c.key.result.now definition.ty) (meaning_by see c.in-Gave.resolved)
+          refl (ap (λ (d : FieldDefinition). d.ty) c.requires.asked.definition) (ap (outcome_of see) (sym c.in-Gave.is) ∙ c.in_ok-resolved.ensures) c.complete_value.ensures.grows;
+    }
 
-pub execute_field-returns-in-Failed-clause-made : goal.execute_field-returns-in-Failed-clause-made
-execute_field-returns-in-Failed-clause-made g t c =
-    field-failed g.O.ObjectValue.seen (request_of c.args.self.now g.O.ObjectValue.type_of g.O.ObjectValue.resolves) c.args.errors.now c.fail.new.errors c.fail.result
-    c.args.object_type.now (g.O.ObjectValue.seen c.args.object.now) (trail_of c.args.path.now) (group_of c.args.field.now.group) c.key.result.now c.args.field.now.definition.now
-    c.in_ok-resolved.field-0 c.key.ensures c.requires.asked.definition c.in_ok-resolved.ensures c.in-Failed.error c.in-Failed.is c.fail.ensures
+pub execute_field-returns-in-Failed : goal.execute_field-returns-in-Failed
+execute_field-returns-in-Failed g t c =
+    record {
+      made = field-failed g.O.ObjectValue.seen (request_of c.args.self.now g.O.ObjectValue.type_of g.O.ObjectValue.resolves) c.args.errors.now c.fail.new.errors c.fail.result
+          c.args.object_type.now (g.O.ObjectValue.seen c.args.object.now) (trail_of c.args.path.now) (group_of c.args.field.now.group) c.key.result.now c.args.field.now.definition.now
+          c.in_ok-resolved.field-0 c.key.ensures c.requires.asked.definition c.in_ok-resolved.ensures c.in-Failed.error c.in-Failed.is c.fail.ensures;
+      planned = ok-anyway c.fail.result _ c.requires.planned;
+      grows = ok-anyway c.fail.result _ (none-grown c.args.self.now c.args.steps.now c.args.nodes.now _);
+    }
 
-pub execute_field-returns-in-Failed-clause-planned : goal.execute_field-returns-in-Failed-clause-planned
-execute_field-returns-in-Failed-clause-planned g t c = ok-anyway c.fail.result _ c.requires.planned
-
-pub execute_field-returns-in-Refused-clause-made : goal.execute_field-returns-in-Refused-clause-made
-execute_field-returns-in-Refused-clause-made g t c =
-    field-faulted g.O.ObjectValue.seen (request_of c.args.self.now g.O.ObjectValue.type_of g.O.ObjectValue.resolves) c.args.errors.now c.refuse_argument.new.errors c.refuse_argument.result
-    c.args.object_type.now (g.O.ObjectValue.seen c.args.object.now) (trail_of c.args.path.now) (group_of c.args.field.now.group) c.key.result.now c.args.field.now.definition.now
-    c.in_ok-resolved.field-0 c.key.ensures c.requires.asked.definition c.in_ok-resolved.ensures c.in-Refused.fault c.in-Refused.is c.refuse_argument.ensures
-
-pub execute_field-returns-in-Refused-clause-planned : goal.execute_field-returns-in-Refused-clause-planned
-execute_field-returns-in-Refused-clause-planned g t c = ok-anyway c.refuse_argument.result _ c.requires.planned
+pub execute_field-returns-in-Refused : goal.execute_field-returns-in-Refused
+execute_field-returns-in-Refused g t c =
+    record {
+      made = field-faulted g.O.ObjectValue.seen (request_of c.args.self.now g.O.ObjectValue.type_of g.O.ObjectValue.resolves) c.args.errors.now c.refuse_argument.new.errors c.refuse_argument.result
+          c.args.object_type.now (g.O.ObjectValue.seen c.args.object.now) (trail_of c.args.path.now) (group_of c.args.field.now.group) c.key.result.now c.args.field.now.definition.now
+          c.in_ok-resolved.field-0 c.key.ensures c.requires.asked.definition c.in_ok-resolved.ensures c.in-Refused.fault c.in-Refused.is c.refuse_argument.ensures;
+      planned = ok-anyway c.refuse_argument.result _ c.requires.planned;
+      grows = ok-anyway c.refuse_argument.result _ (none-grown c.args.self.now c.args.steps.now c.args.nodes.now _);
+    }
 
 pub execute_parts-loop-number-init : goal.execute_parts-loop-number-init
 execute_parts-loop-number-init g t c =
@@ -313,8 +383,8 @@ execute_parts-loop-number-init g t c =
     record {
       same = refl;
       planned = c.requires.planned.1.1;
-      so_far = subst (λ ms. IsExecuting w U x outer ms before before (views groups) (views groups)) (sym c.in_ok-members.ensures)
-          (executing-begun w U x outer before (views groups) (views groups) refl (views-apart r U groups c.requires.planned.0 c.requires.planned.1.0.groups));
+      grows = grows-none (most_looks (ground_in c.args.self.now)) c.args.steps.now c.args.steps.now (λ n. ways_to n c.args.parts.now) (λ n. ways_to n c.args.parts.now) (OpensBy w (views groups) U x) refl (λ n. refl);
+      so_far = subst (λ ms. IsExecuting w U x outer ms before before (views groups) (views groups)) (sym c.in_ok-members.ensures) (executing-begun w U x outer before (views groups) (views groups) refl (views-apart r U groups c.requires.planned.0 c.requires.planned.1.0.groups));
     }
 
 pub execute_parts-execute_field-requires : goal.execute_parts-execute_field-requires
@@ -335,9 +405,8 @@ execute_parts-insert_new-requires g t c =
     let part = c.in-Some.part.now in
     let at = here c.args.self.now g.O.ObjectValue.type_of g.O.ObjectValue.resolves c.args.object_type.now c.requires.ranked.0 c.requires.ranked.1 c.requires.planned.0 c.args.parts.now
     c.loop-number.parts i part c.requires.planned.1 c.loop-number.invariant.same c.loop-number.invariant.planned (sym c.in-Some.ensures.value) in
-    key-free (world_of c.args.self.now g.O.ObjectValue.type_of g.O.ObjectValue.resolves) c.loop-number.members (views (drop i groups)) (views (drop (i + 1) groups)) (group_of (group_in part))
-    c.in_ok-key-in-Value.key at.first c.loop-number.invariant.so_far.new
-    (c.in_ok-key-in-Value.ensures ∙ c.as_str.ensures.text ∙ ap (λ (n : Named). n.text) c.key.ensures ∙ changed-key part c.execute_field.new.nodes)
+    key-free (world_of c.args.self.now g.O.ObjectValue.type_of g.O.ObjectValue.resolves) c.loop-number.members (views (drop i groups)) (views (drop (i + 1) groups)) (group_of (group_in part)) c.in_ok-key-in-Value.key at.first c.loop-number.invariant.so_far.new
+    (c.in_ok-key-in-Value.ensures ∙ c.text.ensures ∙ ap (λ (n : Named). n.text) c.key.ensures ∙ changed-key part c.execute_field.new.nodes)
 
 pub execute_parts-returns-in-NullPasses : goal.execute_parts-returns-in-NullPasses
 execute_parts-returns-in-NullPasses g t c =
@@ -345,14 +414,15 @@ execute_parts-returns-in-NullPasses g t c =
     let i = c.loop-number.number in
     let part = c.in-Some.part.now in
     let is = sym c.in-Some.ensures.value in
-    let at = here c.args.self.now g.O.ObjectValue.type_of g.O.ObjectValue.resolves c.args.object_type.now c.requires.ranked.0 c.requires.ranked.1 c.requires.planned.0 c.args.parts.now
-    c.loop-number.parts i part c.requires.planned.1 c.loop-number.invariant.same c.loop-number.invariant.planned is in
+    let at = here c.args.self.now g.O.ObjectValue.type_of g.O.ObjectValue.resolves c.args.object_type.now c.requires.ranked.0 c.requires.ranked.1 c.requires.planned.0 c.args.parts.now c.loop-number.parts i part c.requires.planned.1 c.loop-number.invariant.same c.loop-number.invariant.planned is in
     record {
       executed = executing-stops (world_of c.args.self.now g.O.ObjectValue.type_of g.O.ObjectValue.resolves) c.args.object_type.now (g.O.ObjectValue.seen c.args.object.now) (trail_of c.args.path.now)
           c.loop-number.members c.loop-number.errors c.args.errors.now c.execute_field.new.errors (views (drop i groups)) (views groups) (views (drop (i + 1) groups))
           (group_of (group_in part)) (made_of c.in_ok-value.field-0) (ap made_of c.in-NullPasses.is) at.first c.in_ok-value.ensures.made c.loop-number.invariant.so_far;
       same = map-set field_in c.loop-number.parts i part (with_nodes part c.execute_field.new.nodes) is (changed-field part c.execute_field.new.nodes) ∙ c.loop-number.invariant.same;
       planned = part-with (ground_in c.args.self.now) c.loop-number.parts i part c.execute_field.new.nodes c.loop-number.invariant.planned c.in_ok-value.ensures.planned;
+      grows = grown-part c.args.self.now c.args.steps.now c.loop-number.steps c.execute_field.new.steps (request_of c.args.self.now g.O.ObjectValue.type_of g.O.ObjectValue.resolves) c.args.object_type.now (g.O.ObjectValue.seen c.args.object.now) groups i (views (drop (i + 1) groups))
+          c.args.parts.now c.loop-number.parts part c.execute_field.new.nodes at.first is c.loop-number.invariant.grows c.in_ok-value.ensures.grows;
     }
 
 pub execute_parts-loop-number-preserved : goal.execute_parts-loop-number-preserved
@@ -366,25 +436,27 @@ execute_parts-loop-number-preserved g t c =
     let part = c.in-Some.part.now in
     let nodes = c.execute_field.new.nodes in
     let is = sym c.in-Some.ensures.value in
-    let at = here c.args.self.now g.O.ObjectValue.type_of g.O.ObjectValue.resolves U c.requires.ranked.0 c.requires.ranked.1 c.requires.planned.0 c.args.parts.now
-    c.loop-number.parts i part c.requires.planned.1 c.loop-number.invariant.same c.loop-number.invariant.planned is in
+    let at = here c.args.self.now g.O.ObjectValue.type_of g.O.ObjectValue.resolves U c.requires.ranked.0 c.requires.ranked.1 c.requires.planned.0 c.args.parts.now c.loop-number.parts i part c.requires.planned.1 c.loop-number.invariant.same c.loop-number.invariant.planned is in
     let group = group_of (group_in part) in
     let same = map-set field_in c.loop-number.parts i part (with_nodes part nodes) is (changed-field part nodes) ∙ c.loop-number.invariant.same in
     let have = part-with (ground_in c.args.self.now) c.loop-number.parts i part nodes c.loop-number.invariant.planned c.in_ok-value.ensures.planned in
+    let grown = grown-part c.args.self.now c.args.steps.now c.loop-number.steps c.execute_field.new.steps (request_of c.args.self.now g.O.ObjectValue.type_of g.O.ObjectValue.resolves) c.args.object_type.now (g.O.ObjectValue.seen c.args.object.now) groups i (views (drop (i + 1) groups))
+    c.args.parts.now c.loop-number.parts part c.execute_field.new.nodes at.first is c.loop-number.invariant.grows c.in_ok-value.ensures.grows in
     elim c.match-branch-2.branch [
       | execute_parts-in-Value+in_ok-key-in-Value+in_ok-insert_new-in-Value b ↦
           record {
             same = ap fields_in b.parts-is ∙ same;
             planned = subst (HaveNodes (ground_in c.args.self.now)) (sym b.parts-is) have;
+            grows = subst (λ ps. PartsGrow c.args.self.now c.args.steps.now c.execute_field.new.steps c.args.parts.now ps (OpensBy w (views groups) U x)) (sym b.parts-is) grown;
             so_far = executing-more w U x outer c.loop-number.members c.match-branch-2.members c.loop-number.errors c.args.errors.now c.execute_field.new.errors (views (drop i groups)) (views groups)
                 (views (drop (i + 1) groups)) group b.in_ok-key-in-Value.key b.in-Value.value (made_of c.in_ok-value.field-0) (ap made_of b.in-Value.is) at.first
-                (b.in_ok-key-in-Value.ensures ∙ b.text.ensures ∙ ap (λ (n : Named). n.text) b.key.ensures ∙ changed-key part nodes) (b.members-is ∙ b.in_ok-insert_new-in-Value.ensures.pairs) c.in_ok-value.ensures.made
-                c.loop-number.invariant.so_far;
+                (b.in_ok-key-in-Value.ensures ∙ b.text.ensures ∙ ap (λ (n : Named). n.text) b.key.ensures ∙ changed-key part nodes) (b.members-is ∙ b.in_ok-insert_new-in-Value.ensures.pairs) c.in_ok-value.ensures.made c.loop-number.invariant.so_far;
           }
       | execute_parts-in-LeftOut b ↦
           record {
             same = ap fields_in b.parts-is ∙ same;
             planned = subst (HaveNodes (ground_in c.args.self.now)) (sym b.parts-is) have;
+            grows = subst (λ ps. PartsGrow c.args.self.now c.args.steps.now c.execute_field.new.steps c.args.parts.now ps (OpensBy w (views groups) U x)) (sym b.parts-is) grown;
             so_far = subst (λ ms. IsExecuting w U x outer ms c.execute_field.new.errors c.args.errors.now (views (drop (i + 1) groups)) (views groups)) (sym b.members-is)
                 (executing-less w U x outer c.loop-number.members c.loop-number.errors c.args.errors.now c.execute_field.new.errors (views (drop i groups)) (views groups)
                 (views (drop (i + 1) groups)) group (made_of c.in_ok-value.field-0) (ap made_of b.in-LeftOut.is) at.first c.in_ok-value.ensures.made c.loop-number.invariant.so_far);

@@ -1,9 +1,13 @@
 use Rattle.std.proofs.Common.{◌≡◌, ◌+◌, ◌*◌, drop, length}
+use Rattle.gql_exec_places.specs.Types.{item_type}
 use Rattle.gql_exec_plan.specs.Plan.{AreNodes, HaveNodes, fields_in, groups_in, sets_below}
+use Rattle.gql_exec_plan.specs.Ways.{Turn}
 use Rattle.gql_exec_resolve.specs.Meaning.{meanings_by}
 use Rattle.gql_exec_resolve.proofs.Height.{height}
 use Rattle.gql_exec_request.specs.Planning.{ground_in}
 use Rattle.gql_exec_request.specs.Executing.{world_of}
+use Rattle.gql_exec_request.specs.Looks.{NodesGrow, PartsGrow}
+use Rattle.gql_exec_request.specs.Opened.{AnyGives, OpensBy, Turns}
 use Rattle.gql_exec_request.specs.Trails.{group_of, spot_of, trail_of}
 use Rattle.gql_exec_request.proofs.Groups.{IsExecuting}
 use Rattle.gql_exec_request.proofs.Heights.{top}
@@ -41,6 +45,8 @@ invariant-execute_parts-loop-number g l =
     record {
       same : fields_in l.parts ≡ fields_in l.fn.parts;
       planned : HaveNodes (ground_in l.self) l.parts;
+      grows : PartsGrow l.self l.fn.steps l.steps l.fn.parts l.parts
+          (OpensBy (world_of l.self g.O.ObjectValue.type_of g.O.ObjectValue.resolves) (views (groups_in l.fn.parts)) l.object_type (g.O.ObjectValue.seen l.object));
       so_far : IsExecuting (world_of l.self g.O.ObjectValue.type_of g.O.ObjectValue.resolves) l.object_type (g.O.ObjectValue.seen l.object) (trail_of l.path)
           l.members l.errors l.fn.errors (views (drop l.number (groups_in l.fn.parts))) (views (groups_in l.fn.parts));
     }
@@ -50,6 +56,13 @@ invariant-complete_items-loop-item g l =
     record {
       counted : l.index + length l.item-iterator ≡ length l.fn.items;
       planned : AreNodes (ground_in l.self) (sets_below l.place.group.now) l.nodes;
+      grows : NodesGrow l.self l.fn.steps l.steps l.fn.nodes l.nodes (λ turn.
+          let w = world_of l.self g.O.ObjectValue.type_of g.O.ObjectValue.resolves in
+          AnyGives w (Turns w (sets_below l.place.group.now) turn) (item_type l.place.ty.now) (meanings_by g.O.ObjectValue.seen l.fn.items));
+      among : (turn : Turn) →
+          let w = world_of l.self g.O.ObjectValue.type_of g.O.ObjectValue.resolves in
+          AnyGives w (Turns w (sets_below l.place.group.now) turn) (item_type l.place.ty.now) (meanings_by g.O.ObjectValue.seen l.item-iterator)
+          → AnyGives w (Turns w (sets_below l.place.group.now) turn) (item_type l.place.ty.now) (meanings_by g.O.ObjectValue.seen l.fn.items);
       so_far : IsCompleting (world_of l.self g.O.ObjectValue.type_of g.O.ObjectValue.resolves) (spot_of l.place)
           l.values l.errors l.fn.errors l.index (meanings_by g.O.ObjectValue.seen l.item-iterator) (meanings_by g.O.ObjectValue.seen l.fn.items);
     }
