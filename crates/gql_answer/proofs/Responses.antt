@@ -14,7 +14,8 @@ use Rattle.gql_document_types.specs.declared.operation.Operation.{Operation}
 use Rattle.gql_exec_depth.specs.Refusal.{IsTooDeep as IsDepthRefused}
 use Rattle.gql_exec_introspected.specs.Thing.{of_user, type_of_thing}
 use Rattle.gql_exec_introspected.specs.ThingMeaning.{Resolving, thing_meaning}
-use Rattle.gql_exec_request.specs.Execution.{Answers as ExecutionAnswers, IsAnswer as IsExecutionAnswer, Prepared, on_root, request_in, started, undefined_root, with_introspection, with_operation, with_values}
+use Rattle.gql_exec_request.specs.Execution.{Answers as ExecutionAnswers, Counts as ExecutionCounts, IsAnswer as IsExecutionAnswer, Looks as ExecutionLooksOf, Prepared, on_root, request_in, started, undefined_root, with_introspection, with_operation, with_values}
+use Rattle.gql_exec_request.specs.Looks.{AreLooks}
 use Rattle.gql_exec_request.specs.declared.execution.Execution.{Execution}
 use Rattle.gql_exec_request.specs.declared.execution.Given.TheVariants.{Coerced}
 use Rattle.gql_exec_variables.specs.RequestErrors.{request_error as fault_told}
@@ -33,7 +34,7 @@ use Rattle.gql_answer.specs.declared.refusal.Refusal.{Refusal}
 use Rattle.gql_answer.specs.declared.refusal.Refusal.TheVariants as refused
 use Rattle.gql_answer.specs.declared.response_bytes.Written.{Written}
 use Rattle.gql_answer.specs.AnswerError.{Asks, Call, HasCause, IsObjectText, wanted_with}
-use Rattle.gql_answer.specs.Answered.{IsPrint, IsResponseBy, IsResponseOver, IsResultOf, IsRoot}
+use Rattle.gql_answer.specs.Answered.{ExecutionLooks, IsPrint, IsResponseBy, IsResponseOver, IsResultOf, IsRoot}
 use Rattle.gql_answer.specs.Answering.{Answers, AnswersWithin}
 use Rattle.gql_answer.specs.Depths.{IsShallow, all_selections, depth_looks}
 use Rattle.gql_answer.specs.Ready.{IsChosen, MeantBy, Ready}
@@ -64,7 +65,26 @@ module _ (schema : Bor Schema) (document : Bor ExecutableDocument) (operation : 
         },
       )
 
+  -- so are its looks
+  looked_over : {X : Type 0} (types : X → List ℕ) (resolves : Resolving X) (root : X) (before after : ℕ) (found : Option ObjectType) (T : ObjectType) → found ≡ Some T
+      → (response : ExecutionResponse) → ExecutionLooksOf asked types resolves root before after (on_root schema.now (Coerced values) operation.now found) (Ok response)
+      → AreLooks (request_in asked values.now types resolves) T root operation.now.selection_set.selections before after
+  looked_over types resolves root before after found T is response h =
+      let made : Prepared = record { operation = operation.now; root = T; variables = values.now } in
+      let there = subst (λ o. ExecutionLooksOf asked types resolves root before after (on_root schema.now (Coerced values) operation.now o) (Ok response)) is h in
+      let same : there.0 ≡ made = same_ok (on_root schema.now (Coerced values) operation.now (Some T)) there.0 made there.1 refl in
+      subst (λ (p : Prepared). AreLooks (request_in asked p.variables types resolves) p.root root p.operation.selection_set.selections before after) same there.2
+
 module _ {X : Type 0} (types : X → List ℕ) (resolves : Resolving X) (root : X) (schema : Bor Schema) (document : Bor ExecutableDocument) (operation : Bor Operation) (values : Bor Members) where
+  looked_by : (introspection : Bool) (before after : ℕ) (T : ObjectType) → IsRoot schema.now operation.now T → (response : ExecutionResponse)
+      → ExecutionCounts (asked schema document operation values introspection) types resolves root before after (Ok response)
+      → ExecutionLooks introspection types resolves root schema.now document.now operation.now values.now T before after
+  looked_by true before after T is response h =
+      looked_over schema document operation values true (type_of_thing types) (thing_meaning resolves) (of_user schema.now root) before after
+      (object_of schema.now operation.now.selection_set.ty.text) T is response h
+  looked_by false before after T is response h =
+      looked_over schema document operation values false types resolves root before after (object_of schema.now operation.now.selection_set.ty.text) T is response h
+
   executed_by : (introspection : Bool) (response : ExecutionResponse) → ExecutionAnswers (asked schema document operation values introspection) types resolves root (Ok response)
       → (T : ObjectType) × IsRoot schema.now operation.now T × IsResponseBy introspection types resolves root schema.now document.now operation.now values.now T response
   executed_by true response h =
@@ -93,15 +113,18 @@ module _ {X : Type 0} (types : X → List ℕ) (resolves : Resolving X) (root : 
 
   -- and so are the bytes that print it
   pub executed_bytes : {E : Type 0} (introspection : Bool) (execution : Execution) → execution ≡ asked schema document operation values introspection
-      → (response : ExecutionResponse) (result : Result Written E) → ExecutionAnswers execution types resolves root (Ok response) → IfOk result (IsPrint response)
-      → IfOk result (IsResultOf introspection types resolves root schema.now document.now operation.now values.now)
-  executed_bytes introspection execution is response (Ok written) h print =
+      → (before after : ℕ) (response : ExecutionResponse) (result : Result Written E) → ExecutionAnswers execution types resolves root (Ok response)
+      → ExecutionCounts execution types resolves root before after (Ok response) → IfOk result (IsPrint response)
+      → IfOk result (IsResultOf introspection types resolves root schema.now document.now operation.now values.now before after)
+  executed_bytes introspection execution is before after response (Ok written) h counts print =
       let made = executed_by introspection response (subst (λ (e : Execution). ExecutionAnswers e types resolves root (Ok response)) is h) in
       record {
         is = record { root_type = made.0; is_root = made.1; response = response; is_response = made.2; written = print.bytes };
         errors = print.errors;
+        looks = looked_by introspection before after made.0 made.1 response
+            (subst (λ (e : Execution). ExecutionCounts e types resolves root before after (Ok response)) is counts);
       }
-  executed_bytes introspection execution is response (Err e) h print = tt
+  executed_bytes introspection execution is before after response (Err e) h counts print = tt
 
 -- ---- the steps before it
 
@@ -225,19 +248,19 @@ wrong_texts w (faults.Document list) h r is = subst (IsCause w) (sym is) h
 
 module _ {X : Type 0} (types : X → List ℕ) (resolves : Resolving X) (root : X) (w : Wanted) where
   -- an operation that was performed after its depth was checked
-  pub responds : (before after : ℕ) (meant : MeantBy w) (o : Operation) → IsChosen w meant o → IsShallow w.introspection meant.document o
-      → after ≤ before + depth_looks w.introspection meant.document o → (result : Result Written (Refused Refusal))
-      → OrCause w (Performs types resolves root w meant.schema meant.document o) result → IsResponse types resolves root w before after result
-  responds before after meant o chosen shallow looks (Ok written) h = record {
+  pub responds : (before between after : ℕ) (meant : MeantBy w) (o : Operation) → IsChosen w meant o → IsShallow w.introspection meant.document o
+      → before ≤ between → between ≤ before + depth_looks w.introspection meant.document o → (result : Result Written (Refused Refusal))
+      → OrCause w (Performs types resolves root w meant.schema meant.document o between after) result → IsResponse types resolves root w before after result
+  responds before between after meant o chosen shallow rises looks (Ok written) h = record {
     answered = record {
       ready = record { meant = meant; operation = o; is_chosen = chosen; is_shallow = shallow; variables = h.variables; are_coerced = h.are_coerced };
       executed = h.result.is;
     };
     errors = h.result.errors;
-    looks = looks;
+    looks = record { between = between; rises = rises; depth = looks; execution = h.result.looks };
   }
-  responds before after meant o chosen shallow looks (Err (Fault refusal)) h = h
-  responds before after meant o chosen shallow looks (Err Memory) h = tt
+  responds before between after meant o chosen shallow rises looks (Err (Fault refusal)) h = h
+  responds before between after meant o chosen shallow rises looks (Err Memory) h = tt
 
   -- as callers are told it
   pub answer_told : (before after : ℕ) (written : Written) → IsResponse types resolves root w before after (Ok written) → IsAnswer types resolves root w before after (Ok written.bytes)

@@ -1,17 +1,19 @@
 -- What a response says.
-use Rattle.std.specs.Prelude.{◌≡◌, ℕ, Bool, true, false, List, length, Some}
+use Rattle.std.specs.Prelude.{◌≡◌, ◌≤◌, ◌+◌, ℕ, Bool, true, false, List, length, Some}
 use Rattle.jb_print.specs.Compact.{compact}
 use Rattle.gql_document_types.specs.declared.document.ExecutableDocument.{ExecutableDocument}
 use Rattle.gql_document_types.specs.declared.operation.Operation.{Operation}
 use Rattle.gql_exec_introspected.specs.Thing.{of_user, type_of_thing}
 use Rattle.gql_exec_introspected.specs.ThingMeaning.{Resolving, thing_meaning}
 use Rattle.gql_exec_request.specs.Executing.{request_by}
+use Rattle.gql_exec_request.specs.Looks.{AreLooks}
 use Rattle.gql_exec_world.specs.Response.{IsExecuted, IsExplained}
 use Rattle.gql_response.specs.Response.{response_value}
 use Rattle.gql_response.specs.declared.execution_response.ExecutionResponse.{ExecutionResponse}
 use Rattle.gql_schema_types.specs.Schemas.{object_of}
 use Rattle.gql_schema_types.specs.declared.schema.Schema.{Schema}
 use Rattle.gql_schema_types.specs.declared.types.ObjectType.{ObjectType}
+use Rattle.gql_answer.specs.Depths.{depth_looks}
 use Rattle.gql_answer.specs.Ready.{Ready}
 use Rattle.gql_answer.specs.Wanted.{Members, Wanted}
 use Rattle.gql_answer.specs.declared.response_bytes.Written.{Written}
@@ -40,6 +42,15 @@ IsResponseBy true type_of resolves root schema document operation variables root
 IsResponseBy false type_of resolves root schema document operation variables root_type response =
     IsResponseOver false type_of resolves root schema document operation variables root_type response
 
+-- the looks at selections of that execution
+abbrev pub ExecutionLooks : {X : Type 0} → Bool → (X → List ℕ) → Resolving X → X → Schema → ExecutableDocument → Operation → Members
+    → ObjectType → (before after : ℕ) → Type 0
+ExecutionLooks true type_of resolves root schema document operation variables root_type before after =
+    AreLooks (request_by true schema document variables (type_of_thing type_of) (thing_meaning resolves)) root_type (of_user schema root)
+    operation.selection_set.selections before after
+ExecutionLooks false type_of resolves root schema document operation variables root_type before after =
+    AreLooks (request_by false schema document variables type_of resolves) root_type root operation.selection_set.selections before after
+
 -- The bytes are exactly the response of the operation with these variables, and with this object as the root.
 pub record IsExecutionOf {X : Type 0} (introspection : Bool) (type_of : X → List ℕ) (resolves : Resolving X) (root : X)
     (schema : Schema) (document : ExecutableDocument) (operation : Operation) (variables : Members) (bytes : List ℕ) : Type 0 where
@@ -54,6 +65,16 @@ pub record Answered {X : Type 0} (type_of : X → List ℕ) (resolves : Resolvin
   pub ready : Ready wanted
   pub executed : IsExecutionOf wanted.introspection type_of resolves root ready.meant.schema ready.meant.document ready.operation ready.variables bytes
 
+-- The looks at selections: those of the depth check, where introspection is on, at most one at each; and then those of the execution.
+pub record AnswerLooks {X : Type 0} {type_of : X → List ℕ} {resolves : Resolving X} {root : X} {wanted : Wanted} {bytes : List ℕ}
+    (answered : Answered type_of resolves root wanted bytes) (before after : ℕ) : Type 0 where
+  pub between : ℕ
+  pub rises : before ≤ between
+  pub depth : between ≤ before + depth_looks wanted.introspection answered.ready.meant.document answered.ready.operation
+  pub execution :
+      ExecutionLooks wanted.introspection type_of resolves root answered.ready.meant.schema answered.ready.meant.document answered.ready.operation
+      answered.ready.variables answered.executed.root_type between after
+
 -- how many errors the response has
 abbrev pub errors_in : {X : Type 0} {type_of : X → List ℕ} {resolves : Resolving X} {root : X} {wanted : Wanted} {bytes : List ℕ}
     → Answered type_of resolves root wanted bytes → ℕ
@@ -67,6 +88,8 @@ pub record IsPrint (response : ExecutionResponse) (written : Written) : Type 0 w
   pub errors : written.errors ≡ length response.errors
 
 pub record IsResultOf {X : Type 0} (introspection : Bool) (type_of : X → List ℕ) (resolves : Resolving X) (root : X)
-    (schema : Schema) (document : ExecutableDocument) (operation : Operation) (variables : Members) (written : Written) : Type 0 where
+    (schema : Schema) (document : ExecutableDocument) (operation : Operation) (variables : Members) (before after : ℕ) (written : Written) : Type 0
+    where
   pub is : IsExecutionOf introspection type_of resolves root schema document operation variables written.bytes
   pub errors : written.errors ≡ length is.response.errors
+  pub looks : ExecutionLooks introspection type_of resolves root schema document operation variables is.root_type before after

@@ -11,7 +11,7 @@ use Rattle.gql_answer.specs.Responding.{AnsweredWithin}
 abbrev pub Answers : {X : Type 0} → (X → List ℕ) → Resolving X → X → Call → List ℕ → Type 0
 Answers type_of resolves root call bytes = Asks call (λ wanted. Answered type_of resolves root wanted bytes)
 
--- and no more looks were counted than the depth check takes
+-- and these looks were counted for it
 abbrev pub AnswersWithin : {X : Type 0} → (X → List ℕ) → Resolving X → X → Call → (before after : ℕ) → List ℕ → Type 0
 AnswersWithin type_of resolves root call before after bytes = Asks call (λ wanted. AnsweredWithin type_of resolves root wanted before after bytes)
 

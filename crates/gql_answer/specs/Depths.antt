@@ -2,9 +2,9 @@
 use Rattle.std.specs.Prelude.{◌≡◌, ◌<◌, ◌+◌, ℕ, Bool, true, if◌then◌else◌}
 use Rattle.gql_document_types.specs.declared.document.ExecutableDocument.{ExecutableDocument}
 use Rattle.gql_document_types.specs.declared.operation.Operation.{Operation}
-use Rattle.gql_exec_depth.specs.Check.{total, total_fragments}
 use Rattle.gql_exec_depth.specs.Expanded.{expanded_depth}
 use Rattle.gql_exec_depth.specs.View.{fragments_nested, nested}
+use Rattle.gql_exec_plan.specs.Room.{all_selections as all_selections_of}
 
 -- the greatest number of fields that lead on, on one chain of nested selections, where a spread stands for what its fragment selects
 abbrev pub depth_of : ExecutableDocument → Operation → ℕ
@@ -16,8 +16,7 @@ IsShallow introspection document operation = introspection ≡ true → depth_of
 
 -- every selection of the operation and of all fragments
 abbrev pub all_selections : ExecutableDocument → Operation → ℕ
-all_selections document operation =
-    total (nested document.fragments operation.selection_set.selections) + total_fragments (fragments_nested document.fragments)
+all_selections document operation = all_selections_of document.fragments operation.selection_set.selections
 
 -- the most looks of the check
 abbrev pub depth_looks : Bool → ExecutableDocument → Operation → ℕ

@@ -1,5 +1,5 @@
 -- What is answered to what is wanted. Want of memory alone is free.
-use Rattle.std.specs.Prelude.{◌≡◌, ◌≤◌, ◌+◌, ℕ, List, [], ◌∷◌, Result, Ok, Err}
+use Rattle.std.specs.Prelude.{◌≡◌, ℕ, List, [], ◌∷◌, Result, Ok, Err}
 use Rattle.jb_text.specs.declared.refused.Refused.{Refused}
 use Rattle.jb_text.specs.declared.refused.Refused.TheVariants.{Fault, Memory}
 use Rattle.gql_coerce.specs.Variables.{coerced_variables}
@@ -23,8 +23,7 @@ use Rattle.gql_answer.specs.declared.answer_error.RequestKind.TheVariants as kin
 use Rattle.gql_answer.specs.declared.refusal.Refusal.{Refusal}
 use Rattle.gql_answer.specs.declared.refusal.Refusal.TheVariants as refused
 use Rattle.gql_answer.specs.declared.response_bytes.Written.{Written}
-use Rattle.gql_answer.specs.Answered.{Answered, IsResultOf, errors_in}
-use Rattle.gql_answer.specs.Depths.{depth_looks}
+use Rattle.gql_answer.specs.Answered.{Answered, AnswerLooks, IsResultOf, errors_in}
 use Rattle.gql_answer.specs.Unanswered.{IsUnchosen, IsTooDeep, IsUncoerced}
 use Rattle.gql_answer.specs.Wanted.{Members, Wanted}
 
@@ -45,19 +44,19 @@ OrCause wanted Holds (Ok given) = Holds given
 OrCause wanted Holds (Err (Fault refusal)) = IsCause wanted refusal
 OrCause wanted Holds (Err Memory) = Unit {0}
 
--- the bytes are the response, the number is that of its errors, and no more looks were counted than the depth check takes
+-- the bytes are the response, the number is that of its errors, and these looks were counted for it
 pub record Responds {X : Type 0} (type_of : X → List ℕ) (resolves : Resolving X) (root : X) (wanted : Wanted)
     (before after : ℕ) (written : Written) : Type 0 where
   pub answered : Answered type_of resolves root wanted written.bytes
   pub errors : written.errors ≡ errors_in answered
-  pub looks : after ≤ before + depth_looks wanted.introspection answered.ready.meant.document answered.ready.operation
+  pub looks : AnswerLooks answered before after
 
 -- the variables of the operation are coerced, and it was executed with them
 pub record Performs {X : Type 0} (type_of : X → List ℕ) (resolves : Resolving X) (root : X) (wanted : Wanted) (schema : Schema)
-    (document : ExecutableDocument) (operation : Operation) (written : Written) : Type 0 where
+    (document : ExecutableDocument) (operation : Operation) (before after : ℕ) (written : Written) : Type 0 where
   pub variables : Members
   pub are_coerced : coerced_variables schema.types operation.variables wanted.variables ≡ Ok variables
-  pub result : IsResultOf wanted.introspection type_of resolves root schema document operation variables written
+  pub result : IsResultOf wanted.introspection type_of resolves root schema document operation variables before after written
 
 -- the response, or the cause of a refusal
 abbrev pub IsResponse : {X : Type 0} → (X → List ℕ) → Resolving X → X → Wanted → (before after : ℕ) → Result Written (Refused Refusal)
@@ -97,11 +96,11 @@ HasCauseOf wanted (error.Document list) = IsNoDocument wanted.schema wanted.quer
 HasCauseOf wanted (error.Request step told) = IsRefusedAt wanted step told
 HasCauseOf wanted error.Memory = Unit {0}
 
--- the bytes are the response, and no more looks were counted than the depth check takes
+-- the bytes are the response, and these looks were counted for it
 pub record AnsweredWithin {X : Type 0} (type_of : X → List ℕ) (resolves : Resolving X) (root : X) (wanted : Wanted) (before after : ℕ)
     (bytes : List ℕ) : Type 0 where
   pub answered : Answered type_of resolves root wanted bytes
-  pub looks : after ≤ before + depth_looks wanted.introspection answered.ready.meant.document answered.ready.operation
+  pub looks : AnswerLooks answered before after
 
 -- the response, or the cause of a refusal
 abbrev pub IsAnswer : {X : Type 0} → (X → List ℕ) → Resolving X → X → Wanted → (before after : ℕ) → Result (List ℕ) AnswerError → Type 0

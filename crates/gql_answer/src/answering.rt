@@ -1,6 +1,6 @@
 //! Answering: a schema, a query and a resolver in, a response out.
 
-ghost use Rattle.std.specs.Prelude.{◌≡◌, ◌≢◌, false, IfOk, IfErr, IsErrAnd};
+ghost use Rattle.std.specs.Prelude.{◌≡◌, ◌≢◌, IfOk, IfErr, IsErrAnd};
 ghost use Rattle.gql_answer.specs.declared.answer_error.AnswerError.{AnswerError as Refusal};
 ghost use Rattle.gql_answer.specs.declared.answer_error.AnswerError.TheVariants as refusal;
 ghost use Rattle.jb_read.specs.Spelling.{JsonText};
@@ -29,7 +29,9 @@ use std::sync::ledger::Ledger;
 /// `variables` is a JSON text. The operation is the one of the name, or the only one. Both texts may be nested at most 500
 /// deep. The paths of the response's errors are those of its data, their locations those of the query's text. With
 /// `introspection`, `__schema` and `__type` tell of the schema (section 4), and the operation's depth in its types is checked;
-/// without it they are failures. `steps` counts the looks of that check at selections; without it nothing is counted.
+/// without it they are failures. `steps` counts the looks at selections, of that check and of the execution: at least those of the
+/// operation's own set, and for the check and for each way of response keys and object types from the root to an object at most
+/// all of the operation and the fragments.
 ///
 /// # Errors
 ///
@@ -59,7 +61,8 @@ pub fn answer<O: ObjectValue, L: Ledger>(
     root: &O,
     steps: &mut Steps<L>,
 ) -> Result<Bytes, AnswerError>
-    // The depth check looks at each selection of the operation and of the fragments at most once.
+    // The depth check looks at each selection of the operation and of the fragments at most once, and the execution once for each
+    // way of response keys and object types to its objects.
     ensures answered { IfOk result (AnswersWithin O.type_of O.resolves (O.seen root.now)
         (call_of schema.now query.now operation_name.entry variables.now introspection) steps.old steps.new) }
 
@@ -72,7 +75,6 @@ pub fn answer<O: ObjectValue, L: Ledger>(
     // A valid request is answered, unless memory fails.
     ensures valid { IsValid (call_of schema.now query.now operation_name.entry variables.now introspection)
         → IfErr result (λ error. error ≡ refusal.Memory) }
-    ensures uncounted { introspection ≡ false → steps.new ≡ steps.old }
 {
     let call = Call {
         schema,
@@ -93,7 +95,6 @@ pub(crate) fn answer_call<O: ObjectValue, L: Ledger>(
 ) -> Result<Bytes, AnswerError>
     ensures answer { GivesAnswer O.type_of O.resolves (O.seen root.now) (call_by call.now) result }
     ensures answered { IfOk result (AnswersWithin O.type_of O.resolves (O.seen root.now) (call_by call.now) steps.old steps.new) }
-    ensures uncounted { call.now.introspection ≡ false → steps.new ≡ steps.old }
 {
     laws::each_text_has_one_answer();
     schema_laws::texts_have_one_schema();
@@ -110,7 +111,6 @@ fn answer_or_refuse<O: ObjectValue, L: Ledger>(
 ) -> Result<Bytes, AnswerError>
     ensures answered { IfOk result (AnswersWithin O.type_of O.resolves (O.seen root.now) (call_by call.now) steps.old steps.new) }
     ensures refused { IfErr result (HasCause (call_by call.now)) }
-    ensures uncounted { call.now.introspection ≡ false → steps.new ≡ steps.old }
 {
     let value = read_variables(alloc, call.variables)?;
     match value.as_object() {
@@ -148,7 +148,6 @@ fn answer_wanted<O: ObjectValue, L: Ledger>(
     steps: &mut Steps<L>,
 ) -> Result<Bytes, AnswerError>
     ensures answered { IsAnswer O.type_of O.resolves (O.seen root.now) (wanted_by wanted.now) steps.old steps.new result }
-    ensures uncounted { wanted.now.introspection ≡ false → steps.new ≡ steps.old }
 {
     match respond(alloc, wanted, root, steps) {
         Ok(written) => Ok(written.bytes),

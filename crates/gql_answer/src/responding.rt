@@ -1,6 +1,6 @@
 //! The response to what is wanted, step by step: what the texts mean, the operation, its depth, its variables, the execution.
 
-ghost use Rattle.std.specs.Prelude.{◌≡◌, false, Some, IfOk};
+ghost use Rattle.std.specs.Prelude.{◌≡◌, Some, IfOk};
 ghost use Rattle.gql_document_types.specs.ChosenOperation.{chosen, text_of};
 ghost use Rattle.gql_answer.specs.Meant.{AreMeant};
 ghost use Rattle.gql_answer.specs.Answered.{IsResultOf};
@@ -24,8 +24,8 @@ use jb_tree::{Memory, Refused};
 use std::alloc::{AllocError, Global};
 use std::sync::ledger::Ledger;
 
-/// The response to what is wanted, whose root is resolved by `root`. `steps` counts the looks of the depth check, which is made
-/// where introspection is on.
+/// The response to what is wanted, whose root is resolved by `root`. `steps` counts the looks at selections: those of the depth
+/// check, which is made where introspection is on, and those of the execution.
 ///
 /// # Errors
 ///
@@ -37,7 +37,6 @@ pub fn respond<O: ObjectValue, L: Ledger>(
     steps: &mut Steps<L>,
 ) -> Result<Written, Refused<Refusal>>
     ensures answered { IsResponse O.type_of O.resolves (O.seen root.now) (wanted_by wanted.now) steps.old steps.new result }
-    ensures uncounted { wanted.now.introspection ≡ false → steps.new ≡ steps.old }
 {
     match read_texts(alloc, wanted.schema, wanted.query) {
         Ok(texts) => respond_on(alloc, wanted, &texts, root, steps),
@@ -56,7 +55,6 @@ fn respond_on<O: ObjectValue, L: Ledger>(
 ) -> Result<Written, Refused<Refusal>>
     requires { AreMeant wanted.now.schema.now wanted.now.query.now texts.now.schema texts.now.document }
     ensures answered { IsResponse O.type_of O.resolves (O.seen root.now) (wanted_by wanted.now) steps.old steps.new result }
-    ensures uncounted { wanted.now.introspection ≡ false → steps.new ≡ steps.old }
 {
     match choose(alloc, wanted, texts) {
         Ok(operation) => respond_to(alloc, wanted, texts, operation, root, steps),
@@ -76,46 +74,50 @@ fn respond_to<O: ObjectValue, L: Ledger>(
     requires meant { AreMeant wanted.now.schema.now wanted.now.query.now texts.now.schema texts.now.document }
     requires chosen { chosen (text_of wanted.now.operation_name) texts.now.document.operations ≡ Some operation.now }
     ensures answered { IsResponse O.type_of O.resolves (O.seen root.now) (wanted_by wanted.now) steps.old steps.new result }
-    ensures uncounted { wanted.now.introspection ≡ false → steps.new ≡ steps.old }
 {
     match check_depth(alloc, wanted, texts, operation, steps) {
-        Ok(()) => perform(alloc, wanted, texts, operation, root),
+        Ok(()) => perform(alloc, wanted, texts, operation, root, steps),
         Err(refused) => Err(refused),
     }
 }
 
 /// The same where the operation is not too deep.
-fn perform<O: ObjectValue>(
+fn perform<O: ObjectValue, L: Ledger>(
     alloc: Global,
     wanted: &Wanted<'_>,
     texts: &Texts,
     operation: &Operation,
     root: &O,
+    steps: &mut Steps<L>,
 ) -> Result<Written, Refused<Refusal>>
     requires meant { AreMeant wanted.now.schema.now wanted.now.query.now texts.now.schema texts.now.document }
     requires chosen { chosen (text_of wanted.now.operation_name) texts.now.document.operations ≡ Some operation.now }
     requires shallow { IsShallow wanted.now.introspection texts.now.document operation.now }
     ensures { OrCause (wanted_by wanted.now)
-        (Performs O.type_of O.resolves (O.seen root.now) (wanted_by wanted.now) texts.now.schema texts.now.document operation.now) result }
+        (Performs O.type_of O.resolves (O.seen root.now) (wanted_by wanted.now) texts.now.schema texts.now.document operation.now steps.old steps.new) result }
 {
     match coerce(alloc, wanted, texts, operation) {
-        Ok(values) => Ok(execute(alloc, wanted, texts, operation, &values, root)?),
+        Ok(values) => Ok(execute(
+            alloc, wanted, texts, operation, &values, root, steps,
+        )?),
         Err(refused) => Err(refused),
     }
 }
 
 /// The response to an operation with these variables. `Err` only for want of memory.
-fn execute<O: ObjectValue>(
+fn execute<O: ObjectValue, L: Ledger>(
     alloc: Global,
     wanted: &Wanted<'_>,
     texts: &Texts,
     operation: &Operation,
     values: &Valid<JsonMap>,
     root: &O,
+    steps: &mut Steps<L>,
 ) -> Result<Written, Memory>
     requires meant { AreMeant wanted.now.schema.now wanted.now.query.now texts.now.schema texts.now.document }
     requires chosen { chosen (text_of wanted.now.operation_name) texts.now.document.operations ≡ Some operation.now }
-    ensures { IfOk result (IsResultOf wanted.now.introspection O.type_of O.resolves (O.seen root.now) texts.now.schema texts.now.document operation.now values.now) }
+    ensures { IfOk result (IsResultOf wanted.now.introspection O.type_of O.resolves (O.seen root.now) texts.now.schema texts.now.document operation.now values.now
+        steps.old steps.new) }
 {
     document_laws::valid_documents_run();
     schema_laws::roots_are_object_types();
@@ -123,7 +125,7 @@ fn execute<O: ObjectValue>(
         .operation(operation)
         .coerced_variable_values(values)
         .enable_schema_introspection(wanted.introspection);
-    match execution.execute_sync(alloc, root) {
+    match execution.execute_counted(alloc, root, steps) {
         Ok(response) => write_response(alloc, &response),
         Err(Refused::Fault(_)) => unreachable!(),
         Err(Refused::Memory) => Err(AllocError),

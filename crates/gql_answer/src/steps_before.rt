@@ -1,6 +1,6 @@
 //! The steps between the texts and the execution (GraphQL October 2021, section 6.1).
 
-ghost use Rattle.std.specs.Prelude.{◌≡◌, ◌≤◌, ◌+◌, true, false, Ok, Some};
+ghost use Rattle.std.specs.Prelude.{◌≡◌, ◌≤◌, ◌+◌, true, Ok, Some};
 ghost use Rattle.gql_coerce.specs.Variables.{coerced_variables};
 ghost use Rattle.gql_document_types.specs.ChosenOperation.{chosen, text_of};
 ghost use Rattle.gql_answer.specs.Meant.{AreMeant};
@@ -55,7 +55,7 @@ pub(crate) fn check_depth<L: Ledger>(
     requires chosen { chosen (text_of wanted.now.operation_name) texts.now.document.operations ≡ Some operation.now }
     ensures shallow { OrCause (wanted_by wanted.now) (λ _. IsShallow wanted.now.introspection texts.now.document operation.now) result }
     ensures looks { steps.new ≤ steps.old + depth_looks wanted.now.introspection texts.now.document operation.now }
-    ensures uncounted { wanted.now.introspection ≡ false → steps.new ≡ steps.old }
+    ensures rises { steps.old ≤ steps.new }
 {
     if wanted.introspection {
         check_depth_on(alloc, wanted, texts, operation, steps)
@@ -77,6 +77,7 @@ fn check_depth_on<L: Ledger>(
     requires on { wanted.now.introspection ≡ true }
     ensures shallow { OrCause (wanted_by wanted.now) (λ _. IsShallow wanted.now.introspection texts.now.document operation.now) result }
     ensures looks { steps.new ≤ steps.old + all_selections texts.now.document operation.now }
+    ensures rises { steps.old ≤ steps.new }
 {
     document_laws::valid_documents_run();
     let sources = &texts.document.as_ref().sources;

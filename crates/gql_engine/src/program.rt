@@ -32,7 +32,7 @@ const USAGE: &str = "usage: gql_program answer | check | selftest N\n";
 /// `source` is read to its end, then all is computed, then it is written. `answer` writes the response to the request that was
 /// read; `check` writes `ok`, or the reports of what is wrong with the request's texts; `selftest` reads nothing, answers a
 /// request of its own, and writes how long the response is. Refusals, reports and the usage line go to `sink` too. `steps`
-/// counts the looks of the depth check, which is made where the request asks for introspection.
+/// counts the looks at selections, of the depth check and of the execution.
 pub fn run<S: Source, K: Sink, L: Ledger>(
     alloc: Global,
     words: &[String],

@@ -43,6 +43,7 @@ pub fn check_max_depth<L: Ledger>(
     ensures refused { IfErr result (IsTooDeep document.now.fragments operation.now.selection_set.selections) }
     ensures looks { steps.new ≤ steps.old +
         (total (nested document.now.fragments operation.now.selection_set.selections) + total_fragments (fragments_nested document.now.fragments)) }
+    ensures rises { steps.old ≤ steps.new }
 {
     let fragments = &document.as_ref().fragments;
     match found_deep(alloc, fragments, &operation.selection_set.selections, steps)? {
@@ -67,6 +68,7 @@ fn found_deep<L: Ledger>(
         (expanded_depth (fragments_nested fragments.now) (nested fragments.now selections.now) < 3)
         (IsFoundDeep fragments.now selections.now)) }
     ensures looks { steps.new ≤ steps.old + (total (nested fragments.now selections.now) + total_fragments (fragments_nested fragments.now)) }
+    ensures rises { steps.old ≤ steps.new }
 {
     laws::acyclic_graphs_have_ranks();
     let mut memo = vec![in alloc; None; fragments.len()]?;

@@ -12,5 +12,5 @@ pub returns-in-Err : goal.returns-in-Err
 returns-in-Err g c =
     same_refusal (λ (values : Members). coerced_variables c.args.texts.now.schema.types c.args.operation.now.variables c.args.wanted.now.variables.now ≡ Ok values)
     (Performs g.O.ObjectValue.type_of g.O.ObjectValue.resolves (g.O.ObjectValue.seen c.args.root.now) (wanted_by c.args.wanted.now) c.args.texts.now.schema
-    c.args.texts.now.document c.args.operation.now)
+    c.args.texts.now.document c.args.operation.now c.args.steps.now c.args.steps.now)
     (wanted_by c.args.wanted.now) c.in-Err.refused c.in-Err.ensures

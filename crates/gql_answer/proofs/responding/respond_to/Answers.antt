@@ -6,9 +6,9 @@ use Rattle.gql_answer.proofs.responding.respond_to.Goals as goal
 
 pub returns-in-Ok-clause-answered : goal.returns-in-Ok-clause-answered
 returns-in-Ok-clause-answered g c =
-    responds g.O.ObjectValue.type_of g.O.ObjectValue.resolves (g.O.ObjectValue.seen c.args.root.now) (wanted_by c.args.wanted.now) _ _
+    responds g.O.ObjectValue.type_of g.O.ObjectValue.resolves (g.O.ObjectValue.seen c.args.root.now) (wanted_by c.args.wanted.now) c.args.steps.now c.check_depth.new.steps c.perform.new.steps
     (record { schema = c.args.texts.now.schema; document = c.args.texts.now.document; are = c.requires.meant }) c.args.operation.now c.requires.chosen
-    c.in-Ok.ensures.shallow c.in-Ok.ensures.looks c.perform.result c.perform.ensures
+    c.in-Ok.ensures.shallow c.check_depth.ensures.rises c.in-Ok.ensures.looks c.perform.result c.perform.ensures
 
 pub returns-in-Err-clause-answered : goal.returns-in-Err-clause-answered
 returns-in-Err-clause-answered g c =

@@ -55,3 +55,9 @@ returns-clause-looks g c =
     let start = begun all c.as_mut_slice.result.now c.len.result (c.as_mut_slice.ensures.value ∙ c.in_ok-memo.ensures.items_if_clones_equal (elim [ None ↦ λ e. refl | Some x ↦ λ e. absurd e ])) c.len.ensures.value in
     let found = refused (fragments_nested all) (nested all c.args.selections.now) c.as_mut_slice.result.now c.args.steps.now c.in-Err.place c.selection_set.new.steps start c.in-Err.ensures in
     omega (arith, found.looks, refuses-cost found.refuses)
+
+pub returns-in-Ok-clause-rises : goal.returns-in-Ok-clause-rises
+returns-in-Ok-clause-rises g c = omega (arith, c.in-Ok.ensures.looks)
+
+pub returns-clause-rises : goal.returns-clause-rises
+returns-clause-rises g c = omega (arith, c.in-Err.ensures.looks)
