@@ -2,5 +2,6 @@ mod Found
 mod Tokens
 mod Readings
 mod Forests
+pub mod Cut
 pub mod Types
 pub mod Known

@@ -75,10 +75,9 @@ pub(crate) fn span(file_id: FileId, place: Place) -> Result<SourceSpan, Memory>
 pub(crate) fn name_at(source: &Source<'_>, place: Place) -> Result<Name, Memory>
     ensures { IfOk result (λ made. made ≡ spec.name_at source.now.text.now source.now.file_id place) }
 {
-    let location = span(source.file_id, place)?;
-    let found = piece(source.text, place.0, place.1)?;
-    match Name::new(source.alloc, found) {
-        Ok(name) => Ok(name.with_location(location)),
-        Err(_) => Err(AllocError),
+    let found = source.name_in(place.0..place.1)?;
+    match found {
+        Some(name) => Ok(name),
+        None => Err(AllocError),
     }
 }

@@ -1,6 +1,6 @@
 //! The built-in definitions, made of their rows.
 
-ghost use Rattle.std.specs.Prelude.{◌≡◌, IfOk};
+ghost use Rattle.std.specs.Prelude.{◌≡◌, [], ◌∷◌, IfOk};
 ghost use Rattle.gql_schema_built_in.specs.BuiltInSchema as spec;
 ghost use Rattle.gql_schema_built_in.specs.Rows as rows;
 
@@ -12,7 +12,7 @@ use gql_ast_base::{Source, both};
 use gql_cst_grammar::laws;
 use gql_schema_build::BuiltIn;
 use gql_source::{FileId, SourceFile, SourceMap};
-use jb_text::Memory;
+use jb_text::{ByteString, Memory};
 use std::alloc::Global;
 
 /// The built-in definitions, and the file that their places are in.
@@ -24,33 +24,31 @@ pub fn built_in(alloc: Global) -> Result<(BuiltIn, SourceMap), Memory>
     ensures sources { IfOk result (λ made. made.1 ≡ spec.built_in_sources) }
 {
     laws::factored_is_declared();
-    let (built_in, sources) = both(
-        of_rows(alloc, BUILT_IN_TEXT, DIRECTIVES, TYPES),
-        sources(alloc),
-    )?;
+    let file = SourceFile::new(alloc, BUILT_IN_PATH, BUILT_IN_TEXT)?;
+    let built_in = of_rows(alloc, file.shared_text(), DIRECTIVES, TYPES)?;
+    let sources = only(alloc, file)?;
     Ok((built_in, sources))
 }
 
-/// What the rows stand for in the text.
+/// What the rows stand for in the text, from which names are cut.
 fn of_rows(
     alloc: Global,
-    text: &str,
+    text: &ByteString,
     directives: &[DirectiveRow],
     types: &[DefinitionRow],
 ) -> Result<BuiltIn, Memory>
     ensures { IfOk result (λ made. made ≡ rows.built_in_of text.now spec.built_in_file directives.now types.now) }
 {
-    let source = Source::new(alloc, text, FileId::BUILT_IN);
+    let source = Source::sharing(alloc, text, FileId::BUILT_IN);
     let (directives, types) = both(all_of(&source, directives), all_of(&source, types))?;
     Ok(BuiltIn { directives, types })
 }
 
 /// The file of the built-in definitions, as the only one.
-fn sources(alloc: Global) -> Result<SourceMap, Memory>
-    ensures { IfOk result (λ made. made ≡ spec.built_in_sources) }
+fn only(alloc: Global, file: SourceFile) -> Result<SourceMap, Memory>
+    ensures { IfOk result (λ made. made ≡ (spec.built_in_file, file) ∷ []) }
 {
     let mut sources = SourceMap::new(alloc);
-    let file = SourceFile::new(alloc, BUILT_IN_PATH, BUILT_IN_TEXT)?;
     sources.insert(FileId::BUILT_IN, file)?;
     Ok(sources)
 }
