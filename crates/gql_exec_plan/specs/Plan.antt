@@ -1,6 +1,6 @@
 -- Plans: groups that were collected once, and stand for those that are collected for each object (GraphQL October 2021,
 -- section 6.3.2).
-use Rattle.std.specs.Prelude.{◌≡◌, ℕ, zero, suc, List, map, Some, Result, slice_get}
+use Rattle.std.specs.Prelude.{◌≡◌, ℕ, zero, suc, List, map, Some, IfSome, Result, slice_get}
 use Rattle.std.specs.List.{AllByRecursion}
 use Rattle.std.specs.Option.{unwrap_or}
 use Rattle.gql_ast_definitions.specs.declared.field_definition.FieldDefinition.{FieldDefinition}
@@ -98,9 +98,10 @@ module _ (ground : Ground) where
   arguments_by definition f = told_as argument_fault (coerced_arguments ground.schema.types ground.variables definition.arguments f.arguments)
 
   -- what objects of a type ask by a group: its first field as it is defined on the type, with the arguments of that definition
+  -- where they are kept
   pub record IsPlanned (U : ObjectType) (field : PlannedField) : Type 0 where
     pub definition : field.definition.now ≡ definition_on U field.group.first.now
-    pub arguments : field.arguments ≡ arguments_by field.definition.now field.group.first.now
+    pub arguments : IfSome field.arguments (λ arguments. arguments ≡ arguments_by field.definition.now field.group.first.now)
 
   -- the groups of these sets on an object type, and what objects of the type ask by them
   pub record AreCollected (U : ObjectType) (sets : List (List Selection)) (parts : List Part) : Type 0 where

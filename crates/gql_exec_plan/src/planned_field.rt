@@ -1,6 +1,6 @@
 //! What the objects of one type ask by a group: a definition and arguments, which are the same for each of them.
 
-ghost use Rattle.std.specs.Prelude.{◌≡◌, IfOk};
+ghost use Rattle.std.specs.Prelude.{◌≡◌, IfOk, IfSome};
 ghost use Rattle.gql_exec_plan.specs.Plan as spec;
 
 use crate::planner::Planner;
@@ -19,8 +19,9 @@ pub struct PlannedField<'d> {
     pub group: Group<'d>,
     /// The definition of the field on the type.
     pub definition: &'d FieldDefinition,
-    /// The coerced arguments of the field, or the fault of the first that fails.
-    pub arguments: Result<JsonMap, ArgumentFault>,
+    /// The coerced arguments of the field, or the fault of the first that fails. Where they are not kept, they are coerced for
+    /// each object.
+    pub arguments: Option<Result<JsonMap, ArgumentFault>>,
 }
 
 impl<'d> Planner<'d> {
@@ -34,7 +35,7 @@ impl<'d> Planner<'d> {
         ensures planned { IfOk result (λ field. spec.IsPlanned (spec.ground_of self.now) object_type.now field) }
     {
         let definition = self.definition_on(object_type, group.first);
-        let arguments = self.arguments(definition, group.first)?;
+        let arguments = self.kept_arguments(definition, group.first)?;
         Ok(PlannedField {
             group,
             definition,
@@ -54,9 +55,25 @@ impl<'d> Planner<'d> {
         }
     }
 
+    /// The arguments of a field with this definition, where they are kept. `Err` only for want of memory.
+    fn kept_arguments(
+        &self,
+        definition: &FieldDefinition,
+        field: &Field,
+    ) -> Result<Option<Result<JsonMap, ArgumentFault>>, Memory>
+        ensures { IfOk result (λ kept. IfSome kept (λ arguments.
+            arguments ≡ spec.arguments_by (spec.ground_of self.now) definition.now field.now)) }
+    {
+        if self.keeps_arguments {
+            Ok(Some(self.arguments(definition, field)?))
+        } else {
+            Ok(None)
+        }
+    }
+
     /// The arguments of a field with this definition (GraphQL October 2021, section 6.4.1), or the fault of the first that
     /// fails. `Err` only for want of memory.
-    fn arguments(
+    pub fn arguments(
         &self,
         definition: &FieldDefinition,
         field: &Field,

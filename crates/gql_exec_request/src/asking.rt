@@ -3,7 +3,7 @@
 ghost use Rattle.std.specs.Prelude.{◌≡◌, IfOk};
 ghost use Rattle.gql_exec_resolve.specs.Meaning.{Answers};
 ghost use Rattle.gql_exec_places.specs.Resolved.{answered, Meaning};
-ghost use Rattle.gql_exec_plan.specs.Plan.{IsPlanned};
+ghost use Rattle.gql_exec_plan.specs.Plan.{IsPlanned, arguments_by, definition_on};
 ghost use Rattle.gql_exec_world.specs.Asks as spec;
 ghost use Rattle.gql_exec_request.specs.Asking.{outcome_of};
 ghost use Rattle.gql_exec_request.specs.Executing as executing;
@@ -45,7 +45,31 @@ impl<'s> Executing<'s> {
             outcome_of O.seen asked ≡ spec.asks r object_type.now (O.seen object.now) field.now.group.first.now) }
     {
         match &field.arguments {
-            Ok(arguments) => self.resolve(object_type, object, &field.group, arguments),
+            Some(arguments) => self.ask_with(object_type, object, &field.group, arguments),
+            None => {
+                let planner = self.planner();
+                let arguments = planner.arguments(field.definition, field.group.first)?;
+                self.ask_with(object_type, object, &field.group, &arguments)
+            }
+        }
+    }
+
+    /// The same of the first field of a group, with what has come of coercing its arguments.
+    fn ask_with<O: ObjectValue>(
+        &self,
+        object_type: &ObjectType,
+        object: &O,
+        group: &Group<'_>,
+        arguments: &Result<JsonMap, ArgumentFault>,
+    ) -> Result<Asked<O>, Memory>
+        requires { arguments.now ≡ arguments_by (ground_in self.now)
+            (definition_on (ground_in self.now) object_type.now group.now.first.now) group.now.first.now }
+        ensures { IfOk result (λ asked.
+            let r = request_of self.now O.type_of O.resolves in
+            outcome_of O.seen asked ≡ spec.asks r object_type.now (O.seen object.now) group.now.first.now) }
+    {
+        match arguments {
+            Ok(arguments) => self.resolve(object_type, object, group, arguments),
             Err(fault) => {
                 let fault = copied(self.alloc, fault)?;
                 Ok(Asked::Refused(fault))

@@ -10,6 +10,7 @@ mod completed;
 mod executing;
 mod execution;
 mod faults;
+mod kept_arguments;
 mod partial;
 mod path;
 mod place;

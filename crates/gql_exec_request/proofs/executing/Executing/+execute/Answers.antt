@@ -442,13 +442,13 @@ execute_parts-loop-number-preserved g t c =
     let have = part-with (ground_in c.args.self.now) c.loop-number.parts i part nodes c.loop-number.invariant.planned c.in_ok-value.ensures.planned in
     let grown = grown-part c.args.self.now c.args.steps.now c.loop-number.steps c.execute_field.new.steps (request_of c.args.self.now g.O.ObjectValue.type_of g.O.ObjectValue.resolves) c.args.object_type.now (g.O.ObjectValue.seen c.args.object.now) groups i (views (drop (i + 1) groups))
     c.args.parts.now c.loop-number.parts part c.execute_field.new.nodes at.first is c.loop-number.invariant.grows c.in_ok-value.ensures.grows in
-    elim c.match-branch-2.branch [
+    elim c.match-branch-3.branch [
       | execute_parts-in-Value+in_ok-key-in-Value+in_ok-insert_new-in-Value b ↦
           record {
             same = ap fields_in b.parts-is ∙ same;
             planned = subst (HaveNodes (ground_in c.args.self.now)) (sym b.parts-is) have;
             grows = subst (λ ps. PartsGrow c.args.self.now c.args.steps.now c.execute_field.new.steps c.args.parts.now ps (OpensBy w (views groups) U x)) (sym b.parts-is) grown;
-            so_far = executing-more w U x outer c.loop-number.members c.match-branch-2.members c.loop-number.errors c.args.errors.now c.execute_field.new.errors (views (drop i groups)) (views groups)
+            so_far = executing-more w U x outer c.loop-number.members c.match-branch-3.members c.loop-number.errors c.args.errors.now c.execute_field.new.errors (views (drop i groups)) (views groups)
                 (views (drop (i + 1) groups)) group b.in_ok-key-in-Value.key b.in-Value.value (made_of c.in_ok-value.field-0) (ap made_of b.in-Value.is) at.first
                 (b.in_ok-key-in-Value.ensures ∙ b.text.ensures ∙ ap (λ (n : Named). n.text) b.key.ensures ∙ changed-key part nodes) (b.members-is ∙ b.in_ok-insert_new-in-Value.ensures.pairs) c.in_ok-value.ensures.made c.loop-number.invariant.so_far;
           }
