@@ -100,11 +100,19 @@ def many_arguments(count):
 
 
 def many_alike(count):
-    """One field with arguments, which are given in two orders, so often, and as often one with sets below it."""
+    """One field with arguments, which are given in two orders, so often, and another with sets below it."""
     given = ["a:1 b:{c:2 d:[3]}", "b:{d:[3] c:2} a:1"]
-    one = " ".join(f"f({it}) q({it}){{q({it}){{f({it})}}}}" for it in given)
+    fields_alike = " ".join(f"f({it})" for it in given) + " "
+    nested = " ".join(f"q({it}){{q({it}){{f({it})}}}}" for it in given) + " "
     schema = "input I{c:Int d:[Int]}type Query{f(a:Int b:I):Int q(a:Int b:I):Query}"
-    return request(schema, "{" + one * (count // 2) + "}", data={"f": 1, "q": {"q": {"f": 1}}})
+    query = "{" + fields_alike * (count // 2) + nested * (count // 8) + "}"
+    return request(schema, query, data={"f": 1, "q": {"q": {"f": 1}}})
+
+
+def many_different(count):
+    """One field so often, each time with another set below it."""
+    query = "{" + " ".join(f"q{{x{number}:f}}" for number in range(count)) + "}"
+    return request("type Query{f:Int q:Query}", query, data={"q": {"f": 1}})
 
 
 def many_types(count):
@@ -150,6 +158,7 @@ def large(count):
     yield "variables", many_variables(count), [ANSWERED]
     yield "arguments", many_arguments(count // 10), [ANSWERED]
     yield "alike", many_alike(count // 10), [ANSWERED]
+    yield "different", many_different(count // 10), [ANSWERED]
     yield "types", many_types(count), [ANSWERED]
 
 
