@@ -97,9 +97,7 @@ fn perform<O: ObjectValue, L: Ledger>(
         (Performs O.type_of O.resolves (O.seen root.now) (wanted_by wanted.now) texts.now.schema texts.now.document operation.now steps.old steps.new) result }
 {
     match coerce(alloc, wanted, texts, operation) {
-        Ok(values) => Ok(execute(
-            alloc, wanted, texts, operation, &values, root, steps,
-        )?),
+        Ok(values) => Ok(execute(alloc, wanted, texts, operation, &values, root, steps)?),
         Err(refused) => Err(refused),
     }
 }

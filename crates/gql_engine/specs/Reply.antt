@@ -1,6 +1,6 @@
 -- What a request is answered with. The relations hold between the bytes of the request and the text that is written, or what there is
 -- before it is written.
-use Rattle.std.specs.Prelude.{◌≡◌, ◌≤◌, ◌+◌, ℕ, List, [], ◌∷◌, unwrap_or}
+use Rattle.std.specs.Prelude.{◌≡◌, ℕ, List, [], ◌∷◌, unwrap_or}
 use Rattle.jb_tree.specs.declared.value.Value.{Value}
 use Rattle.jb_print.specs.Compact.{compact}
 use Rattle.jb_read.specs.Spelling.{JsonText}
