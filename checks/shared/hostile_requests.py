@@ -92,6 +92,12 @@ def many_variables(count):
     return request("type Query{f(a:Int):Int}", query, variables={name: 1 for name in names}, data={"f": 1})
 
 
+def much_given(count):
+    """A list of so many texts in a variable, and a field that is given it under a tenth as many aliases."""
+    query = "query($l:[String]){" + " ".join(f"a{number}:f(l:$l)" for number in range(count // 10)) + "}"
+    return request("type Query{f(l:[String]):Int}", query, variables={"l": ["x"] * count}, data={"f": 1})
+
+
 def many_arguments(count):
     """A field of so many arguments, all given."""
     defined = " ".join(f"a{number}:Int" for number in range(count))
@@ -157,6 +163,7 @@ def large(count):
     yield "errors", many_errors(count), [ANSWERED]
     yield "variables", many_variables(count), [ANSWERED]
     yield "arguments", many_arguments(count // 10), [ANSWERED]
+    yield "given", much_given(count // 10), [ANSWERED]
     yield "alike", many_alike(count // 10), [ANSWERED]
     yield "different", many_different(count // 10), [ANSWERED]
     yield "types", many_types(count), [ANSWERED]
