@@ -2,6 +2,9 @@ use Rattle.gql_answer.specs.Wanted.{wanted_by}
 use Rattle.gql_answer.proofs.Responses.{answer_told}
 use Rattle.gql_answer.proofs.answering.answer_wanted.Goals as goal
 
-pub returns-in-Ok-clause-answered : goal.returns-in-Ok-clause-answered
-returns-in-Ok-clause-answered g c =
-    answer_told g.O.ObjectValue.type_of g.O.ObjectValue.resolves (g.O.ObjectValue.seen c.args.root.now) (wanted_by c.args.wanted.now) _ _ c.in-Ok.written c.in-Ok.ensures.answered
+pub returns-in-Ok : goal.returns-in-Ok
+returns-in-Ok g c =
+    record {
+      answered =
+          answer_told g.O.ObjectValue.type_of g.O.ObjectValue.resolves (g.O.ObjectValue.seen c.args.root.now) (wanted_by c.args.wanted.now) _ _ c.in-Ok.written c.in-Ok.ensures.answered;
+    }

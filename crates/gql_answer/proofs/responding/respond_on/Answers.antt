@@ -7,8 +7,11 @@ use Rattle.gql_answer.specs.Wanted.{wanted_by}
 use Rattle.gql_answer.proofs.Responses.{same_refusal}
 use Rattle.gql_answer.proofs.responding.respond_on.Goals as goal
 
-pub returns-in-Err-clause-answered : goal.returns-in-Err-clause-answered
-returns-in-Err-clause-answered g c =
-    same_refusal (λ (operation : Bor Operation). chosen (text_of c.args.wanted.now.operation_name) c.args.texts.now.document.operations ≡ Some operation.now)
-    (Responds g.O.ObjectValue.type_of g.O.ObjectValue.resolves (g.O.ObjectValue.seen c.args.root.now) (wanted_by c.args.wanted.now) c.args.steps.now c.args.steps.now)
-    (wanted_by c.args.wanted.now) c.in-Err.refused c.in-Err.ensures
+pub returns-in-Err : goal.returns-in-Err
+returns-in-Err g c =
+    record {
+      answered =
+          same_refusal (λ (operation : Bor Operation). chosen (text_of c.args.wanted.now.operation_name) c.args.texts.now.document.operations ≡ Some operation.now)
+          (Responds g.O.ObjectValue.type_of g.O.ObjectValue.resolves (g.O.ObjectValue.seen c.args.root.now) (wanted_by c.args.wanted.now) c.args.steps.now c.args.steps.now)
+          (wanted_by c.args.wanted.now) c.in-Err.refused c.in-Err.ensures;
+    }

@@ -4,14 +4,20 @@ use Rattle.gql_answer.specs.Wanted.{wanted_by}
 use Rattle.gql_answer.proofs.Responses.{responds, same_refusal}
 use Rattle.gql_answer.proofs.responding.respond_to.Goals as goal
 
-pub returns-in-Ok-clause-answered : goal.returns-in-Ok-clause-answered
-returns-in-Ok-clause-answered g c =
-    responds g.O.ObjectValue.type_of g.O.ObjectValue.resolves (g.O.ObjectValue.seen c.args.root.now) (wanted_by c.args.wanted.now) c.args.steps.now c.check_depth.new.steps c.perform.new.steps
-    (record { schema = c.args.texts.now.schema; document = c.args.texts.now.document; are = c.requires.meant }) c.args.operation.now c.requires.chosen
-    c.in-Ok.ensures.shallow c.check_depth.ensures.rises c.in-Ok.ensures.looks c.perform.result c.perform.ensures
+pub returns-in-Ok : goal.returns-in-Ok
+returns-in-Ok g c =
+    record {
+      answered =
+          responds g.O.ObjectValue.type_of g.O.ObjectValue.resolves (g.O.ObjectValue.seen c.args.root.now) (wanted_by c.args.wanted.now) c.args.steps.now c.check_depth.new.steps c.perform.new.steps
+          (record { schema = c.args.texts.now.schema; document = c.args.texts.now.document; are = c.requires.meant }) c.args.operation.now c.requires.chosen
+          c.in-Ok.ensures.shallow c.check_depth.ensures.rises c.in-Ok.ensures.looks c.perform.result c.perform.ensures;
+    }
 
-pub returns-in-Err-clause-answered : goal.returns-in-Err-clause-answered
-returns-in-Err-clause-answered g c =
-    same_refusal (λ (u : Unit {0}). IsShallow c.args.wanted.now.introspection c.args.texts.now.document c.args.operation.now)
-    (Responds g.O.ObjectValue.type_of g.O.ObjectValue.resolves (g.O.ObjectValue.seen c.args.root.now) (wanted_by c.args.wanted.now) c.args.steps.now c.check_depth.new.steps)
-    (wanted_by c.args.wanted.now) c.in-Err.refused c.in-Err.ensures.shallow
+pub returns-in-Err : goal.returns-in-Err
+returns-in-Err g c =
+    record {
+      answered =
+          same_refusal (λ (u : Unit {0}). IsShallow c.args.wanted.now.introspection c.args.texts.now.document c.args.operation.now)
+          (Responds g.O.ObjectValue.type_of g.O.ObjectValue.resolves (g.O.ObjectValue.seen c.args.root.now) (wanted_by c.args.wanted.now) c.args.steps.now c.check_depth.new.steps)
+          (wanted_by c.args.wanted.now) c.in-Err.refused c.in-Err.ensures.shallow;
+    }
