@@ -1,6 +1,6 @@
 //! The data: a library as a program holds it.
 
-use jb_text::{Listed, Memory, Text};
+use gql_engine::{Listed, Memory, Text};
 use std::alloc::Global;
 
 /// A library, with the authors whose books it has.
