@@ -1,18 +1,16 @@
 -- Where each field agrees with the one that its family is called after, and none meets one of another family, no pair breaks the rule.
 use Rattle.std.proofs.Common.{◌≡◌, ◌⊎◌, inl, inr, ℕ, zero, suc, ◌<◌, ◌≤◌, ◌+◌, Bool, true, false, not, cond, ◌&&◌, ◌||◌, ◌==◌, Option, Some, None, List, [], ◌∷◌, ◌++◌, length, refl, sym, ap, ◌∙◌, subst, arith}
 use Rattle.std.specs.List.{Contains, slice_get}
-use Rattle.std.specs.Option.{option_map_or, option_and_then, option_map, unwrap_or}
-use Rattle.std.specs.Prelude.{slice_set}
+use Rattle.std.specs.Option.{option_map_or, option_and_then, option_map}
 use Rattle.std.specs.Str.{bytes_eq}
-use Rattle.std.proofs.lemmas.Bool.{eqb-true, eq-eqb}
-use Rattle.std.proofs.lemmas.List.Elements.{Contains-append_left, Contains-append_right, Contains-append_cases}
+use Rattle.std.proofs.lemmas.Bool.{eqb-true}
+use Rattle.std.proofs.lemmas.List.Elements.{Contains-append_right, Contains-append_cases}
 use Rattle.std.proofs.lemmas.Option.{slice_get_within, slice_get-map}
-use Rattle.gql_ast_values.specs.declared.directive.Argument.{Argument}
 use Rattle.gql_rules_base.specs.TypeShape.{named_type}
 use Rattle.gql_rules_graph.proofs.Flooded.{none_contained, same_or_not}
 use Rattle.gql_rules_graph.specs.Graph.{Graph}
 use Rattle.gql_rules_pairs.specs.Explored.{class_of, IsMet, same, other, IsExplored}
-use Rattle.gql_rules_pairs.specs.Pairs.{Sets, IsField, IsSet, of_operation, of_fragment, of_field, AreAlike, IsCompared, in_set, below as under}
+use Rattle.gql_rules_pairs.specs.Pairs.{Sets, IsField, IsSet, of_operation, of_fragment, of_field, IsCompared, in_set, below as under}
 use Rattle.gql_rules_pairs.specs.declared.pair.Pair.{Pair}
 use Rattle.gql_schema_types.specs.declared.types.ExtendedType.{ExtendedType}
 use Rattle.gql_rules_merging.proofs.Pairing.{got_within}
@@ -20,7 +18,7 @@ use Rattle.gql_rules_merging.proofs.SameArguments.{arguments_on}
 use Rattle.gql_rules_merging.proofs.Truths.{both_true, either_true, one_text, text_refl, one_levels, levels_refl, one_got}
 use Rattle.gql_rules_merging.specs.ConflictingFieldArgument.{same_arguments}
 use Rattle.gql_rules_merging.specs.ConflictingFieldType.{levels, same_levels, same_named, is_composite_name, types_conflict}
-use Rattle.gql_rules_merging.specs.Families.{agree, agrees_with, is_agreed, is_agreed_at, AreAgreed, row_of, AreSelected, IsGathered, sets_over}
+use Rattle.gql_rules_merging.specs.Families.{agree, agrees_with, is_agreed, is_agreed_at, AreAgreed, row_of, IsGathered, sets_over}
 use Rattle.gql_rules_merging.specs.FieldSelectionMerging.{below, below_fields, is_broken, are_apart, differ, items, sets_of}
 use Rattle.gql_rules_merging.specs.Numbering.{Selected, Numbered}
 use Rattle.gql_rules_merging.specs.ResponseKeys.{key_number, key_numbers}

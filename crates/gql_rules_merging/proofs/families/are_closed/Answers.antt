@@ -1,4 +1,4 @@
-use Rattle.std.proofs.Common.{◌<◌, length, sym, subst}
+use Rattle.std.proofs.Common.{◌<◌, sym, subst}
 use Rattle.gql_rules_pairs.specs.Explored.{class_of}
 use Rattle.gql_rules_merging.proofs.Agreement.{families_within, none_break}
 use Rattle.gql_rules_merging.proofs.FamilySets.{fields_length}

@@ -1,4 +1,4 @@
-use Rattle.std.proofs.Common.{◌≡◌, ◌+◌, ◌<◌, length, sym, ap, ◌∙◌, subst, arith}
+use Rattle.std.proofs.Common.{◌≡◌, ◌+◌, length, sym, ap, ◌∙◌, subst, arith}
 use Rattle.gql_rules_pairs.specs.Explored.{class_of}
 use Rattle.gql_rules_merging.proofs.FamilySets.{AreSelectedBelow, fields_length, selected_all, selected_on, with_length}
 use Rattle.gql_rules_merging.specs.Families.{with_items}

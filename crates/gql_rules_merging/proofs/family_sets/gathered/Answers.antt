@@ -1,4 +1,4 @@
-use Rattle.std.proofs.Common.{◌++◌, sym, ap, ◌∙◌, subst}
+use Rattle.std.proofs.Common.{◌++◌, ap, ◌∙◌, subst}
 use Rattle.gql_rules_merging.proofs.FamilySets.{all_gathered}
 use Rattle.gql_rules_merging.specs.Families.{AreSelected}
 use Rattle.gql_rules_merging.specs.Gathering.{fields_of, numbered_of}
