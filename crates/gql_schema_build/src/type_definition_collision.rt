@@ -9,7 +9,7 @@ use gql_schema_merge::TypeDefinition;
 use gql_schema_parts::list_name;
 use gql_schema_types::Named;
 use jb_map::Pairs;
-use jb_text::{ByteString, Listed, Memory};
+use jb_text::{Listed, Memory};
 use std::alloc::Global;
 
 /// The definitions under their names, of each name the first, and a fault for each other.
@@ -47,7 +47,7 @@ fn add_first(
             faults,
         ),
         None => {
-            let name = ByteString::from_text(alloc, definition.own_name().as_str())?;
+            let name = definition.own_name().text().copy(alloc)?;
             types.insert_new(name, definition)
         }
     }
