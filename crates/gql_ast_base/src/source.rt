@@ -7,8 +7,8 @@ ghost use Rattle.gql_ast_base.specs.Parts as parts;
 use crate::name::Name;
 use crate::token::piece;
 use gql_source::{FileId, SourceSpan};
-use jb_text::{ByteString, Memory, Refused};
-use std::alloc::{AllocError, Global};
+use jb_text::{ByteString, Memory};
+use std::alloc::Global;
 use std::ops::Range;
 
 /// The text that concrete trees are of, the number of its file, and where memory comes from.
@@ -80,10 +80,6 @@ impl<'t> Source<'t> {
         let Some(shared) = self.shared else {
             return ByteString::from_text(self.alloc, found);
         };
-        match ByteString::from_slice(self.alloc, shared.inner(), range) {
-            Ok(piece) => Ok(piece),
-            Err(Refused::Fault(_)) => ByteString::from_text(self.alloc, found),
-            Err(Refused::Memory) => Err(AllocError),
-        }
+        ByteString::part_of(self.alloc, shared, range, found)
     }
 }

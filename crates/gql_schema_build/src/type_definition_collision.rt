@@ -21,7 +21,7 @@ pub(crate) fn first_types(
     ensures types { IfOk result (λ types. types ≡ map merged.named (merged.firsts definitions)) }
     ensures faults { OnOk result (faults.new ≡ faults.old ++ spec.type_definition_collisions definitions) }
 {
-    let mut types = Pairs::new(alloc);
+    let mut types = Pairs::with_capacity(alloc, definitions.len())?;
     for definition in definitions {
         add_first(alloc, &mut types, definition, faults)?;
     }

@@ -45,7 +45,7 @@ fn built_types(
     ensures table { IfOk result (λ table. table ≡ fold (put type_name) [] (map built (values_of types))) }
     ensures faults { OnOk result (faults.new ≡ faults.old ++ flat_map part_faults (values_of types)) }
 {
-    let mut table = Table::new(alloc);
+    let mut table = Table::with_capacity(alloc, types.len())?;
     for (_name, definition) in types {
         put_built(alloc, &mut table, definition, faults)?;
     }

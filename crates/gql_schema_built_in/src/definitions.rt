@@ -93,7 +93,7 @@ impl FromRow<DefinitionRow> for TypeDefinition {
 fn listed(alloc: Global, places: &[DirectiveLocation]) -> Result<Listed<DirectiveLocation>, Memory>
     ensures { IfOk result (λ made. made ≡ places.now) }
 {
-    let mut list = Listed::new(alloc);
+    let mut list = Listed::with_capacity(alloc, places.len())?;
     for place in places {
         list.push(*place)?;
     }

@@ -26,7 +26,7 @@ pub(crate) trait FromRow<R>: Sized + Drop {
 pub(crate) fn all_of<R, T: FromRow<R>>(source: &Source<'_>, rows: &[R]) -> Result<Listed<T>, Memory>
     ensures { IfOk result (λ made. made ≡ map (T.meaning source.now.text.now source.now.file_id) rows.now) }
 {
-    let mut list = Listed::new(source.alloc);
+    let mut list = Listed::with_capacity(source.alloc, rows.len())?;
     for row in rows {
         list.push(T::of(source, row)?)?;
     }

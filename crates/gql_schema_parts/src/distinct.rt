@@ -23,7 +23,7 @@ pub(crate) fn distinct<T: Named + Drop>(
     ensures table { IfOk result (λ table. table ≡ joined T.own [] items) }
     ensures faults { OnOk result (faults.new ≡ faults.old ++ spec.collisions T.own rule owner.now items) }
 {
-    let mut table = Table::new(alloc);
+    let mut table = Table::with_capacity(alloc, items.len())?;
     for item in items {
         place(alloc, rule, owner, &mut table, item, faults)?;
     }

@@ -54,6 +54,16 @@ impl<T: Named> Table<T> {
         }
     }
 
+    /// No entries, with room for `capacity` of them. `Err` only for want of memory.
+    pub fn with_capacity(alloc: Global, capacity: usize) -> Result<Table<T>, Memory>
+        ensures { IfOk result (λ made. made ≡ []) }
+    {
+        Ok(Table {
+            entries: Vec::with_capacity(alloc, capacity)?,
+            index: None,
+        })
+    }
+
     /// How many entries there are.
     #[must_use]
     pub fn len(&self) -> usize
@@ -237,7 +247,7 @@ fn index_of<T: Named>(alloc: Global, entries: &[T]) -> Result<KeyTable, Memory>
     requires { IsDistinct bytes_eq (texts T.own entries.now) }
     ensures { IfOk result (λ names. names ≡ texts T.own entries.now) }
 {
-    let mut names = KeyTable::new(alloc);
+    let mut names = KeyTable::with_capacity(alloc, entries.len().saturating_mul(2))?;
     for entry in entries {
         names.push(alloc, entry.own_name().as_str())?;
     }

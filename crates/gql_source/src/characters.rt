@@ -39,7 +39,13 @@ pub(crate) fn characters_before(text: &[u8], counts: &[usize], offset: usize) ->
 fn count_characters(bytes: &[u8]) -> usize
     ensures { result ≡ count_by lines.begins_character bytes.now }
 {
-    bytes.iter().filter(|byte| begins_character(**byte)).count()
+    let mut count = 0;
+    for byte in bytes {
+        if begins_character(*byte) {
+            count += 1;
+        }
+    }
+    count
 }
 
 /// Whether the byte begins a character.

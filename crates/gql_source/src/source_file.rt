@@ -149,7 +149,11 @@ pub(crate) fn ends_line(text: &[u8], at: usize) -> bool
     requires { at < length text.now }
     ensures { result ≡ lines.ends_line text.now at }
 {
-    match text[at] {
+    let byte = text[at];
+    if byte > b'\r' {
+        return false;
+    }
+    match byte {
         b'\n' => true,
         b'\r' => at + 1 == text.len() || text[at + 1] != b'\n',
         _ => false,

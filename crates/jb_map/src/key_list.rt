@@ -196,7 +196,7 @@ fn table_of(alloc: Global, texts: &[ByteString]) -> Result<KeyTable, Memory>
     requires { IsDistinct bytes_eq texts.now }
     ensures { IfOk result (λ keys. keys ≡ texts.now) }
 {
-    let mut keys = KeyTable::new(alloc);
+    let mut keys = KeyTable::with_capacity(alloc, texts.len().saturating_mul(2))?;
     for text in texts {
         keys.push(alloc, text.as_str())?;
     }

@@ -1,5 +1,5 @@
 //! A table of keys, found by hash.
-ghost use Rattle.std.specs.Prelude.{◌≡◌, ◌<◌, ℕ, List, None, [], ◌∷◌, ◌++◌, OnOk, OnErr, length, position, remove, swap_remove, swap, take, slice_index_or, true, false};
+ghost use Rattle.std.specs.Prelude.{◌≡◌, ◌<◌, ℕ, List, None, [], ◌∷◌, ◌++◌, IfOk, OnOk, OnErr, length, position, remove, swap_remove, swap, take, slice_index_or, true, false};
 ghost use Rattle.std.specs.Str.{bytes_eq};
 ghost use Rattle.std.specs.List.{IsDistinct, list_any};
 ghost use Rattle.jb_map.specs.Covers.{Covers};
@@ -35,6 +35,15 @@ impl KeyTable {
         KeyTable {
             texts: IndexSet::new(alloc),
         }
+    }
+
+    /// A table without keys, with room for `capacity` of them. `Err` only when out of memory.
+    pub fn with_capacity(alloc: Global, capacity: usize) -> Result<KeyTable, Memory>
+        ensures { IfOk result (λ made. made ≡ []) }
+    {
+        Ok(KeyTable {
+            texts: IndexSet::with_capacity(alloc, capacity)?,
+        })
     }
 
     /// The place of `key`; `None` exactly where it is not there. It takes no memory.

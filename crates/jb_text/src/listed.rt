@@ -1,5 +1,5 @@
 //! Growing lists, and the walk over one by value.
-ghost use Rattle.std.specs.Prelude.{◌≡◌, ◌↔◌, ◌+◌, [], ◌∷◌, ◌++◌, length, IsTrue, OnOk, OnErr, IfNone, option_to_list, slice_get, slice_set};
+ghost use Rattle.std.specs.Prelude.{◌≡◌, ◌↔◌, ◌+◌, [], ◌∷◌, ◌++◌, length, IsTrue, IfOk, OnOk, OnErr, IfNone, option_to_list, slice_get, slice_set};
 ghost use Rattle.std.specs.Hash as fed;
 ghost use Rattle.std.specs.Hash.{items_Alike};
 ghost use Rattle.std.specs.Cmp.Lexicographic.{pointwise, lists_per, lists_equiv};
@@ -39,6 +39,15 @@ impl<T> Listed<T> {
         Listed {
             held: Vec::new(alloc),
         }
+    }
+
+    /// An empty list with room for `capacity` items. `Err` only when out of memory.
+    pub fn with_capacity(alloc: Global, capacity: usize) -> Result<Listed<T>, Memory>
+        ensures { IfOk result (λ made. made ≡ []) }
+    {
+        Ok(Listed {
+            held: Vec::with_capacity(alloc, capacity)?,
+        })
     }
 
     /// Takes the last item off. `None` exactly where there is none.

@@ -57,7 +57,7 @@ impl TryClone for Value {
 fn copy_items(alloc: Global, items: &Listed<Value>) -> Result<Listed<Value>, Memory>
     ensures { IfOk result (λ copy. copy ≡ items.now) }
 {
-    let mut copies = Listed::new(alloc);
+    let mut copies = Listed::with_capacity(alloc, items.len())?;
     for item in items.as_slice() {
         copies.push(item.copy(alloc)?)?;
     }
@@ -68,7 +68,7 @@ fn copy_items(alloc: Global, items: &Listed<Value>) -> Result<Listed<Value>, Mem
 fn copy_members(alloc: Global, members: &Map) -> Result<Map, Memory>
     ensures { IfOk result (λ copy. copy ≡ members.now) }
 {
-    let mut copies = Pairs::new(alloc);
+    let mut copies = Pairs::with_capacity(alloc, members.len())?;
     for index in 0..members.len() {
         let key = members.key_at(index).copy(alloc)?;
         let value = members.value_at(index).copy(alloc)?;
