@@ -214,7 +214,8 @@ impl Hash for Name {
 fn is_name_start(byte: u8) -> bool
     ensures { result ≡ is_name_start byte }
 {
-    matches!(byte, b'_' | b'A'..=b'Z' | b'a'..=b'z')
+    // Most letters of names are small.
+    byte.is_ascii_lowercase() || matches!(byte, b'_' | b'A'..=b'Z')
 }
 
 fn are_name_continue(bytes: &[u8]) -> bool

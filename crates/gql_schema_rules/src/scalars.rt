@@ -134,7 +134,7 @@ fn is_missing(
 ) -> bool
     ensures { result ≡ spec.is_missing definitions.now types.now name.now }
 {
-    is_named(definitions, types, name) && types.get(name).is_none()
+    types.get(name).is_none() && is_named(definitions, types, name)
 }
 
 /// Whether something that is not built in names the type.

@@ -3,3 +3,4 @@ pub mod LineStarts
 mod Joined
 pub mod LineSteps
 pub mod CharacterCounts
+mod LineEnds

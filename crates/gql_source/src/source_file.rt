@@ -7,6 +7,7 @@ ghost use Rattle.gql_source.specs.Lines as lines;
 use crate::LineColumn;
 use crate::characters::{characters_before, counts_at_marks};
 use jb_text::{ByteString, Memory};
+use memchr::memchr2_iter;
 use std::alloc::{AllocError, Global};
 use std::fmt::{self, Debug, Formatter, Write};
 use std::marker::Model;
@@ -149,11 +150,7 @@ pub(crate) fn ends_line(text: &[u8], at: usize) -> bool
     requires { at < length text.now }
     ensures { result ≡ lines.ends_line text.now at }
 {
-    let byte = text[at];
-    if byte > b'\r' {
-        return false;
-    }
-    match byte {
+    match text[at] {
         b'\n' => true,
         b'\r' => at + 1 == text.len() || text[at + 1] != b'\n',
         _ => false,
@@ -166,7 +163,7 @@ fn line_starts(alloc: Global, text: &[u8]) -> Result<Vec<usize>, Memory>
     ensures { IfOk result (λ starts. starts.items ≡ lines.line_starts text.now (length text.now)) }
 {
     let mut starts = vec![in alloc; 0]?;
-    for at in 0..text.len() {
+    for at in memchr2_iter(b'\n', b'\r', text) {
         if ends_line(text, at) {
             starts.push(at + 1)?;
         }
