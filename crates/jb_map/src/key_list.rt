@@ -161,7 +161,10 @@ impl KeyList {
 fn scan(texts: &[ByteString], key: &str) -> Option<usize>
     ensures { result ≡ position (bytes_eq key.now) texts.now }
 {
-    texts.iter().position(|text| key == text.as_str())
+    texts.iter().position(|text| {
+        let text = text.as_str();
+        key.len() == text.len() && key == text
+    })
 }
 
 /// Notes in the table, where there is one, that `key` comes last; makes the table where there are now too many

@@ -31,14 +31,14 @@ fn write_items(out: &mut String, items: &Listed<Value>) -> Result<(), Memory>
     ensures { OnOk result (string_bytes out.new
         ≡ string_bytes out.old ++ (codes "[" ++ (pieces_text false (map compact items.now) ++ codes "]"))) }
 {
-    out.push_str("[")?;
+    out.push('[')?;
     let mut later = false;
     for item in items.as_slice() {
         write_comma(out, later)?;
         write_value(out, item)?;
         later = true;
     }
-    out.push_str("]")
+    out.push(']')
 }
 
 #[cycle(compact)]
@@ -46,7 +46,7 @@ pub(crate) fn write_members(out: &mut String, members: &Map) -> Result<(), Memor
     ensures { OnOk result (string_bytes out.new
         ≡ string_bytes out.old ++ (codes "{" ++ (pieces_text false (map member_piece members.now) ++ codes "}"))) }
 {
-    out.push_str("{")?;
+    out.push('{')?;
     let mut later = false;
     for index in 0..members.len() {
         write_comma(out, later)?;
@@ -54,13 +54,13 @@ pub(crate) fn write_members(out: &mut String, members: &Map) -> Result<(), Memor
         write_value(out, members.value_at(index))?;
         later = true;
     }
-    out.push_str("}")
+    out.push('}')
 }
 
 pub(crate) fn write_comma(out: &mut String, later: bool) -> Result<(), Memory>
     ensures { OnOk result (string_bytes out.new ≡ string_bytes out.old ++ comma_after later) }
 {
-    if later { out.push_str(",") } else { Ok(()) }
+    if later { out.push(',') } else { Ok(()) }
 }
 
 fn write_key(out: &mut String, key: &ByteString) -> Result<(), Memory>
@@ -68,7 +68,7 @@ fn write_key(out: &mut String, key: &ByteString) -> Result<(), Memory>
         ≡ string_bytes out.old ++ (quoted key.now ++ codes ":")) }
 {
     write_text(out, key.as_str())?;
-    out.push_str(":")
+    out.push(':')
 }
 
 fn write_number(out: &mut String, number: &Number) -> Result<(), Memory>

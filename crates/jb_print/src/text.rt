@@ -14,9 +14,9 @@ use jb_tree::Memory;
 pub(crate) fn write_text(out: &mut String, text: &str) -> Result<(), Memory>
     ensures { OnOk result (string_bytes out.new ≡ string_bytes out.old ++ quoted text.now) }
 {
-    out.push_str("\"")?;
+    out.push('"')?;
     write_escaped(out, text)?;
-    out.push_str("\"")
+    out.push('"')
 }
 
 // Each run of bytes that need no escape is copied in one piece.
