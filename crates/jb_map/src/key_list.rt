@@ -4,6 +4,7 @@ ghost use Rattle.std.specs.Str.{bytes_eq};
 ghost use Rattle.std.specs.List.{IsDistinct};
 
 use crate::key_table::KeyTable;
+use crate::same_text::is_same_text;
 use jb_text::{ByteString, Memory};
 use std::alloc::Global;
 use std::marker::Model;
@@ -161,10 +162,9 @@ impl KeyList {
 fn scan(texts: &[ByteString], key: &str) -> Option<usize>
     ensures { result ≡ position (bytes_eq key.now) texts.now }
 {
-    texts.iter().position(|text| {
-        let text = text.as_str();
-        key.len() == text.len() && key == text
-    })
+    texts
+        .iter()
+        .position(|text| is_same_text(key, text.as_str()))
 }
 
 /// Notes in the table, where there is one, that `key` comes last; makes the table where there are now too many
