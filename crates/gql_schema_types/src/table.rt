@@ -7,7 +7,7 @@ ghost use Rattle.std.specs.List.{IsDistinct};
 ghost use Rattle.gql_schema_types.specs.Entries.{texts, is_called, entry, put, without};
 
 use crate::named::Named;
-use jb_map::{KeyTable, is_same_text};
+use jb_map::KeyTable;
 use jb_text::Memory;
 use std::alloc::Global;
 use std::marker::Model;
@@ -211,9 +211,10 @@ impl<T: Named> Table<T> {
 fn scan<T: Named>(entries: &[T], name: &str) -> Option<usize>
     ensures { result ≡ position (is_called T.own name.now) entries.now }
 {
-    entries
-        .iter()
-        .position(|entry| is_same_text(name, entry.own_name().as_str()))
+    entries.iter().position(|entry| {
+        let own = entry.own_name().as_str();
+        name.len() == own.len() && name == own
+    })
 }
 
 /// Notes in the index, where there is one, that the name comes last; makes the index where there are now too many

@@ -1,8 +1,7 @@
 //! Maps from texts to values that keep the order of insertion, which contracts see as the list of their pairs.
 //!
 //! [`Pairs`] is the map for any value. A JSON object is such a map of JSON values (RFC 8259, section 4). [`KeyTable`] is the
-//! table of hashes that it keeps beside many members, for others that look texts up, and [`is_same_text`] compares a
-//! text with a key where they are few.
+//! table of hashes that it keeps beside many members, for others that look texts up.
 #![tactic(auto)]
 
 mod by_key;
@@ -27,4 +26,3 @@ pub use jb_text::Memory;
 pub use jb_walks::{IntoIter, Iter, IterMut, Keys, Values, ValuesMut};
 pub use key_table::KeyTable;
 pub use pairs::Pairs;
-pub use same_text::is_same_text;
