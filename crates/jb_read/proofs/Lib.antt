@@ -1,5 +1,6 @@
 pub mod Front
 pub mod Plain
+pub mod AsciiFronts
 pub mod Turns
 pub mod Nested
 pub mod Within

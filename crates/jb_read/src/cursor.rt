@@ -1,13 +1,13 @@
 //! What is left of a text while it is read.
 
-ghost use Rattle.std.specs.Prelude.{◌≡◌, ◌≤◌, ℕ, length, take, drop, slice_get};
-ghost use Rattle.jb_text.specs.ByteString.{IsSlice};
+ghost use Rattle.std.specs.Prelude.{◌≡◌, ◌≤◌, ℕ, length, take, drop, slice_get, IfOk};
+ghost use Rattle.std.specs.Str.{IsUtf8};
 ghost use Rattle.jb_read.specs.Bytes.{first};
 ghost use Rattle.jb_read.specs.Reading.{broken};
 
 use crate::fault::{Broken, FaultKind};
 use bytes::Bytes;
-use jb_tree::{ByteString, Refused, SliceFault};
+use jb_tree::{ByteString, Memory};
 use std::alloc::Global;
 use std::marker::Model;
 
@@ -76,13 +76,15 @@ impl<'a> Cursor<'a> {
         self.rest = &self.rest[count..];
     }
 
-    /// The next `count` bytes as a slice of the text.
-    pub fn cut(&self, alloc: Global, count: usize) -> Result<ByteString, Refused<SliceFault>>
-        requires { count ≤ length self.now }
-        ensures { IsSlice result (take count self.now) }
+    /// The next `count` bytes, which are UTF-8, as a slice of the text. `Err` only when out of memory.
+    #[inline(always)]
+    pub fn cut(&self, alloc: Global, count: usize) -> Result<ByteString, Memory>
+        requires within { count ≤ length self.now }
+        requires text { IsUtf8 (take count self.now) }
+        ensures { IfOk result (λ text. text ≡ take count self.now) }
     {
         let start = self.text.len() - self.rest.len();
-        ByteString::from_slice(alloc, self.text, start..start + count)
+        ByteString::shared(alloc, self.text, start..start + count)
     }
 
     /// A fault that stands here.

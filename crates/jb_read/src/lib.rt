@@ -5,6 +5,7 @@
 //! exactly that, or to be out of memory. A string without an escape shares its bytes with the text.
 #![tactic(auto)]
 
+mod ascii;
 mod cursor;
 mod document;
 mod escape;

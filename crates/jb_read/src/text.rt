@@ -6,11 +6,12 @@ ghost use Rattle.std.specs.String.{string_bytes};
 ghost use Rattle.jb_read.specs.Reading.{Tells, Gives, GivesTurn, told_text};
 ghost use Rattle.jb_read.specs.Strings.{plain_length, run_at, piece_at, text_at};
 
+use crate::ascii::ascii_length;
 use crate::cursor::Cursor;
 use crate::escape::read_escape;
 use crate::fault::{Broken, FaultKind, Stop};
-use jb_tree::{ByteString, Memory, Refused, SliceFault};
-use std::alloc::{AllocError, Global};
+use jb_tree::{ByteString, Memory};
+use std::alloc::Global;
 use std::str;
 use std::str::Utf8Error;
 
@@ -86,14 +87,33 @@ fn read_plain(alloc: Global, cursor: &mut Cursor<'_>) -> Result<Option<ByteStrin
     let Some(b'"') = cursor.peek_behind(length) else {
         return Ok(None);
     };
-    match cursor.cut(alloc, length) {
-        Ok(text) => {
-            cursor.skip(length + 1);
-            Ok(Some(text))
-        }
-        Err(Refused::Fault(SliceFault::NotText)) => Ok(None),
-        Err(Refused::Memory) => Err(AllocError),
+    let Ok(_) = str::from_utf8(&cursor.rest()[..length]) else {
+        return Ok(None);
+    };
+    let text = cursor.cut(alloc, length)?;
+    cursor.skip(length + 1);
+    Ok(Some(text))
+}
+
+/// A string, piece by piece.
+fn read_pieces(alloc: Global, cursor: &mut Cursor<'_>) -> Result<ByteString, Stop>
+    ensures value { Gives result cursor.new (text_at cursor.old) }
+    ensures fewer { OnOk result (length cursor.new < length cursor.old) }
+{
+    let mut made = String::new(alloc);
+    while read_piece(cursor, &mut made)? {}
+    Ok(ByteString::from_text(alloc, made.as_str())?)
+}
+
+/// A string that has other characters than ASCII, or a fault.
+fn read_other(alloc: Global, cursor: &mut Cursor<'_>) -> Result<ByteString, Stop>
+    ensures value { Gives result cursor.new (text_at cursor.old) }
+    ensures fewer { OnOk result (length cursor.new < length cursor.old) }
+{
+    if let Some(text) = read_plain(alloc, cursor)? {
+        return Ok(text);
     }
+    read_pieces(alloc, cursor)
 }
 
 /// A string, from behind the quote that opens it to behind the one that ends it (RFC 8259, section 7).
@@ -101,10 +121,14 @@ pub fn read_text(alloc: Global, cursor: &mut Cursor<'_>) -> Result<ByteString, S
     ensures value { Gives result cursor.new (text_at cursor.old) }
     ensures fewer { OnOk result (length cursor.new < length cursor.old) }
 {
-    if let Some(text) = read_plain(alloc, cursor)? {
+    let length = ascii_length(cursor.rest());
+    if let Some(b'"') = cursor.peek_behind(length) {
+        let text = cursor.cut(alloc, length)?;
+        cursor.skip(length + 1);
         return Ok(text);
     }
-    let mut made = String::new(alloc);
-    while read_piece(cursor, &mut made)? {}
-    Ok(ByteString::from_text(alloc, made.as_str())?)
+    if let Some(b'\\') = cursor.peek_behind(length) {
+        return read_pieces(alloc, cursor);
+    }
+    read_other(alloc, cursor)
 }

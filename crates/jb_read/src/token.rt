@@ -12,7 +12,7 @@ use crate::fault::{Broken, FaultKind};
 fn is_white(byte: u8) -> bool
     ensures { result ≡ is_white byte }
 {
-    matches!(byte, b' ' | b'\t' | b'\n' | b'\r')
+    byte <= b' ' && matches!(byte, b' ' | b'\t' | b'\n' | b'\r')
 }
 
 /// Goes on past white space.
@@ -68,6 +68,7 @@ pub fn take_byte(cursor: &mut Cursor<'_>, byte: u8) -> bool
 
 /// Behind an item or a member: says whether a comma announces another, or takes the bracket that closes.
 #[tactic(auto, unfolding(crate::specs::Values::next_at))]
+#[inline(always)]
 pub fn read_next(cursor: &mut Cursor<'_>, close: u8) -> Result<bool, Broken>
     ensures value { Tells result cursor.new (next_at close cursor.old) }
     ensures fewer { OnOk result (length cursor.new < length cursor.old) }

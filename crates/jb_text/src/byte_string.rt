@@ -6,6 +6,7 @@ ghost use Rattle.std.specs.Cmp.Lexicographic.{pointwise, slice_cmp, nat_list_eq_
 ghost use Rattle.std.specs.Cmp.{partial_equiv_from_equiv};
 ghost use Rattle.std.specs.Cmp.Rules.{hashing};
 ghost use Rattle.std.proofs.Common.{rules};
+ghost use Rattle.std.specs.Str.{IsUtf8};
 ghost use Rattle.jb_text.specs.ByteString.{IsSlice};
 
 use crate::refused::{Memory, Refused};
@@ -68,6 +69,19 @@ impl ByteString {
             Ok(_) => Ok(ByteString { held }),
             Err(_) => Err(Refused::Fault(SliceFault::NotText)),
         }
+    }
+
+    /// The bytes of `origin` in `range`, which are UTF-8, shared with it. `Err` only when out of memory.
+    #[inline(always)]
+    pub fn shared(_alloc: Global, origin: &Bytes, range: Range<usize>) -> Result<ByteString, Memory>
+        requires start_le_end { range.start ≤ range.end }
+        requires in_bounds { range.end ≤ length origin.now }
+        requires text { IsUtf8 (slice_range origin.now range.start range.end) }
+        ensures { IfOk result (λ made. made ≡ slice_range origin.now range.start range.end) }
+    {
+        Ok(ByteString {
+            held: origin.slice(range)?,
+        })
     }
 
     /// The text `found`, shared with `origin`, in which it stands in `range`. `Err` only when out of memory.

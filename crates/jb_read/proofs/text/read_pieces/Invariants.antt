@@ -2,7 +2,7 @@ use Rattle.std.proofs.Common.{◌≤◌, length}
 use Rattle.std.specs.String.{string_bytes}
 use Rattle.jb_read.specs.Strings.{piece_at, text_at}
 use Rattle.jb_read.proofs.Turns.{Goes}
-use Rattle.jb_read.proofs.text.read_text.Given as goal
+use Rattle.jb_read.proofs.text.read_pieces.Given as goal
 
 abbrev pub invariant-loop-made : goal.invariant-loop-made
 invariant-loop-made l = record {
