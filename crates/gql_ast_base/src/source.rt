@@ -80,6 +80,6 @@ impl<'t> Source<'t> {
         let Some(shared) = self.shared else {
             return ByteString::from_text(self.alloc, found);
         };
-        ByteString::part_of(self.alloc, shared, range, found)
+        ByteString::shared(self.alloc, shared.inner(), range)
     }
 }

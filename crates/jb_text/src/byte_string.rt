@@ -84,23 +84,6 @@ impl ByteString {
         })
     }
 
-    /// The text `found`, shared with `origin`, in which it stands in `range`. `Err` only when out of memory.
-    pub fn part_of(
-        _alloc: Global,
-        origin: &ByteString,
-        range: Range<usize>,
-        found: &str,
-    ) -> Result<ByteString, Memory>
-        requires start_le_end { range.start ≤ range.end }
-        requires in_bounds { range.end ≤ length origin.now }
-        requires found { found.now ≡ slice_range origin.now range.start range.end }
-        ensures { IfOk result (λ part. part ≡ found.now) }
-    {
-        Ok(ByteString {
-            held: origin.held.slice(range)?,
-        })
-    }
-
     /// The same text over the same buffer. `Err` only when out of memory.
     pub fn copy(&self, _alloc: Global) -> Result<ByteString, Memory>
         ensures { IfOk result (λ copy. copy ≡ self.now) }
