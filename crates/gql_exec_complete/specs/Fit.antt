@@ -63,11 +63,18 @@ leaf_at (Some (type.Union it)) T value = Some (wrong (message.leaf_at_composite 
 abbrev pub null_misfit : TypeRef → Option Misfit
 null_misfit ty = if is_strict ty then Some (wrong (message.null_at_non_null ty)) else None
 
-abbrev pub leaf_misfit : Schema → TypeRef → Value → Option Misfit
-leaf_misfit schema ty value =
+-- the type of the schema that the name within all lists of a type is of
+abbrev pub type_of_name : Schema → TypeRef → Option ExtendedType
+type_of_name schema ty = type_called (named_type ty).text schema.types
+
+abbrev pub leaf_misfit_at : Option ExtendedType → TypeRef → Value → Option Misfit
+leaf_misfit_at named ty value =
     if is_null value then null_misfit ty
     else (if is_list ty then Some (wrong (message.other_at_list ty))
-    else leaf_at (type_called (named_type ty).text schema.types) (named_type ty).text value)
+    else leaf_at named (named_type ty).text value)
+
+abbrev pub leaf_misfit : Schema → TypeRef → Value → Option Misfit
+leaf_misfit schema ty value = leaf_misfit_at (type_of_name schema ty) ty value
 
 -- ---- Lists
 
@@ -103,7 +110,7 @@ module _ (schema : Schema) where
   abbrev pub object_misfit : TypeRef → List ℕ → Option Misfit
   object_misfit ty found =
       if is_list ty then Some (wrong (message.other_at_list ty))
-      else object_at (type_called (named_type ty).text schema.types) (named_type ty).text found
+      else object_at (type_of_name schema ty) (named_type ty).text found
 
   -- what is wrong with an answer; a failure is wrong at any type, and what is to be left out fits any
   abbrev pub misfit : {X : Type 0} → (X → List ℕ) → TypeRef → Meaning X → Option Misfit

@@ -13,21 +13,21 @@ use crate::scalar::{enum_misfit, scalar_misfit};
 use crate::type_parts::{is_non_null, item_type};
 use gql_ast_values::TypeRef;
 use gql_document_types::innermost;
-use gql_schema_types::{ExtendedType, Schema};
+use gql_schema_types::ExtendedType;
 use jb_text::Memory;
 use jb_tree::Value;
 use std::alloc::Global;
 
-/// What is wrong with a leaf at a type, `None` exactly where it fits (GraphQL October 2021, section 6.4.3): null at a type
+/// What is wrong with a leaf at a type, whose name is that of this type of the schema if it is one's: `None` exactly where it fits (GraphQL October 2021, section 6.4.3): null at a type
 /// that rules it out, another leaf at a list's, an object's, an interface's or a union's type, or one that the scalar or
 /// enum type does not take. `Err` only for want of memory.
 pub fn leaf_misfit(
     alloc: Global,
-    schema: &Schema,
+    named: Option<&ExtendedType>,
     ty: &TypeRef,
     value: &Value,
 ) -> Result<Option<Misfit>, Memory>
-    ensures { IfOk result (λ found. misfit_seen found ≡ spec.leaf_misfit schema.now ty.now value.now) }
+    ensures { IfOk result (λ found. misfit_seen found ≡ spec.leaf_misfit_at (option_copied named.entry) ty.now value.now) }
 {
     if value.is_null() {
         return null_misfit(alloc, ty);
@@ -36,7 +36,7 @@ pub fn leaf_misfit(
         return wrong(other_at_list(alloc, ty));
     }
     let name = innermost(ty).as_str();
-    leaf_at(alloc, schema.types.get(name), name, value)
+    leaf_at(alloc, named, name, value)
 }
 
 /// What is wrong with null at a type.

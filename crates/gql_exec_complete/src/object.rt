@@ -29,22 +29,25 @@ pub fn list_misfit(alloc: Global, ty: &TypeRef) -> Result<Option<Misfit>, Memory
     }
 }
 
-/// The object type of an object by the name of its type, where the object fits the type that is wanted (section 6.4.3):
+/// The object type of an object by the name of its type, where the object fits the type that is wanted, whose name is that of
+/// this type of the schema if it is one's (section 6.4.3):
 /// that object type itself, an interface that it lists, or a union that has it. `Fault` with what is wrong exactly where it
 /// does not fit, `Memory` only for want of memory.
 pub fn fitting_object<'s>(
     alloc: Global,
     schema: &'s Schema,
+    named: Option<&'s ExtendedType>,
     ty: &TypeRef,
     found: &str,
 ) -> Result<&'s ObjectType, Refused<Misfit>>
+    requires { option_copied named ≡ spec.type_of_name schema.now ty.now }
     ensures { IsFitOfObject schema.now ty.now found.now result }
 {
     if item_type(ty).is_some() {
         return refuse(other_at_list(alloc, ty));
     }
     let name = innermost(ty).as_str();
-    match schema.types.get(name) {
+    match named {
         None => suspect(undefined_type(alloc, name)),
         Some(wanted) => object_at(alloc, schema, wanted, name, found),
     }

@@ -12,6 +12,7 @@ pub mod Keys
 pub mod Looking
 pub mod Measures
 pub mod Misfits
+pub mod NamedTypes
 pub mod Objects
 pub mod Opening
 pub mod Places

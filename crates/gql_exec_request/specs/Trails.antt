@@ -1,5 +1,6 @@
 -- Places as the code has them.
-use Rattle.std.specs.Prelude.{List, [], ◌∷◌, ◌++◌, Option, Some, None}
+use Rattle.std.specs.Prelude.{◌≡◌, List, [], ◌∷◌, ◌++◌, Option, Some, None}
+use Rattle.std.specs.Option.{option_copied}
 use Rattle.jb_tree.specs.declared.value.Value.{Value}
 use Rattle.gql_source.specs.File.{Files}
 use Rattle.gql_ast_values.specs.declared.type_ref.TypeRef.{TypeRef}
@@ -7,6 +8,8 @@ use Rattle.gql_diag.specs.RequestFault.{request_error}
 use Rattle.gql_diag.specs.declared.request_error.RequestError.{RequestError}
 use Rattle.gql_response.specs.declared.graphql_error.GraphQLError.{GraphQLError}
 use Rattle.gql_response.specs.declared.path.ResponseDataPathSegment.TheVariants.{Field, ListIndex}
+use Rattle.gql_schema_types.specs.declared.schema.Schema.{Schema}
+use Rattle.gql_exec_complete.specs.Fit.{type_of_name}
 use Rattle.gql_exec_groups.specs.Walk.{fields_of}
 use Rattle.gql_exec_groups.specs.declared.group.Group.{Group as FieldsOfKey}
 use Rattle.gql_exec_places.specs.Execute.{null_or_pass}
@@ -40,6 +43,10 @@ group_of group = record { first = group.first.now; pieces = pieces_of (fields_of
 abbrev pub spot_of : Place → Spot Group
 spot_of place =
     record { around = trail_of place.around.now; step = segment_of place.step; type = place.ty.now; group = group_of place.group.now }
+
+-- a place comes with the type of the schema that its type names
+abbrev pub IsNamed : Schema → Place → Type 0
+IsNamed schema place = option_copied place.named ≡ type_of_name schema place.ty.now
 
 -- the steps from the root to a place
 abbrev pub place_path : Place → List Segment

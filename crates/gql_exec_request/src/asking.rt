@@ -1,11 +1,13 @@
 //! What comes of a field on an object: its resolver is asked with the arguments that are planned.
 
-ghost use Rattle.std.specs.Prelude.{◌≡◌, IfOk};
+ghost use Rattle.std.specs.Prelude.{◌≡◌, true, is_some, IfOk};
+ghost use Rattle.gql_schema_types.specs.Schemas.{field_of};
 ghost use Rattle.gql_exec_resolve.specs.Meaning.{Answers};
 ghost use Rattle.gql_exec_places.specs.Resolved.{answered, Meaning};
 ghost use Rattle.gql_exec_plan.specs.Plan.{IsPlanned, arguments_by, definition_on};
 ghost use Rattle.gql_exec_world.specs.Asks as spec;
-ghost use Rattle.gql_exec_request.specs.Asking.{outcome_of};
+ghost use Rattle.gql_exec_request.specs.Asking as asking;
+ghost use Rattle.gql_exec_request.specs.Asking.{IsDefined, outcome_of};
 ghost use Rattle.gql_exec_request.specs.Executing as executing;
 ghost use Rattle.gql_exec_request.specs.Executing.{request_of};
 ghost use Rattle.gql_exec_request.specs.Planning.{ground_in};
@@ -13,7 +15,6 @@ ghost use Rattle.gql_exec_request.specs.Planning.{ground_in};
 use crate::executing::Executing;
 use gql_coerce::ArgumentFault;
 use gql_diag::JsonMap;
-use gql_exec_groups::Group;
 use gql_exec_introspected::is_introspection;
 use gql_exec_plan::PlannedField;
 use gql_exec_resolve::{FieldError, ObjectValue, ResolveError, ResolveInfo, ResolvedValue};
@@ -39,37 +40,39 @@ impl<'s> Executing<'s> {
         object: &O,
         field: &PlannedField<'_>,
     ) -> Result<Asked<O>, Memory>
-        requires { IsPlanned (ground_in self.now) object_type.now field.now }
+        requires planned { IsPlanned (ground_in self.now) object_type.now field.now }
+        requires defined { is_some (field_of self.now.request.schema.now object_type.now.name.text field.now.group.first.now.name.text) ≡ true }
         ensures { IfOk result (λ asked.
             let r = request_of self.now O.type_of O.resolves in
             outcome_of O.seen asked ≡ spec.asks r object_type.now (O.seen object.now) field.now.group.first.now) }
     {
         match &field.arguments {
-            Some(arguments) => self.ask_with(object_type, object, &field.group, arguments),
+            Some(arguments) => self.ask_with(object_type, object, field, arguments),
             None => {
                 let planner = self.planner();
                 let arguments = planner.arguments(field.definition, field.group.first)?;
-                self.ask_with(object_type, object, &field.group, &arguments)
+                self.ask_with(object_type, object, field, &arguments)
             }
         }
     }
 
-    /// The same of the first field of a group, with what has come of coercing its arguments.
+    /// The same with what has come of coercing the arguments.
     fn ask_with<O: ObjectValue>(
         &self,
         object_type: &ObjectType,
         object: &O,
-        group: &Group<'_>,
+        field: &PlannedField<'_>,
         arguments: &Result<JsonMap, ArgumentFault>,
     ) -> Result<Asked<O>, Memory>
-        requires { arguments.now ≡ arguments_by (ground_in self.now)
-            (definition_on (ground_in self.now) object_type.now group.now.first.now) group.now.first.now }
+        requires arguments { arguments.now ≡ arguments_by (ground_in self.now)
+            (definition_on (ground_in self.now) object_type.now field.now.group.first.now) field.now.group.first.now }
+        requires defined { IsDefined self.now.request.schema.now object_type.now field.now }
         ensures { IfOk result (λ asked.
             let r = request_of self.now O.type_of O.resolves in
-            outcome_of O.seen asked ≡ spec.asks r object_type.now (O.seen object.now) group.now.first.now) }
+            outcome_of O.seen asked ≡ spec.asks r object_type.now (O.seen object.now) field.now.group.first.now) }
     {
         match arguments {
-            Ok(arguments) => self.resolve(object_type, object, group, arguments),
+            Ok(arguments) => self.resolve(object_type, object, field, arguments),
             Err(fault) => {
                 let fault = copied(self.alloc, fault)?;
                 Ok(Asked::Refused(fault))
@@ -82,13 +85,35 @@ impl<'s> Executing<'s> {
         &self,
         object_type: &ObjectType,
         object: &O,
-        group: &Group<'_>,
+        field: &PlannedField<'_>,
         arguments: &JsonMap,
     ) -> Result<Asked<O>, Memory>
+        requires { IsDefined self.now.request.schema.now object_type.now field.now }
         ensures { IfOk result (λ asked.
-            outcome_of O.seen asked ≡ answered (spec.answer (request_of self.now O.type_of O.resolves) object_type.now (O.seen object.now) group.now.first.now.name.text arguments.now)) }
+            let r = request_of self.now O.type_of O.resolves in
+            outcome_of O.seen asked ≡ answered (spec.answer r object_type.now (O.seen object.now) field.now.group.first.now.name.text arguments.now)) }
     {
-        let name = group.first.name.as_str();
+        if is_reserved(field.group.first.name.as_str()) {
+            self.resolve_reserved(object_type, object, field, arguments)
+        } else {
+            self.ask_object(object_type, object, field, arguments)
+        }
+    }
+
+    /// The same of a field that may be `__typename`, or tell of the schema.
+    fn resolve_reserved<O: ObjectValue>(
+        &self,
+        object_type: &ObjectType,
+        object: &O,
+        field: &PlannedField<'_>,
+        arguments: &JsonMap,
+    ) -> Result<Asked<O>, Memory>
+        requires { IsDefined self.now.request.schema.now object_type.now field.now }
+        ensures { IfOk result (λ asked.
+            let r = request_of self.now O.type_of O.resolves in
+            outcome_of O.seen asked ≡ answered (spec.answer r object_type.now (O.seen object.now) field.now.group.first.now.name.text arguments.now)) }
+    {
+        let name = field.group.first.name.as_str();
         if name == "__typename" {
             let text = object_type.name.text().copy(self.alloc)?;
             return Ok(Asked::Gave(ResolvedValue::Leaf(Value::String(text))));
@@ -97,6 +122,22 @@ impl<'s> Executing<'s> {
             let message = Text::from_str(self.alloc, "schema introspection is disabled")?;
             return Ok(Asked::Failed(FieldError { message }));
         }
+        self.ask_object(object_type, object, field, arguments)
+    }
+
+    /// What the object's resolver gives with these arguments.
+    fn ask_object<O: ObjectValue>(
+        &self,
+        object_type: &ObjectType,
+        object: &O,
+        field: &PlannedField<'_>,
+        arguments: &JsonMap,
+    ) -> Result<Asked<O>, Memory>
+        requires { IsDefined self.now.request.schema.now object_type.now field.now }
+        ensures { IfOk result (λ asked. outcome_of O.seen asked ≡ answered
+            (O.resolves self.now.request.schema.now object_type.now (O.seen object.now) field.now.group.first.now.name.text arguments.now)) }
+    {
+        let group = &field.group;
         let info = ResolveInfo::new(
             &self.request,
             object_type,
@@ -104,6 +145,7 @@ impl<'s> Executing<'s> {
             &group.fields,
             arguments,
         );
+        let info = info.planned(field.definition, field.named);
         told(object.resolve_field(self.alloc, &info))
     }
 
@@ -112,6 +154,16 @@ impl<'s> Executing<'s> {
         ensures { result ≡ executing.is_hidden self.now.introspection self.now.request.schema.now object_type.now name.now }
     {
         !self.introspection && is_introspection(self.schema(), object_type, name)
+    }
+}
+
+/// Whether a name begins with two underscores.
+fn is_reserved(name: &str) -> bool
+    ensures { result ≡ asking.is_reserved name.now }
+{
+    match name.as_bytes() {
+        [one, two, ..] => *one == b'_' && *two == b'_',
+        _ => false,
     }
 }
 

@@ -16,7 +16,7 @@ ghost use Rattle.gql_exec_request.specs.Executing.{world_of};
 ghost use Rattle.gql_exec_request.specs.Looks.{NodesGrow, PartsGrow};
 ghost use Rattle.gql_exec_request.specs.Opened as opened;
 ghost use Rattle.gql_exec_request.specs.Planning.{ground_in};
-ghost use Rattle.gql_exec_request.specs.Trails.{group_of, made_of, spot_of, trail_of};
+ghost use Rattle.gql_exec_request.specs.Trails.{IsNamed, group_of, made_of, spot_of, trail_of};
 ghost use Rattle.gql_schema_types.specs.Schemas.{field_of};
 
 use crate::asking::Asked;
@@ -159,6 +159,7 @@ impl<'s> Executing<'s> {
             step: Step::Key(field.group.key()),
             ty: &field.definition.ty,
             group: &field.group,
+            named: field.named,
         };
         match self.ask(object_type, object, field)? {
             Asked::Gave(resolved) => self.complete_value(&place, resolved, nodes, errors, steps),
@@ -179,6 +180,7 @@ impl<'s> Executing<'s> {
     ) -> Result<Completed, Memory>
         requires ranked { (rank : ℕ → ℕ) × AreRanked self.now.request.document.now.fragments rank }
         requires planned { AreNodes (ground_in self.now) (sets_below place.now.group.now) nodes.old }
+        requires named { IsNamed self.now.request.schema.now place.now }
         ensures made { IfOk result (λ done.
             let w = world_of self.now O.type_of O.resolves in
             MakesBelow w (group_of place.now.group.now) (made_of done) errors.old errors.new
@@ -209,6 +211,7 @@ impl<'s> Executing<'s> {
     ) -> Result<Completed, Memory>
         requires ranked { (rank : ℕ → ℕ) × AreRanked self.now.request.document.now.fragments rank }
         requires planned { AreNodes (ground_in self.now) (sets_below place.now.group.now) nodes.old }
+        requires named { IsNamed self.now.request.schema.now place.now }
         ensures made { IfOk result (λ done.
             let w = world_of self.now O.type_of O.resolves in
             MakesBelow w (group_of place.now.group.now) (made_of done) errors.old errors.new
@@ -217,7 +220,7 @@ impl<'s> Executing<'s> {
         ensures grows { OnOk result (NodesGrow self.now steps.old steps.new nodes.old nodes.new
             (opened.MakesTurn (world_of self.now O.type_of O.resolves) (spot_of place.now) (gives_object (O.seen object.now)))) }
     {
-        match fitting_object(self.alloc, self.schema(), place.ty, object.type_name()) {
+        match fitting_object(self.alloc, self.schema(), place.named, place.ty, object.type_name()) {
             Ok(object_type) => self.execute_object(
                 place,
                 object_type,
@@ -280,6 +283,7 @@ impl<'s> Executing<'s> {
     ) -> Result<Completed, Memory>
         requires ranked { (rank : ℕ → ℕ) × AreRanked self.now.request.document.now.fragments rank }
         requires planned { AreNodes (ground_in self.now) (sets_below place.now.group.now) nodes.old }
+        requires named { IsNamed self.now.request.schema.now place.now }
         ensures made { IfOk result (λ done.
             let w = world_of self.now O.type_of O.resolves in
             MakesBelow w (group_of place.now.group.now) (made_of done) errors.old errors.new
@@ -306,6 +310,7 @@ impl<'s> Executing<'s> {
     ) -> Result<Completed, Memory>
         requires ranked { (rank : ℕ → ℕ) × AreRanked self.now.request.document.now.fragments rank }
         requires planned { AreNodes (ground_in self.now) (sets_below place.now.group.now) nodes.old }
+        requires named { IsNamed self.now.request.schema.now place.now }
         requires list { is_list place.now.ty.now ≡ true }
         ensures made { IfOk result (λ done.
             let w = world_of self.now O.type_of O.resolves in
@@ -318,7 +323,7 @@ impl<'s> Executing<'s> {
     {
         let count = items.len();
         let mut index = 0;
-        let mut values = Listed::new(self.alloc);
+        let mut values = Listed::with_capacity(self.alloc, count)?;
         for item in items {
             match self.complete_item(place, index, item, nodes, errors, steps)? {
                 Completed::Value(value) => values.push(value)?,
@@ -344,6 +349,7 @@ impl<'s> Executing<'s> {
     ) -> Result<Completed, Memory>
         requires ranked { (rank : ℕ → ℕ) × AreRanked self.now.request.document.now.fragments rank }
         requires planned { AreNodes (ground_in self.now) (sets_below list.now.group.now) nodes.old }
+        requires named { IsNamed self.now.request.schema.now list.now }
         requires list { is_list list.now.ty.now ≡ true }
         ensures made { IfOk result (λ done.
             let w = world_of self.now O.type_of O.resolves in
@@ -361,6 +367,7 @@ impl<'s> Executing<'s> {
             step: Step::Item(index),
             ty: item_of(list.ty),
             group: list.group,
+            named: list.named,
         };
         match item {
             Ok(resolved) => self.complete_value(&place, resolved, nodes, errors, steps),

@@ -10,7 +10,7 @@ ghost use Rattle.gql_exec_places.specs.Resolved.{fails_with, gives_leaf};
 ghost use Rattle.gql_exec_world.specs.Asks.{fault_of};
 ghost use Rattle.gql_exec_request.specs.Executed.{IsMade, MakesBelow};
 ghost use Rattle.gql_exec_request.specs.Executing.{world_of};
-ghost use Rattle.gql_exec_request.specs.Trails.{group_of, made_of, spot_of};
+ghost use Rattle.gql_exec_request.specs.Trails.{IsNamed, group_of, made_of, spot_of};
 
 use crate::completed::Completed;
 use crate::executing::Executing;
@@ -31,12 +31,13 @@ impl<'s> Executing<'s> {
         value: Value,
         errors: &mut Listed<GraphQLError>,
     ) -> Result<Completed, Memory>
+        requires { IsNamed self.now.request.schema.now place.now }
         ensures { IfOk result (λ done.
             let w = world_of self.now O.type_of O.resolves in
             MakesBelow w (group_of place.now.group.now) (made_of done) errors.old errors.new
             (λ run. completed w run (spot_of place.now) (gives_leaf value))) }
     {
-        match leaf_misfit(self.alloc, self.schema(), place.ty, &value)? {
+        match leaf_misfit(self.alloc, place.named, place.ty, &value)? {
             None => Ok(Completed::Value(value)),
             Some(misfit) => self.refuse::<O>(place, misfit, errors),
         }

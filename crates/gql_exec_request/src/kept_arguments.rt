@@ -13,5 +13,5 @@ pub(crate) fn are_simple(variables: &JsonMap) -> bool {
 
 /// Whether a value is a list or an object.
 fn is_compound(value: &Value) -> bool {
-    matches!(value, Value::Array(_) | Value::Object(_))
+    value.is_array() || value.is_object()
 }

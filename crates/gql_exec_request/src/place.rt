@@ -10,6 +10,7 @@ use gql_diag::RequestError;
 use gql_exec_complete::is_non_null;
 use gql_exec_groups::Group;
 use gql_response::{GraphQLError, ResponseDataPathSegment};
+use gql_schema_types::ExtendedType;
 use gql_source::SourceMap;
 use jb_text::{Listed, Memory};
 use jb_tree::Value;
@@ -22,6 +23,8 @@ pub(crate) struct Place<'p, 's> {
     pub(crate) step: Step<'p>,
     pub(crate) ty: &'p TypeRef,
     pub(crate) group: &'p Group<'s>,
+    /// The type of the schema that the place's type names, within all lists.
+    pub(crate) named: Option<&'s ExtendedType>,
 }
 
 impl<'p, 's> Place<'p, 's> {

@@ -1,5 +1,5 @@
 -- How many lists are inside one another in a type.
-use Rattle.std.proofs.Common.{◌≡◌, ℕ, suc, Bool, true, false, Option, Some, None, is_some, refl, ap, ◌∙◌}
+use Rattle.std.proofs.Common.{◌≡◌, ℕ, suc, true, false, Some, None, is_some, refl, ap, ◌∙◌}
 use Rattle.gql_ast_values.specs.declared.type_ref.TypeRef.{TypeRef, fold-TypeRef, out-TypeRef, fold_out-TypeRef}
 use Rattle.gql_ast_values.specs.declared.type_ref.TypeRef as ref
 use Rattle.gql_ast_values.specs.declared.type_ref.TypeRef.TheOpen.{TypeRef-F}

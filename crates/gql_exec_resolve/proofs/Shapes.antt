@@ -1,5 +1,5 @@
 -- Values of the data at one level of a type, and lists of them.
-use Rattle.std.proofs.Common.{◌≡◌, List, [], ◌∷◌, map, Option, Some, None, Result, refl, sym, ap, ◌∙◌}
+use Rattle.std.proofs.Common.{◌≡◌, List, [], ◌∷◌, map, Option, Some, None, Result, refl, ap, ◌∙◌}
 use Rattle.std.specs.Prelude.{option_and_then, codes}
 use Rattle.jb_tree.specs.Value.{array_items, object_members}
 use Rattle.gql_ast_definitions.specs.declared.field_definition.FieldDefinition.{FieldDefinition}
@@ -13,9 +13,10 @@ use Rattle.gql_ast_values.specs.declared.type_ref.TypeRef.{TypeRef, out-TypeRef,
 use Rattle.gql_ast_values.specs.declared.type_ref.TypeRef as ref
 use Rattle.gql_ast_values.specs.declared.type_ref.TypeRef.TheOpen.{TypeRef-F}
 use Rattle.gql_exec_complete.specs.Lists.{item_level}
-use Rattle.gql_exec_places.specs.Resolved.{Meaning, Meanings, answer_then}
+use Rattle.gql_exec_places.specs.Resolved.{Meaning, answer_then}
 use Rattle.gql_exec_resolve.specs.Data.{Data}
 use Rattle.gql_exec_resolve.specs.DataMeaning.{failure_text, text_member, unless_failed, shaped_items, list_or_leaf, object_or_leaf, shape_level, shaped, unfailed_level, unfailed_at, unfailed, composite_name, value_of}
+use Rattle.gql_exec_resolve.specs.NamedTypes.{type_named}
 use Rattle.gql_exec_resolve.specs.Meaning.{item_by, meanings_by, itself}
 use Rattle.gql_exec_resolve.specs.declared.resolve_error.FieldError.{FieldError}
 use Rattle.gql_exec_resolve.specs.declared.resolved_value.ResolvedValue.{ResolvedValue}
@@ -58,7 +59,7 @@ pub simple-is-leaf : (schema : Schema) (definition : Option FieldDefinition) (va
     → array_items value ≡ None → object_members value ≡ None → value_of schema definition value ≡ gives_leaf value
 simple-is-leaf schema None value no-array no-object = unfailed-is value (gives_leaf value) no-object
 simple-is-leaf schema (Some definition) value no-array no-object =
-    let composite = composite_name schema (named_type definition.ty) in
+    let composite = composite_name (type_named schema definition.ty) (named_type definition.ty) in
     shaped-is composite definition.ty value
     ∙ unfailed-is value (unfailed composite definition.ty value) no-object
     ∙ leaf-at composite (item_type_of definition.ty) value no-array no-object

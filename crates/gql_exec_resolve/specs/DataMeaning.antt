@@ -8,11 +8,11 @@ use Rattle.jb_tree.specs.declared.value.Value.TheVariants.{Null}
 use Rattle.jb_tree.specs.Value.{array_items, object_members, string_text}
 use Rattle.gql_ast_base.specs.Names.{Named}
 use Rattle.gql_ast_definitions.specs.declared.field_definition.FieldDefinition.{FieldDefinition}
-use Rattle.gql_ast_values.specs.declared.type_ref.TypeRef.{TypeRef, fold-TypeRef, out-TypeRef}
+use Rattle.gql_ast_values.specs.declared.type_ref.TypeRef.{TypeRef, fold-TypeRef}
 use Rattle.gql_ast_values.specs.declared.type_ref.TypeRef.TheOpen.{TypeRef-F}
 use Rattle.gql_document_types.specs.NamedType.{named_type}
 use Rattle.gql_schema_types.specs.Schemas.{field_of}
-use Rattle.gql_schema_types.specs.Types.{type_called, is_composite}
+use Rattle.gql_schema_types.specs.Types.{is_composite}
 use Rattle.gql_schema_types.specs.declared.schema.Schema.{Schema}
 use Rattle.gql_schema_types.specs.declared.types.ExtendedType.{ExtendedType}
 use Rattle.gql_schema_types.specs.declared.types.ObjectType.{ObjectType}
@@ -20,6 +20,7 @@ use Rattle.gql_exec_places.specs.Resolved.{Meaning, Meanings, gives_leaf, gives_
 use Rattle.gql_exec_complete.specs.Lists.{item_type_of}
 use Rattle.gql_exec_resolve.specs.Data.{Data}
 use Rattle.gql_exec_resolve.specs.Meaning.{Members}
+use Rattle.gql_exec_resolve.specs.NamedTypes.{type_named_by}
 
 -- the text of a member, where it is one
 abbrev pub text_member : List ℕ → Members → Option (List ℕ)
@@ -78,18 +79,21 @@ module _ (composite : Option Named) where
 abbrev pub is_composite_type : Option ExtendedType → Bool
 is_composite_type found = option_map_or is_composite found false
 
--- the name, where it is that of an object, an interface or a union type
-abbrev pub composite_name : Schema → Named → Option Named
-composite_name schema name = if is_composite_type (type_called name.text schema.types) then Some name else None
+-- the name, where it is that of an object, an interface or a union type, which is given as the schema has it
+abbrev pub composite_name : Option ExtendedType → Named → Option Named
+composite_name named name = if is_composite_type named then Some name else None
 
 -- a value at no type
 abbrev pub untyped : Value → Meaning Data
 untyped value = unless_failed (failure_text value) (gives_leaf value)
 
--- a value of the data at a field, or at none
+-- a value of the data at a field, whose type names this type of the schema, or at none
+abbrev pub value_at : Option FieldDefinition → Option ExtendedType → Value → Meaning Data
+value_at (Some definition) named value = shaped (composite_name named (named_type definition.ty)) definition.ty value
+value_at None named value = untyped value
+
 abbrev pub value_of : Schema → Option FieldDefinition → Value → Meaning Data
-value_of schema (Some definition) value = shaped (composite_name schema (named_type definition.ty)) definition.ty value
-value_of schema None value = untyped value
+value_of schema definition value = value_at definition (type_named_by schema definition) value
 
 abbrev pub value_or_null : Schema → Option FieldDefinition → Option Value → Meaning Data
 value_or_null schema definition (Some value) = value_of schema definition value

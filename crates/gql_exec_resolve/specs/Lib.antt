@@ -1,3 +1,4 @@
+pub mod NamedTypes
 pub mod Meaning
 pub mod Objects
 pub mod ResolveInfo

@@ -1,10 +1,10 @@
 -- What a resolver is told, whatever the private fields are.
-use Rattle.std.specs.Prelude.{◌≡◌, ℕ, List}
+use Rattle.std.specs.Prelude.{◌≡◌, ℕ, List, Option}
 use Rattle.std.specs.Borrow.{Bor}
-use Rattle.jb_tree.specs.declared.value.Value.{Value}
 use Rattle.gql_ast_definitions.specs.declared.field_definition.FieldDefinition.{FieldDefinition}
 use Rattle.gql_document_types.specs.declared.document.ExecutableDocument.{ExecutableDocument}
 use Rattle.gql_document_types.specs.declared.selection.Field.{Field}
+use Rattle.gql_schema_types.specs.Schemas.{field_of}
 use Rattle.gql_schema_types.specs.declared.implementers.Implementers.{Implementers}
 use Rattle.gql_schema_types.specs.declared.schema.Schema.{Schema}
 use Rattle.gql_schema_types.specs.declared.types.ObjectType.{ObjectType}
@@ -30,6 +30,10 @@ field_name_of info = info.field.now.name.text
 abbrev pub field_definition_of : ResolveInfo → FieldDefinition
 field_definition_of info = info.field.now.definition
 
+-- the definition of the field on the object type, where it has one
+abbrev pub definition_on_type : ResolveInfo → Option FieldDefinition
+definition_on_type info = field_of (schema_of info) (object_type_of info).name.text (field_name_of info)
+
 abbrev pub field_selections_of : ResolveInfo → List (Bor Field)
 field_selections_of info = info.fields.now
 
@@ -46,3 +50,14 @@ pub record IsInfo (info : ResolveInfo) (request : RequestInfo) (T : ObjectType) 
   pub definition : field_definition_of info ≡ field.definition
   pub selections : field_selections_of info ≡ fields
   pub values : arguments_of info ≡ arguments
+
+-- it tells the same as another
+pub record TellsSame (info other : ResolveInfo) : Type 0 where
+  pub schema : schema_of info ≡ schema_of other
+  pub implementers : implementers_of info ≡ implementers_of other
+  pub document : document_of info ≡ document_of other
+  pub object_type : object_type_of info ≡ object_type_of other
+  pub field_name : field_name_of info ≡ field_name_of other
+  pub definition : field_definition_of info ≡ field_definition_of other
+  pub selections : field_selections_of info ≡ field_selections_of other
+  pub values : arguments_of info ≡ arguments_of other

@@ -10,13 +10,12 @@ ghost use Rattle.std.specs.Option.{option_copied};
 
 use crate::data_shape::{DataShape, leaf};
 use crate::resolve_error::ResolveError;
-use crate::resolve_info::ResolveInfo;
+use crate::resolve_info::{FieldOnType, ResolveInfo};
 use crate::resolved_value::ResolvedValue;
 use crate::resolver::ObjectValue;
 use gql_ast_base::Name;
-use gql_ast_definitions::FieldDefinition;
 use gql_document_types::innermost;
-use gql_schema_types::{ExtendedType, Schema};
+use gql_schema_types::ExtendedType;
 use jb_tree::{Map, Value};
 use std::alloc::Global;
 use std::marker::Model;
@@ -112,7 +111,7 @@ impl<'d> ObjectValue for DataObject<'d> {
 }
 
 /// A value of the data at the field that is asked for. A value that is no list and no object is a leaf at any field, so that
-/// its definition is not looked for.
+/// its definition is not asked for.
 fn field_value<'d>(
     alloc: Global,
     info: &ResolveInfo<'_>,
@@ -124,30 +123,27 @@ fn field_value<'d>(
     if is_simple(value) {
         return leaf(alloc, value);
     }
-    let schema = info.schema().as_ref();
-    let definition = schema.type_field(info.object_type().name.as_str(), info.field_name());
-    value_of(alloc, schema, definition, value)
+    value_at(alloc, info.on_object_type(), value)
 }
 
 /// Whether a value is no list and no object.
 fn is_simple(value: &Value) -> bool
     ensures { IsTrue result → (array_items value.now ≡ None) × (object_members value.now ≡ None) }
 {
-    !matches!(value, Value::Array(_) | Value::Object(_))
+    !value.is_array() && !value.is_object()
 }
 
-/// A value of the data at a field with this definition.
-fn value_of<'d>(
+/// A value of the data at a field.
+fn value_at<'d>(
     alloc: Global,
-    schema: &Schema,
-    definition: Option<&FieldDefinition>,
+    field: FieldOnType<'_>,
     value: &'d Value,
 ) -> Result<ResolvedValue<DataObject<'d>>, ResolveError>
-    ensures { Answers itself result (spec.value_of schema.now (option_copied definition.entry) value.now) }
+    ensures { Answers itself result (spec.value_at (option_copied field.entry.definition) (option_copied field.entry.named) value.now) }
 {
-    match definition {
+    match field.definition {
         Some(definition) => {
-            let composite = composite_name(schema, innermost(&definition.ty));
+            let composite = composite_name(field.named, innermost(&definition.ty));
             let shape = DataShape { alloc, composite };
             shape.shaped(&definition.ty, value)
         }
@@ -161,11 +157,11 @@ fn value_of<'d>(
     }
 }
 
-/// The name, where it is that of an object, an interface or a union type.
-fn composite_name<'t>(schema: &Schema, name: &'t Name) -> Option<&'t Name>
-    ensures { option_copied result ≡ spec.composite_name schema.now name.now }
+/// The name, where it is that of an object, an interface or a union type, which is given as the schema has it.
+fn composite_name<'t>(named: Option<&ExtendedType>, name: &'t Name) -> Option<&'t Name>
+    ensures { option_copied result ≡ spec.composite_name (option_copied named.entry) name.now }
 {
-    if is_composite(schema.types.get(name.as_str())) {
+    if is_composite(named) {
         Some(name)
     } else {
         None

@@ -88,7 +88,7 @@ impl<'t> DataShape<'t> {
     ) -> Result<ResolvedValue<DataObject<'d>>, ResolveError>
         ensures { Answers itself result (gives_list (spec.shaped_items (spec.shaped (composite_of self.now) item.now) values.now)) }
     {
-        let mut items = Listed::new(self.alloc);
+        let mut items = Listed::with_capacity(self.alloc, values.len())?;
         for value in values.as_slice() {
             items.push(self.item(item, value)?)?;
         }

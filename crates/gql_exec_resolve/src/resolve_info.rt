@@ -1,12 +1,14 @@
 //! What resolvers are told.
 
-ghost use Rattle.std.specs.Prelude.{◌≡◌};
-ghost use Rattle.gql_exec_resolve.specs.ResolveInfo as spec;
+ghost use Rattle.std.specs.Prelude.{◌≡◌, Some};
+ghost use Rattle.std.specs.Option.{ForSome, option_copied};
+ghost use Rattle.gql_schema_types.specs.Schemas.{field_of};
+ghost use Rattle.gql_exec_resolve.specs.NamedTypes.{type_named, type_named_by};
 
 use gql_ast_definitions::FieldDefinition;
 use gql_diag::{JsonMap, Valid};
-use gql_document_types::{ExecutableDocument, Field};
-use gql_schema_types::{ImplementersMap, ObjectType, Schema};
+use gql_document_types::{ExecutableDocument, Field, innermost};
+use gql_schema_types::{ExtendedType, ImplementersMap, ObjectType, Schema};
 use jb_text::Listed;
 
 /// What all resolvers of an execution are told alike.
@@ -18,6 +20,9 @@ pub struct RequestInfo<'a> {
 }
 
 /// What a resolver is told of the field that is asked for (GraphQL October 2021, section 6.4.2).
+///
+/// It may also keep the field's definition on the object type, with the type that this names. No resolver sees whether it
+/// does: plain data, which needs both, looks up what is not kept.
 #[derive(Clone, Copy)]
 pub struct ResolveInfo<'a> {
     request: &'a RequestInfo<'a>,
@@ -25,9 +30,23 @@ pub struct ResolveInfo<'a> {
     field: &'a Field,
     fields: &'a Listed<&'a Field>,
     arguments: &'a JsonMap,
+    definition: Option<&'a FieldDefinition>,
+    named: Option<&'a ExtendedType>,
+    ghost defined: { ForSome definition (λ d. field_of request.now.schema.now object_type.now.name.text field.now.name.text ≡ Some d.now) },
+    ghost of_its_name: { ForSome definition (λ d. option_copied named ≡ type_named request.now.schema.now d.now.ty) },
+}
+
+/// A field as an object type has it: its definition, where the type has the field, and the type of the schema that the
+/// definition names, within all lists.
+#[derive(Clone, Copy)]
+pub(crate) struct FieldOnType<'a> {
+    pub(crate) definition: Option<&'a FieldDefinition>,
+    pub(crate) named: Option<&'a ExtendedType>,
 }
 
 impl<'a> ResolveInfo<'a> {
+    ghost use Rattle.gql_exec_resolve.specs.ResolveInfo as spec;
+
     /// What a resolver is told: execution makes one for each field, and a test of a resolver may. The fields are those of
     /// one response key, and the first of them is given apart.
     #[must_use]
@@ -46,6 +65,31 @@ impl<'a> ResolveInfo<'a> {
             field,
             fields,
             arguments,
+            definition: None,
+            named: None,
+        }
+    }
+
+    /// The same, where the field's definition on the object type is known, and the type of the schema that it names within all
+    /// lists: plain data then looks neither up.
+    #[must_use]
+    pub fn planned(
+        self,
+        definition: &'a FieldDefinition,
+        named: Option<&'a ExtendedType>,
+    ) -> ResolveInfo<'a>
+        requires definition { spec.definition_on_type self ≡ Some definition.now }
+        requires named { option_copied named ≡ type_named (spec.schema_of self) definition.now.ty }
+        ensures { spec.TellsSame result self.entry }
+    {
+        ResolveInfo {
+            request: self.request,
+            object_type: self.object_type,
+            field: self.field,
+            fields: self.fields,
+            arguments: self.arguments,
+            definition: Some(definition),
+            named,
         }
     }
 
@@ -111,5 +155,33 @@ impl<'a> ResolveInfo<'a> {
         ensures { result.now ≡ spec.arguments_of self.now }
     {
         self.arguments
+    }
+
+    /// The field as the object type has it, which is looked up where it is not kept.
+    pub(crate) fn on_object_type(&self) -> FieldOnType<'a>
+        ensures definition { option_copied result.definition ≡ spec.definition_on_type self.now }
+        ensures named { option_copied result.named ≡ type_named_by (spec.schema_of self.now) (option_copied result.definition) }
+    {
+        match self.definition {
+            Some(definition) => FieldOnType {
+                definition: Some(definition),
+                named: self.named,
+            },
+            None => self.looked_up(),
+        }
+    }
+
+    /// The same, looked up.
+    fn looked_up(&self) -> FieldOnType<'a>
+        ensures definition { option_copied result.definition ≡ spec.definition_on_type self.now }
+        ensures named { option_copied result.named ≡ type_named_by (spec.schema_of self.now) (option_copied result.definition) }
+    {
+        let schema = self.schema().as_ref();
+        let definition = schema.type_field(self.object_type.name.as_str(), self.field_name());
+        let named = match definition {
+            Some(definition) => schema.types.get(innermost(&definition.ty).as_str()),
+            None => None,
+        };
+        FieldOnType { definition, named }
     }
 }

@@ -1,6 +1,8 @@
 use Rattle.std.proofs.Common.{rules, arith, ◌≡◌, ◌+◌, ◌*◌, ◌<◌, ◌≤◌, [], ◌∷◌, length, suc, Some, Err, inr, sym, ap, ◌∙◌, subst, refl, drop}
 use Rattle.std.proofs.lemmas.List.{append-nil, length-map}
 use Rattle.gql_ast_definitions.specs.declared.field_definition.FieldDefinition.{FieldDefinition}
+use Rattle.gql_schema_types.specs.declared.schema.Schema.{Schema}
+use Rattle.gql_exec_complete.specs.Fit.{type_of_name}
 use Rattle.gql_exec_complete.specs.Seen.{seen, misfit_seen, IsFitOfObject}
 use Rattle.gql_exec_places.specs.Execute.{completed, items_made, one_array, settled}
 use Rattle.gql_exec_places.specs.Resolved.{gives_leaf, gives_list, gives_object, gives_skip}
@@ -25,6 +27,7 @@ use Rattle.gql_exec_request.proofs.Heights.{top}
 use Rattle.gql_exec_request.proofs.Items.{IsCompleting, completing-begun, completing-more, completing-stops, completing-ends}
 use Rattle.gql_exec_request.proofs.Measures.{schema_in, measure, definition-top}
 use Rattle.gql_exec_request.proofs.Misfits.{fits-list, same-misfit, same-object}
+use Rattle.gql_exec_request.proofs.NamedTypes.{item-named}
 use Rattle.gql_exec_request.proofs.Planned.{changed-key, object-typed, here}
 use Rattle.gql_exec_request.proofs.Objects.{object-less, object-parts, object-grown, object-growth, object-made, object-null}
 use Rattle.gql_exec_request.proofs.Values.{meaning-leaf, meaning-object, meaning-skip}
@@ -106,6 +109,10 @@ complete_value-returns-in-SkipForPartialExecution g t c =
     }
 
 -- ---- an object
+
+pub complete_object-fitting_object-requires : goal.complete_object-fitting_object-requires
+complete_object-fitting_object-requires g t c =
+    c.requires.named ∙ ap (λ (schema : Schema). type_of_name schema c.args.place.now.ty.now) (sym c.schema.ensures)
 
 pub complete_object-execute_object-requires : goal.complete_object-execute_object-requires
 complete_object-execute_object-requires g t c =
@@ -229,7 +236,7 @@ complete_items-loop-item-init g t c =
       planned = c.requires.planned;
       grows = none-grown c.args.self.now c.args.steps.now c.args.nodes.now _;
       among = λ turn gives. subst (λ ms. AnyGives w (Turns w (sets_below c.args.place.now.group.now) turn) (item_type list.type) ms) (ap (meanings_by see) c.into_iter-item-iterator.ensures.into_iter_gives) gives;
-      so_far = subst (λ vs. IsCompleting w list vs before before 0 left all) (sym c.new-values.ensures) (completing-begun w list before left all (ap (meanings_by see) c.into_iter-item-iterator.ensures.into_iter_gives));
+      so_far = subst (λ vs. IsCompleting w list vs before before 0 left all) (sym c.in_ok-values.ensures) (completing-begun w list before left all (ap (meanings_by see) c.into_iter-item-iterator.ensures.into_iter_gives));
     }
 
 pub complete_items-returns-in-NullPasses : goal.complete_items-returns-in-NullPasses
@@ -272,12 +279,12 @@ complete_items-loop-item-preserved g t c =
           (meanings_by see c.loop-item.item-iterator) (meanings_by see c.next.new.self) (meanings_by see c.args.items) refl refl (ap (meanings_by see) c.in-Some.ensures.steps)
           c.loop-item.invariant.among c.args.nodes.now c.loop-item.nodes c.complete_item.new.nodes c.loop-item.invariant.grows c.in_ok-value.ensures.grows;
       among = λ turn gives. c.loop-item.invariant.among turn (subst (λ ms. AnyGives w (Turns w (sets_below c.args.place.now.group.now) turn) (item_type list.type) ms) (sym (ap (meanings_by see) c.in-Some.ensures.steps)) (inr gives));
-      so_far = elim c.match-branch-2.branch [
+      so_far = elim c.match-branch-3.branch [
         | complete_items-in-Value+in_ok-push-in-Value b ↦
-            completing-more w list c.loop-item.values c.match-branch-2.values (b.in-Value.value ∷ []) c.loop-item.errors before after c.loop-item.index left rest all m (made_of c.in_ok-value.field-0)
+            completing-more w list c.loop-item.values c.match-branch-3.values (b.in-Value.value ∷ []) c.loop-item.errors before after c.loop-item.index left rest all m (made_of c.in_ok-value.field-0)
             (ap made_of b.in-Value.is) (ap (meanings_by see) c.in-Some.ensures.steps) (b.values-is ∙ b.in_ok-push-in-Value.ensures.pushed) c.in_ok-value.ensures.made c.loop-item.invariant.so_far
         | complete_items-in-LeftOut b ↦
-            completing-more w list c.loop-item.values c.match-branch-2.values [] c.loop-item.errors before after c.loop-item.index left rest all m (made_of c.in_ok-value.field-0)
+            completing-more w list c.loop-item.values c.match-branch-3.values [] c.loop-item.errors before after c.loop-item.index left rest all m (made_of c.in_ok-value.field-0)
             (ap made_of b.in-LeftOut.is) (ap (meanings_by see) c.in-Some.ensures.steps) (b.values-is ∙ sym (append-nil c.loop-item.values)) c.in_ok-value.ensures.made c.loop-item.invariant.so_far
       ];
     }
@@ -292,6 +299,7 @@ pub complete_item-complete_value-requires : goal.complete_item-complete_value-re
 complete_item-complete_value-requires g t c =
     let lower : height c.args.list.now.ty.now ≡ suc (height c.item_of.result.now) = height-item c.args.list.now.ty.now c.requires.list ∙ ap (λ u. suc (height u)) (sym c.item_of.ensures) in
     let smaller : measure c.args.self.now (group_of c.args.list.now.group.now).pieces (4 * height c.item_of.result.now + 3) < measure c.args.self.now (group_of c.args.list.now.group.now).pieces (4 * height c.args.list.now.ty.now) = omega (arith, lower) in
+    let named = item-named c.args.self.now.request.schema.now c.args.list.now c.item_of.result.now c.requires.list c.item_of.ensures c.requires.named in
     search rules
 
 pub complete_item-returns-in-Ok : goal.complete_item-returns-in-Ok

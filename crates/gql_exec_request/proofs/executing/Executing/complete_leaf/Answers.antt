@@ -1,6 +1,6 @@
 use Rattle.std.proofs.Common.{◌≡◌, [], ◌∷◌, Some, None, refl, sym, ap, ◌∙◌}
 use Rattle.std.proofs.lemmas.Result.{IfOk-weaker}
-use Rattle.gql_exec_complete.specs.Fit.{leaf_misfit}
+use Rattle.gql_exec_complete.specs.Fit.{leaf_misfit_at}
 use Rattle.gql_exec_complete.specs.Seen.{seen, misfit_seen}
 use Rattle.gql_exec_places.specs.Execute.{completed, execute, settled}
 use Rattle.gql_exec_places.specs.Fault.{fault_error, told_at}
@@ -20,7 +20,7 @@ returns-in-Some g c =
     let before = c.args.errors.now in
     let after = c.refuse.new.errors in
     let is : w.misfit spot.type (gives_leaf v) ≡ Some misfit =
-    ap (λ schema. leaf_misfit schema spot.type v) (sym c.schema.ensures) ∙ sym c.in_ok-leaf_misfit.ensures ∙ ap misfit_seen c.in-Some.is in
+    ap (λ named. leaf_misfit_at named spot.type v) (sym c.requires) ∙ sym c.in_ok-leaf_misfit.ensures ∙ ap misfit_seen c.in-Some.is in
     IfOk-weaker c.refuse.result
     (λ done. IsMade (made_of done) before after (settled spot (None, fault_error w spot (told_at (w.span_of spot.group) misfit) ∷ [])))
     (λ done. MakesBelow w (group_of c.args.place.now.group.now) (made_of done) before after (λ run. completed w run spot (gives_leaf v)))
