@@ -6,6 +6,7 @@
 //! the parts of what is selected on them. A [`Planner`] begins a plan, and adds the node of a type when it first comes.
 #![tactic(auto)]
 
+mod kept_arguments;
 mod plan;
 mod planned_field;
 mod planner;

@@ -4,6 +4,7 @@ ghost use Rattle.std.specs.Prelude.{◌≡◌, IfOk, IfSome};
 ghost use Rattle.std.specs.Option.{option_copied};
 ghost use Rattle.gql_exec_plan.specs.Plan as spec;
 
+use crate::kept_arguments::are_kept;
 use crate::planner::Planner;
 use gql_ast_definitions::FieldDefinition;
 use gql_ast_values::TypeRef;
@@ -23,8 +24,8 @@ pub struct PlannedField<'d> {
     pub definition: &'d FieldDefinition,
     /// The type of the schema that the definition's type names, within all lists.
     pub named: Option<&'d ExtendedType>,
-    /// The coerced arguments of the field, or the fault of the first that fails. Where they are not kept, they are coerced for
-    /// each object.
+    /// The coerced arguments of the field, or the fault of the first that fails. Where they are too large to be kept, they are
+    /// coerced for each object.
     pub arguments: Option<Result<JsonMap, ArgumentFault>>,
 }
 
@@ -77,8 +78,9 @@ impl<'d> Planner<'d> {
         ensures { IfOk result (λ kept. IfSome kept (λ arguments.
             arguments ≡ spec.arguments_by (spec.ground_of self.now) definition.now field.now)) }
     {
-        if self.keeps_arguments {
-            Ok(Some(self.arguments(definition, field)?))
+        let arguments = self.arguments(definition, field)?;
+        if are_kept(&arguments) {
+            Ok(Some(arguments))
         } else {
             Ok(None)
         }

@@ -28,8 +28,6 @@ pub struct Planner<'d> {
     pub document: &'d ExecutableDocument,
     pub operation: &'d Operation,
     pub variables: &'d Valid<JsonMap>,
-    /// Whether the coerced arguments of fields are kept.
-    pub keeps_arguments: bool,
 }
 
 impl<'d> Planner<'d> {

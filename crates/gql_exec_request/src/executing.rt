@@ -44,8 +44,6 @@ pub(crate) struct Executing<'s> {
     pub(crate) request: RequestInfo<'s>,
     pub(crate) operation: &'s Operation,
     pub(crate) variables: &'s Valid<JsonMap>,
-    /// Whether coerced arguments are kept for all objects of a type.
-    pub(crate) keeps_arguments: bool,
     /// Whether fields that tell of the schema are asked for as any other.
     pub(crate) introspection: bool,
 }
@@ -75,7 +73,6 @@ impl<'s> Executing<'s> {
             document: self.document(),
             operation: self.operation,
             variables: self.variables,
-            keeps_arguments: self.keeps_arguments,
         }
     }
 

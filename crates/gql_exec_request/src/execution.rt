@@ -15,7 +15,6 @@ ghost use Rattle.gql_exec_world.specs.Response.{IsExecuted, IsExplained};
 ghost use Rattle.gql_rules_graph.specs.Cycles.{IsOnCycle};
 
 use crate::executing::Executing;
-use crate::kept_arguments::are_simple;
 use crate::path::Path;
 use gql_diag::{JsonMap, RequestError, Valid};
 use gql_document_types::{ExecutableDocument, Operation};
@@ -355,7 +354,6 @@ impl<'a> Execution<'a> {
             },
             operation,
             variables,
-            keeps_arguments: are_simple(variables.as_ref()),
             introspection: self.introspection,
         };
         let mut pieces = Pieces::new(alloc);

@@ -10,7 +10,6 @@ mod completed;
 mod executing;
 mod execution;
 mod faults;
-mod kept_arguments;
 mod partial;
 mod path;
 mod place;

@@ -39,7 +39,6 @@ returns g c =
       request = record { schema = c.args.self.now.schema; implementers_map = c.args.implementers_map; document = c.args.self.now.document };
       operation = c.args.operation;
       variables = c.args.variables;
-      keeps_arguments = c.are_simple.result;
       introspection = c.args.self.now.introspection;
     } in
     let few = subst (λ it. c.parts.new.steps ≤ c.args.steps.now + most_looks it) c.planner.ensures c.parts.ensures.looks in (
