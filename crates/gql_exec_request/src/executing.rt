@@ -217,7 +217,13 @@ impl<'s> Executing<'s> {
         ensures grows { OnOk result (NodesGrow self.now steps.old steps.new nodes.old nodes.new
             (opened.MakesTurn (world_of self.now O.type_of O.resolves) (spot_of place.now) (gives_object (O.seen object.now)))) }
     {
-        match fitting_object(self.alloc, self.schema(), place.named, place.ty, object.type_name()) {
+        match fitting_object(
+            self.alloc,
+            self.schema(),
+            place.named,
+            place.ty,
+            object.type_name(),
+        ) {
             Ok(object_type) => self.execute_object(
                 place,
                 object_type,
