@@ -1,5 +1,5 @@
 -- What is answered to what is wanted, step by step.
-use Rattle.std.proofs.Common.{◌≡◌, ◌≤◌, ◌+◌, ℕ, Bool, true, false, List, Option, Some, None, is_some, Result, Ok, Err, IfOk, IfErr, refl, sym, ap, subst, arith}
+use Rattle.std.proofs.Common.{◌≡◌, ◌≤◌, ◌+◌, ℕ, Bool, true, false, List, length, Option, Some, None, is_some, Result, Ok, Err, IfOk, IfErr, refl, sym, ap, subst, arith}
 use Rattle.std.specs.Borrow.{Bor}
 use Rattle.jb_text.specs.declared.refused.Refused.{Refused}
 use Rattle.jb_text.specs.declared.refused.Refused.TheVariants.{Fault, Memory}
@@ -34,6 +34,7 @@ use Rattle.gql_answer.specs.declared.refusal.Refusal.{Refusal}
 use Rattle.gql_answer.specs.declared.refusal.Refusal.TheVariants as refused
 use Rattle.gql_answer.specs.declared.response_bytes.Written.{Written}
 use Rattle.gql_answer.specs.AnswerError.{Asks, Call, HasCause, IsObjectText, wanted_with}
+use Rattle.gql_document_text_laws.specs.Selecting.{SelectsSomething}
 use Rattle.gql_answer.specs.Answered.{ExecutionLooks, IsPrint, IsResponseBy, IsResponseOver, IsResultOf, IsRoot}
 use Rattle.gql_answer.specs.Answering.{Answers, AnswersWithin}
 use Rattle.gql_answer.specs.Depths.{IsShallow, all_selections, depth_looks}
@@ -246,21 +247,36 @@ pub wrong_texts : (w : Wanted) (found : TextFaults) → AreTextsRead w.schema w.
 wrong_texts w (faults.Schema list) h r is = subst (IsCause w) (sym is) h
 wrong_texts w (faults.Document list) h r is = subst (IsCause w) (sym is) h
 
+-- an execution looks at least at the operation's own selections
+least_looks : {X : Type 0} (types : X → List ℕ) (resolves : Resolving X) (root : X) (schema : Schema) (document : ExecutableDocument) (o : Operation) (values : Members)
+    (T : ObjectType) (introspection : Bool) (before after : ℕ) → ExecutionLooks introspection types resolves root schema document o values T before after
+    → before + length o.selection_set.selections ≤ after
+least_looks types resolves root schema document o values T true before after h = h.least
+least_looks types resolves root schema document o values T false before after h = h.least
+
 module _ {X : Type 0} (types : X → List ℕ) (resolves : Resolving X) (root : X) (w : Wanted) where
   -- an operation that was performed after its depth was checked
-  pub responds : (before between after : ℕ) (meant : MeantBy w) (o : Operation) → IsChosen w meant o → IsShallow w.introspection meant.document o
+  pub responds : (before between after : ℕ) (meant : MeantBy w) (o : Operation) → IsChosen w meant o → SelectsSomething o → IsShallow w.introspection meant.document o
       → before ≤ between → between ≤ before + depth_looks w.introspection meant.document o → (result : Result Written (Refused Refusal))
       → OrCause w (Performs types resolves root w meant.schema meant.document o between after) result → IsResponse types resolves root w before after result
-  responds before between after meant o chosen shallow rises looks (Ok written) h = record {
+  responds before between after meant o chosen some shallow rises looks (Ok written) h = record {
     answered = record {
       ready = record { meant = meant; operation = o; is_chosen = chosen; is_shallow = shallow; variables = h.variables; are_coerced = h.are_coerced };
       executed = h.result.is;
     };
     errors = h.result.errors;
-    looks = record { between = between; rises = rises; depth = looks; execution = h.result.looks };
+    looks = record {
+      some =
+          let least = least_looks types resolves root meant.schema meant.document o h.variables h.result.is.root_type w.introspection between after h.result.looks in
+          omega (arith, some, rises, least);
+      between = between;
+      rises = rises;
+      depth = looks;
+      execution = h.result.looks;
+    };
   }
-  responds before between after meant o chosen shallow rises looks (Err (Fault refusal)) h = h
-  responds before between after meant o chosen shallow rises looks (Err Memory) h = tt
+  responds before between after meant o chosen some shallow rises looks (Err (Fault refusal)) h = h
+  responds before between after meant o chosen some shallow rises looks (Err Memory) h = tt
 
   -- as callers are told it
   pub answer_told : (before after : ℕ) (written : Written) → IsResponse types resolves root w before after (Ok written) → IsAnswer types resolves root w before after (Ok written.bytes)

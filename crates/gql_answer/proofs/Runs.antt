@@ -1,8 +1,9 @@
--- A chosen operation of a document that a text means begins at an object type.
+-- A chosen operation of a document that a text means begins at an object type, and selects something.
 use Rattle.std.proofs.Common.{◌≡◌, ℕ, Bool, true, false, cond, List, [], ◌∷◌, Option, Some, None, is_some, refl, subst}
 use Rattle.std.specs.List.{All, find}
 use Rattle.std.proofs.lemmas.List.Elements.{All-head, All-tail}
 use Rattle.gql_document_text.specs.Running.{AreOnRoots, IsOnRoot}
+use Rattle.gql_document_text_laws.specs.Selecting.{SelectSomething, SelectsSomething}
 use Rattle.gql_document_types.specs.ChosenOperation.{chosen, has_name}
 use Rattle.gql_document_types.specs.declared.document.ExecutableDocument.{ExecutableDocument}
 use Rattle.gql_document_types.specs.declared.operation.Operation.{Operation}
@@ -28,3 +29,6 @@ chosen_holds P None (first ∷ second ∷ others) o all h = absurd (some_or_none
 pub rooted : (S : Schema) (Q : ExecutableDocument) (name : Option (List ℕ)) (o : Operation) → AreRootsObjects S → AreOnRoots S Q → chosen name Q.operations ≡ Some o
     → is_some (object_of S o.selection_set.ty.text) ≡ true
 rooted S Q name o roots on h = roots o.operation_type o.selection_set.ty (chosen_holds (IsOnRoot S) name Q.operations o on h)
+
+pub selecting : (Q : ExecutableDocument) (name : Option (List ℕ)) (o : Operation) → SelectSomething Q → chosen name Q.operations ≡ Some o → SelectsSomething o
+selecting Q name o some h = chosen_holds SelectsSomething name Q.operations o some h

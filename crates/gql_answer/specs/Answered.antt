@@ -1,5 +1,5 @@
 -- What a response says.
-use Rattle.std.specs.Prelude.{◌≡◌, ◌≤◌, ◌+◌, ℕ, Bool, true, false, List, length, Some}
+use Rattle.std.specs.Prelude.{◌≡◌, ◌<◌, ◌≤◌, ◌+◌, ℕ, Bool, true, false, List, length, Some}
 use Rattle.jb_print.specs.Compact.{compact}
 use Rattle.gql_document_types.specs.declared.document.ExecutableDocument.{ExecutableDocument}
 use Rattle.gql_document_types.specs.declared.operation.Operation.{Operation}
@@ -65,9 +65,11 @@ pub record Answered {X : Type 0} (type_of : X → List ℕ) (resolves : Resolvin
   pub ready : Ready wanted
   pub executed : IsExecutionOf wanted.introspection type_of resolves root ready.meant.schema ready.meant.document ready.operation ready.variables bytes
 
--- The looks at selections: those of the depth check, where introspection is on, at most one at each; and then those of the execution.
+-- The looks at selections, of which there is at least one: those of the depth check, where introspection is on, at most one at each;
+-- and then those of the execution.
 pub record AnswerLooks {X : Type 0} {type_of : X → List ℕ} {resolves : Resolving X} {root : X} {wanted : Wanted} {bytes : List ℕ}
     (answered : Answered type_of resolves root wanted bytes) (before after : ℕ) : Type 0 where
+  pub some : before < after
   pub between : ℕ
   pub rises : before ≤ between
   pub depth : between ≤ before + depth_looks wanted.introspection answered.ready.meant.document answered.ready.operation

@@ -30,8 +30,8 @@ use std::sync::ledger::Ledger;
 /// deep. The paths of the response's errors are those of its data, their locations those of the query's text. With
 /// `introspection`, `__schema` and `__type` tell of the schema (section 4), and the operation's depth in its types is checked;
 /// without it they are failures. `steps` counts the looks at selections, of that check and of the execution: at least those of the
-/// operation's own set, and for the check and for each way of response keys and object types from the root to an object at most
-/// all of the operation and the fragments.
+/// operation's own set, which are one or more, and for the check and for each way of response keys and object types from the root
+/// to an object at most all of the operation and the fragments.
 ///
 /// # Errors
 ///
@@ -61,8 +61,8 @@ pub fn answer<O: ObjectValue, L: Ledger>(
     root: &O,
     steps: &mut Steps<L>,
 ) -> Result<Bytes, AnswerError>
-    // The depth check looks at each selection of the operation and of the fragments at most once, and the execution once for each
-    // way of response keys and object types to its objects.
+    // At least one look is taken. The depth check looks at each selection of the operation and of the fragments at most once, and
+    // the execution once for each way of response keys and object types to its objects.
     ensures answered { IfOk result (AnswersWithin O.type_of O.resolves (O.seen root.now)
         (call_of schema.now query.now operation_name.entry variables.now introspection) steps.old steps.new) }
 

@@ -15,6 +15,7 @@ use crate::steps_before::{check_depth, choose, coerce};
 use crate::wanted::Wanted;
 use gql_diag::{JsonMap, Valid};
 use gql_document_text::laws as document_laws;
+use gql_document_text_laws::laws as selection_laws;
 use gql_document_types::Operation;
 use gql_exec_request::Execution;
 use gql_exec_resolve::ObjectValue;
@@ -75,6 +76,7 @@ fn respond_to<O: ObjectValue, L: Ledger>(
     requires chosen { chosen (text_of wanted.now.operation_name) texts.now.document.operations ≡ Some operation.now }
     ensures answered { IsResponse O.type_of O.resolves (O.seen root.now) (wanted_by wanted.now) steps.old steps.new result }
 {
+    selection_laws::operations_select_something();
     match check_depth(alloc, wanted, texts, operation, steps) {
         Ok(()) => perform(alloc, wanted, texts, operation, root, steps),
         Err(refused) => Err(refused),

@@ -1,4 +1,5 @@
 mod Replies
+mod SelfTests
 mod Outputs
 mod Words
 mod Promise

@@ -1,5 +1,5 @@
 -- The outputs of tasks.
-use Rattle.std.proofs.Common.{◌≡◌, ℕ, List, length, Result, Ok, Err, IfOk, sym, ap, subst, inl, inr}
+use Rattle.std.proofs.Common.{◌≡◌, ◌<◌, ◌≤◌, ◌+◌, ◌^◌, ℕ, List, length, Result, Ok, Err, IfOk, sym, ap, subst, inl, inr}
 use Rattle.gql_answer.specs.declared.response_bytes.Written.{Written}
 use Rattle.gql_request.specs.SelfTest.{self_test}
 use Rattle.gql_engine.specs.declared.output.Output.{Output}
@@ -10,6 +10,7 @@ use Rattle.gql_engine.specs.declared.task.Wish.{Wish}
 use Rattle.gql_engine.specs.declared.task.Wish.TheVariants.{Answer, Check}
 use Rattle.gql_engine.specs.Output.{IsMeasured, IsOutput, IsOutputOf, summary}
 use Rattle.gql_engine.specs.Reply.{AreReports, IsReply}
+use Rattle.gql_engine.proofs.SelfTests.{AsksLaw, MeansLaw, nine_at_most}
 
 clash : (status : ℕ) → status ≡ 0 → status ≡ 1 → ⊥
 clash status a b = cc (a, b)
@@ -52,20 +53,22 @@ outputs wish before after bytes reply (Ok output) h k = output_is wish before af
 outputs wish before after bytes reply (Err e) h k = tt
 
 -- that of a self-test
-measured_is : (before after items : ℕ) (bytes : List ℕ) (written : Written) (output : Output) → IsReply Answer before after (self_test items) (Response written)
+measured_is : (before after items : ℕ) (bytes : List ℕ) (written : Written) (output : Output) → after ≤ before + 9 → IsReply Answer before after (self_test items) (Response written)
     → IsMeasured items written output → IsOutput (SelfTest items) before after bytes output
-measured_is before after items bytes written output h k = record {
+measured_is before after items bytes written output few h k = record {
   either = inl k.0;
   done = λ _. record {
     within = summary items (length written.bytes) written.errors;
-    holds = record { response = written.bytes; answers = h.0; told = ap (summary items (length written.bytes)) h.1 };
+    holds = record { response = written.bytes; answers = h.0; few = few; told = ap (summary items (length written.bytes)) h.1 };
     is = k.1;
   };
   refused = λ s. absurd (clash output.status k.0 s);
 }
 
-pub measured : {E : Type 0} (before after items : ℕ) (request bytes : List ℕ) (written : Written) (result : Result Output E) → request ≡ self_test items
-    → IsReply Answer before after request (Response written) → IfOk result (IsMeasured items written) → IfOk result (IsOutput (SelfTest items) before after bytes)
-measured before after items request bytes written (Ok output) is h k =
-    measured_is before after items bytes written output (subst (λ (text : List ℕ). IsReply Answer before after text (Response written)) is h) k
-measured before after items request bytes written (Err e) is h k = tt
+pub measured : {E : Type 0} → AsksLaw → MeansLaw → (before after items : ℕ) (request bytes : List ℕ) (written : Written) (result : Result Output E) → items < 2 ^ 64
+    → request ≡ self_test items → IsReply Answer before after request (Response written) → IfOk result (IsMeasured items written)
+    → IfOk result (IsOutput (SelfTest items) before after bytes)
+measured asks means before after items request bytes written (Ok output) low is h k =
+    let reply = subst (λ (text : List ℕ). IsReply Answer before after text (Response written)) is h in
+    measured_is before after items bytes written output (nine_at_most asks means items before after written.bytes low reply.0) reply k
+measured asks means before after items request bytes written (Err e) low is h k = tt

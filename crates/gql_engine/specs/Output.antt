@@ -1,5 +1,5 @@
 -- What a task writes.
-use Rattle.std.specs.Prelude.{◌≡◌, ℕ, List, [], ◌∷◌, ◌++◌, length, ◌⊎◌, codes}
+use Rattle.std.specs.Prelude.{◌≡◌, ◌≤◌, ◌+◌, ℕ, List, [], ◌∷◌, ◌++◌, length, ◌⊎◌, codes}
 use Rattle.std.specs.Fmt.{decimal}
 use Rattle.gql_answer.specs.Answered.{errors_in}
 use Rattle.gql_answer.specs.declared.response_bytes.Written.{Written}
@@ -28,9 +28,11 @@ abbrev pub summary : ℕ → ℕ → ℕ → List ℕ
 summary items bytes errors =
     codes "selftest " ++ (decimal items ++ (codes ": " ++ (decimal bytes ++ (codes " bytes, " ++ (decimal errors ++ codes " errors")))))
 
+-- and it takes few looks, however many items there are
 pub record Measures (before after items : ℕ) (text : List ℕ) : Type 0 where
   pub response : List ℕ
   pub answers : Answers before after (self_test items) response
+  pub few : after ≤ before + 9
   pub told : text ≡ summary items (length response) (errors_in answers.answered)
 
 -- what was asked for: the response, `ok` where nothing is wrong with the texts, or the summary

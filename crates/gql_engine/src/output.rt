@@ -10,6 +10,7 @@ use bytes::{Bytes, BytesMut};
 use gql_answer::Written;
 use gql_exec_steps::Steps;
 use gql_request::self_test_text;
+use gql_self_test_laws::laws as request_laws;
 use jb_serve::{ANSWERED, REFUSED};
 use jb_tree::Memory;
 use std::alloc::{AllocError, Global};
@@ -68,6 +69,8 @@ pub(crate) fn self_test<L: Ledger>(
 ) -> Result<Output, Memory>
     ensures { (input : List ℕ) → IfOk result (IsOutput (tasks.SelfTest items) steps.old steps.new input) }
 {
+    request_laws::self_tests_ask_this();
+    request_laws::self_tests_mean_this();
     let request = self_test_text(alloc, items)?;
     match reply_to(alloc, Wish::Answer, &request, steps)? {
         Reply::Response(written) => measured(alloc, items, &written),

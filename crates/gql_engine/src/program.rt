@@ -32,7 +32,8 @@ const USAGE: &str = "usage: gql_program answer | check | selftest N\n";
 /// `source` is read to its end, then all is computed, then it is written. `answer` writes the response to the request that was
 /// read; `check` writes `ok`, or the reports of what is wrong with the request's texts; `selftest` reads nothing, answers a
 /// request of its own, and writes how long the response is. Refusals, reports and the usage line go to `sink` too. `steps`
-/// counts the looks at selections, of the depth check and of the execution.
+/// counts the looks at selections, of the depth check and of the execution: those for an answer are one or more, and those for a
+/// self-test at most nine.
 pub fn run<S: Source, K: Sink, L: Ledger>(
     alloc: Global,
     words: &[String],

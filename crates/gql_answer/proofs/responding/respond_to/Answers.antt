@@ -1,7 +1,9 @@
+use Rattle.gql_document_types.specs.ChosenOperation.{text_of}
 use Rattle.gql_answer.specs.Depths.{IsShallow}
 use Rattle.gql_answer.specs.Responding.{Responds}
 use Rattle.gql_answer.specs.Wanted.{wanted_by}
 use Rattle.gql_answer.proofs.Responses.{responds, same_refusal}
+use Rattle.gql_answer.proofs.Runs.{selecting}
 use Rattle.gql_answer.proofs.responding.respond_to.Goals as goal
 
 pub returns-in-Ok : goal.returns-in-Ok
@@ -10,6 +12,8 @@ returns-in-Ok g c =
       answered =
           responds g.O.ObjectValue.type_of g.O.ObjectValue.resolves (g.O.ObjectValue.seen c.args.root.now) (wanted_by c.args.wanted.now) c.args.steps.now c.check_depth.new.steps c.perform.new.steps
           (record { schema = c.args.texts.now.schema; document = c.args.texts.now.document; are = c.requires.meant }) c.args.operation.now c.requires.chosen
+          (selecting c.args.texts.now.document (text_of c.args.wanted.now.operation_name) c.args.operation.now
+          (c.operations_select_something.ensures c.args.texts.now.schema c.args.wanted.now.query.now c.args.texts.now.document c.requires.meant.is_document) c.requires.chosen)
           c.in-Ok.ensures.shallow c.check_depth.ensures.rises c.in-Ok.ensures.looks c.perform.result c.perform.ensures;
     }
 

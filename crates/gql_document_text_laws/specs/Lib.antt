@@ -1,0 +1,2 @@
+-- What documents that texts mean have in common.
+pub mod Selecting
