@@ -1,11 +1,10 @@
 -- Each operation of a document that a text means selects something.
-use Rattle.std.proofs.Common.{◌≡◌, ℕ, Bool, true, false, if◌then◌else◌, Option, Some, None, List, [], ◌∷◌, ◌++◌, flat_map, All, sym, ap, ◌∙◌, subst}
+use Rattle.std.proofs.Common.{◌≡◌, ℕ, Bool, true, false, if◌then◌else◌, Option, Some, None, List, [], ◌∷◌, ◌++◌, flat_map, All, sym, subst}
 use Rattle.std.specs.Option.{option_map_or}
 use Rattle.std.proofs.lemmas.List.Elements.{All-append, All-cons, All-head, All-tail, All-nil}
 use Rattle.gql_ast_base.specs.Names.{Named}
 use Rattle.gql_ast_operations.specs.declared.operation.FragmentDefinition.{FragmentDefinition}
 use Rattle.gql_ast_operations.specs.declared.operation.OperationDefinition.{OperationDefinition}
-use Rattle.gql_diag_messages.specs.declared.diagnostic_data.DiagnosticData.{DiagnosticData}
 use Rattle.gql_document_build.specs.AmbiguousAnonymousOperation.{are_several, is_ambiguous, ambiguous_anonymous_operation}
 use Rattle.gql_document_build.specs.Build.{build_faults, built_operation, faults_on, faults_inside, fragment_faults, operation_faults, operation_on, subscription_faults}
 use Rattle.gql_document_build.specs.Builders.{Taken}
@@ -16,7 +15,6 @@ use Rattle.gql_document_build.specs.SelectionFaults.{selection_faults}
 use Rattle.gql_document_build.specs.UndefinedRootOperation.{root_type, undefined_root_operation}
 use Rattle.gql_document_text.specs.DocumentText.{DocumentText, its_given}
 use Rattle.gql_document_types.specs.declared.document.ExecutableDocument.{ExecutableDocument}
-use Rattle.gql_document_types.specs.declared.operation.Operation.{Operation}
 use Rattle.gql_schema_types.specs.declared.schema.Schema.{Schema}
 use Rattle.gql_document_text_laws.specs.Selecting.{SelectSomething, SelectsSomething}
 use Rattle.gql_document_text_laws.proofs.Definitions.{NodesLaw, Selects, definitions_select}

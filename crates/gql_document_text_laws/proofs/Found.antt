@@ -1,5 +1,5 @@
 -- The nodes among selections, each by the only rule of its kind, and that each stands for something.
-use Rattle.std.proofs.Common.{◌≡◌, ◌<◌, ℕ, Bool, true, false, if◌then◌else◌, List, [], ◌∷◌, ◌++◌, length, is_some, option_to_list, Option, Some, None, refl, sym, ap, ◌∙◌, subst, arith}
+use Rattle.std.proofs.Common.{◌≡◌, ◌<◌, Bool, true, false, List, [], ◌∷◌, length, is_some, Option, Some, None, refl, sym, ap, ◌∙◌, subst, arith}
 use Rattle.gql_cst_grammar.specs.declared.word.Word.{Word}
 use Rattle.gql_cst_grammar.specs.declared.symbol.Symbol.{Symbol}
 use Rattle.gql_cst_grammar.specs.declared.rule.Rule.{Rule}
@@ -7,15 +7,14 @@ use Rattle.gql_cst_grammar.specs.declared.rule.Rule.TheVariants as rule
 use Rattle.gql_cst_grammar.specs.declared.syntax_kind.SyntaxKind.{SyntaxKind}
 use Rattle.gql_cst_grammar.specs.declared.syntax_kind.SyntaxKind.TheVariants as kind
 use Rattle.gql_cst_grammar.specs.Grammar.{declared}
-use Rattle.gql_cst_grammar.specs.Nodes.{IsAllowed, AllAllowed}
+use Rattle.gql_cst_grammar.specs.Nodes.{IsAllowed}
 use Rattle.gql_cst_grammar.specs.Row.{Row}
 use Rattle.gql_cst_grammar.specs.Rule.{kind_of}
 use Rattle.gql_cst_grammar.specs.Sentence.{Fits, IsOneOf, here, there}
 use Rattle.gql_cst.specs.Forest.{Forest, Plain, nothing, tree_then}
-use Rattle.gql_cst.specs.Leaves.{node, part_of, leaves}
-use Rattle.gql_cst.specs.Sentences.{shown}
+use Rattle.gql_cst.specs.Leaves.{node, part_of}
 use Rattle.gql_ast_base.specs.Kinds.{is_kind}
-use Rattle.gql_ast_base.specs.Parts.{Text, head, gather, child}
+use Rattle.gql_ast_base.specs.Parts.{head, gather, child}
 use Rattle.gql_ast_laws.proofs.Blind.{tree as plain_tree}
 use Rattle.gql_ast_laws.proofs.Inner.{both_ways, here as child_here, later as child_later}
 use Rattle.gql_ast_laws.proofs.Tops.{first, HasNode, has-node, same-kind}

@@ -1,5 +1,5 @@
 -- Where nothing is wrong with selections, the first of them is kept.
-use Rattle.std.proofs.Common.{◌≡◌, ◌<◌, ◌≤◌, ℕ, Bool, true, false, ◌&&◌, if◌then◌else◌, List, [], ◌∷◌, ◌++◌, length, map, flat_map, Option, Some, None, refl, sym, ap, ◌∙◌, subst, arith, length-append}
+use Rattle.std.proofs.Common.{◌≡◌, ◌<◌, Bool, true, false, ◌&&◌, if◌then◌else◌, List, [], ◌∷◌, ◌++◌, length, flat_map, Option, Some, None, refl, sym, ap, ◌∙◌, subst, arith, length-append}
 use Rattle.std.specs.Option.{option_map_or}
 use Rattle.std.proofs.lemmas.Grind.{flat_map-append}
 use Rattle.gql_ast_base.specs.Names.{Named}
@@ -7,7 +7,6 @@ use Rattle.gql_ast_definitions.specs.declared.field_definition.FieldDefinition.{
 use Rattle.gql_ast_operations.specs.declared.selection.Field.{Field}
 use Rattle.gql_ast_operations.specs.declared.selection.InlineFragment.{InlineFragment}
 use Rattle.gql_ast_operations.specs.declared.selection.Selection.{Selection}
-use Rattle.gql_diag_messages.specs.declared.diagnostic_data.DiagnosticData.{DiagnosticData}
 use Rattle.gql_document_types.specs.NamedType.{named_type}
 use Rattle.gql_document_types.specs.declared.selection.Selection.{Selection as Built}
 use Rattle.gql_document_types.specs.declared.selection.Selection.TheVariants as built
@@ -19,12 +18,12 @@ use Rattle.gql_schema_types.specs.declared.types.ExtendedType.TheVariants as typ
 use Rattle.gql_document_build.specs.BuiltSelections.{built_set, makes_of, spread_of}
 use Rattle.gql_document_build.specs.FaultsBelow.{faults_of}
 use Rattle.gql_document_build.specs.Made as made
-use Rattle.gql_document_build.specs.Nodes.{Node, FieldNode, field, inline_fragment, is_defined, is_enum, is_leaf, is_nonempty, is_of, is_open, is_scalar, nodes, nodes_of, type_inside}
+use Rattle.gql_document_build.specs.Nodes.{Node, FieldNode, field, inline_fragment, is_defined, is_enum, is_leaf, is_nonempty, is_open, is_scalar, nodes, nodes_of, type_inside}
 use Rattle.gql_document_build.specs.SelectionFaults.{node_faults, selection_faults}
 use Rattle.gql_document_build.specs.SubselectionOnEnumType.{subselection_on_enum_type}
 use Rattle.gql_document_build.specs.SubselectionOnScalarType.{subselection_on_scalar_type}
 use Rattle.gql_document_build.specs.UndefinedField.{undefined_field}
-use Rattle.gql_document_build.specs.UndefinedTypeInInlineFragmentTypeCondition.{undefined_condition, undefined_type_in_inline_fragment_type_condition}
+use Rattle.gql_document_build.specs.UndefinedTypeInInlineFragmentTypeCondition.{undefined_type_in_inline_fragment_type_condition}
 use Rattle.gql_document_text_laws.proofs.Made.{below_field, below_inline, is_nonempty-map, made_field, made_inline, made_spread, node_of, nodes_field, nodes_inline}
 use Rattle.gql_document_text_laws.proofs.Variants.{each}
 

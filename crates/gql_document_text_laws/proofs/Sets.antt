@@ -1,18 +1,15 @@
 -- A selection set of a sentence has a selection.
-use Rattle.std.proofs.Common.{◌≡◌, ◌<◌, ℕ, Bool, true, false, List, ◌++◌, length, is_some, option_to_list, Option, Some, None, refl, sym, ap, ◌∙◌, subst}
-use Rattle.std.specs.Option.{option_map}
+use Rattle.std.proofs.Common.{◌≡◌, ◌<◌, ℕ, true, ◌++◌, length, is_some, option_to_list, refl, sym, ap, ◌∙◌, subst}
 use Rattle.gql_source.specs.declared.file_id.FileId.{FileId}
 use Rattle.gql_cst_grammar.specs.declared.rule.Rule.TheVariants as rule
 use Rattle.gql_cst_grammar.specs.declared.syntax_kind.SyntaxKind.{SyntaxKind}
 use Rattle.gql_cst_grammar.specs.declared.syntax_kind.SyntaxKind.TheVariants as kind
 use Rattle.gql_cst_grammar.specs.Nodes.{IsAllowed, AllAllowed}
-use Rattle.gql_cst.specs.Forest.{Forest, Plain, nothing, tree_then}
+use Rattle.gql_cst.specs.Forest.{Forest, nothing, tree_then}
 use Rattle.gql_cst.specs.Leaves.{leaves}
 use Rattle.gql_cst.specs.Sentences.{shown}
 use Rattle.gql_ast_base.specs.Kinds.{is_kind}
 use Rattle.gql_ast_base.specs.Parts.{Text, head, gather, inside, nth_name}
-use Rattle.gql_ast_operations.specs.declared.selection.Selection.{Field as a_field, InlineFragment as an_inline_fragment}
-use Rattle.gql_ast_operations.specs.declared.selection.Selection.TheVariants.{FragmentSpread as a_spread}
 use Rattle.gql_ast_operations.specs.Selections.{spread_of, field_step, inline_step, choice_step, selection_step, choices, selection_of, choice_of}
 use Rattle.gql_ast_laws.proofs.Blind.{tree as plain_tree}
 use Rattle.gql_ast_laws.proofs.Shown.{AreSpelled, child-of, inside-is, name-at}
