@@ -1,42 +1,35 @@
 -- What the query of the self-test means against its schema.
-use Rattle.std.proofs.Common.{◌≡◌, ℕ, Bool, true, false, ◌&&◌, if◌then◌else◌, cond, Option, Some, None, List, [], ◌∷◌, ◌++◌, flat_map, map, refl, sym, ap, ◌∙◌, subst}
+use Rattle.std.proofs.Common.{◌≡◌, ℕ, false, if◌then◌else◌, cond, Option, Some, None, List, [], ◌∷◌, ◌++◌, refl, sym, ap, ◌∙◌, subst}
 use Rattle.std.specs.Option.{option_map_or}
 use Rattle.std.specs.Prelude.{codes}
 use Rattle.std.specs.Str.{bytes_eq}
 use Rattle.gql_ast.specs.declared.definition.Definition.{Definition}
 use Rattle.gql_ast.specs.declared.definition.Definition.TheVariants as definition
 use Rattle.gql_ast_base.specs.Names.{Named}
-use Rattle.gql_ast_base.specs.declared.operation_type.OperationType.TheVariants.{Query}
 use Rattle.gql_ast_definitions.specs.declared.field_definition.FieldDefinition.{FieldDefinition}
-use Rattle.gql_ast_operations.specs.declared.operation.OperationDefinition.{OperationDefinition}
 use Rattle.gql_ast_operations.specs.declared.selection.Field.{Field as FieldHere}
-use Rattle.gql_ast_operations.specs.declared.selection.Selection.{Selection as SelectionHere}
 use Rattle.gql_ast_operations.specs.declared.selection.Selection.TheVariants as here
 use Rattle.gql_document_build.specs.Build.{operation_on}
 use Rattle.gql_document_build.specs.Build as build
-use Rattle.gql_document_build.specs.BuiltSelections.{built_set, makes_of}
+use Rattle.gql_document_build.specs.BuiltSelections.{makes_of}
 use Rattle.gql_document_build.specs.Builders.{Taken, built}
 use Rattle.gql_document_build.specs.Definitions.{with_definitions, no_definitions}
 use Rattle.gql_document_build.specs.Made as made
-use Rattle.gql_document_build.specs.Nodes.{is_leaf, is_nonempty}
-use Rattle.gql_document_build.specs.declared.executable_definitions.ExecutableDefinitions.{ExecutableDefinitions}
+use Rattle.gql_document_build.specs.Nodes.{is_leaf}
 use Rattle.gql_document_text.specs.DocumentText.{DocumentText}
 use Rattle.gql_document_text_laws.proofs.Made.{made_field}
 use Rattle.gql_document_types.specs.ChosenOperation.{chosen}
 use Rattle.gql_document_types.specs.NamedType.{named_type}
 use Rattle.gql_document_types.specs.declared.document.ExecutableDocument.{ExecutableDocument}
-use Rattle.gql_document_types.specs.declared.fragment.Fragment.{Fragment}
 use Rattle.gql_document_types.specs.declared.operation.Operation.{Operation}
 use Rattle.gql_document_types.specs.declared.selection.Field.{Field}
 use Rattle.gql_document_types.specs.declared.selection.Selection.{Selection}
 use Rattle.gql_document_types.specs.declared.selection.Selection.TheVariants as selection
 use Rattle.gql_schema_text.specs.SchemaText.{SchemaText}
-use Rattle.gql_schema_types.specs.Schemas.{field_of, object_of, root_of}
+use Rattle.gql_schema_types.specs.Schemas.{field_of, object_of}
 use Rattle.gql_schema_types.specs.Types.{type_called}
 use Rattle.gql_schema_types.specs.declared.schema.Schema.{Schema}
-use Rattle.gql_schema_types.specs.declared.types.ExtendedType.{ExtendedType}
-use Rattle.gql_schema_types.specs.declared.types.ExtendedType.TheVariants as type
-use Rattle.gql_self_test_laws.specs.Meaning.{AreTypes, IsSelfTest, Places, inner, outer, selected}
+use Rattle.gql_self_test_laws.specs.Meaning.{AreTypes, IsSelfTest, Places, inner, outer}
 use Rattle.gql_self_test_laws.specs.Texts.{query_text, schema_text}
 use Rattle.gql_self_test_laws.proofs.BuiltIn.{OneDocument}
 use Rattle.gql_self_test_laws.proofs.Facts.{are_types, query_is_root, query_root}

@@ -1,9 +1,9 @@
 -- Lists of things with names: what stays under a name.
-use Rattle.std.proofs.Common.{◌≡◌, ℕ, Bool, true, false, not, cond, if◌then◌else◌, Option, Some, None, is_some, List, [], ◌∷◌, ◌++◌, refl, sym, ap, ◌∙◌, subst}
+use Rattle.std.proofs.Common.{◌≡◌, ℕ, Bool, true, false, not, cond, Some, List, [], ◌∷◌, ◌++◌, refl, sym, ap, ◌∙◌, subst}
 use Rattle.std.specs.Str.{bytes_eq}
 use Rattle.std.proofs.lemmas.Slice.Eq.{bytes_eq-Decides}
 use Rattle.gql_ast_base.specs.Names.{Named}
-use Rattle.gql_schema_types.specs.Entries.{is_called, entry, put_new, joined, without}
+use Rattle.gql_schema_types.specs.Entries.{is_called, entry, without}
 
 module _ {X : Type 0} (own : X → Named) (name : List ℕ) where
   -- ---- behind the one that is there

@@ -1,6 +1,6 @@
 -- What the schema's text of the self-test means.
-use Rattle.std.proofs.Common.{rules, ◌≡◌, ℕ, true, false, Option, Some, None, List, [], ◌∷◌, refl, sym, ap, ◌∙◌, subst}
-use Rattle.std.specs.Option.{option_and_then, option_map}
+use Rattle.std.proofs.Common.{rules, ◌≡◌, ℕ, false, Some, None, List, refl, sym, ap, ◌∙◌, subst}
+use Rattle.std.specs.Option.{option_and_then}
 use Rattle.std.specs.Prelude.{codes}
 use Rattle.gql_ast.specs.declared.definition.Definition.{Definition}
 use Rattle.gql_ast_base.specs.Names.{Named}
@@ -10,7 +10,6 @@ use Rattle.gql_ast_values.specs.declared.type_ref.TypeRef.{TypeRef, List as List
 use Rattle.gql_ast_values.specs.declared.type_ref.TypeRef.TheOpen.{TypeRef-F}
 use Rattle.gql_ast_values.specs.declared.type_ref.TypeRef.TheVariants.{Named as NamedType, NonNullNamed}
 use Rattle.gql_document_types.specs.NamedType.{named_type}
-use Rattle.gql_parser.specs.Parsers.{its_file}
 use Rattle.gql_schema.specs.Builders.{Taken, built}
 use Rattle.gql_schema_build.specs.Considered.{type_definitions}
 use Rattle.gql_schema_build.specs.SchemaDefinitions.{schema_definition}
@@ -18,9 +17,9 @@ use Rattle.gql_schema_build.specs.TypeSystems.{with_definitions, no_definitions}
 use Rattle.gql_schema_build.specs.TypeTable.{types}
 use Rattle.gql_schema_merge.specs.declared.type_definition.TypeDefinition.{TypeDefinition}
 use Rattle.gql_schema_parts.specs.KindsBuilt.{object_type}
-use Rattle.gql_schema_rules.specs.Scalars.{validated, validated_types}
-use Rattle.gql_schema_text.specs.SchemaText.{SchemaText, all_of, its_given}
-use Rattle.gql_schema_types.specs.Schemas.{field_of, field_on, object_of}
+use Rattle.gql_schema_rules.specs.Scalars.{validated_types}
+use Rattle.gql_schema_text.specs.SchemaText.{SchemaText}
+use Rattle.gql_schema_types.specs.Schemas.{field_on}
 use Rattle.gql_schema_types.specs.Types.{as_object, type_called}
 use Rattle.gql_schema_types.specs.declared.schema.Schema.{Schema}
 use Rattle.gql_schema_types.specs.declared.schema.SchemaDefinition.{SchemaDefinition}
@@ -89,7 +88,7 @@ known_string = refl
 
 -- ---- and of each schema that the text means
 
-abbrev query_root : Named
+abbrev pub query_root : Named
 query_root = record { text = codes "Query"; location = None }
 
 known_root : (definition_from built_in.types text.known).query ≡ Some query_root

@@ -1,8 +1,7 @@
 -- Types that are no choice of others and have no fields, by their names: validation leaves them so.
-use Rattle.std.proofs.Common.{◌≡◌, ℕ, Bool, true, false, not, ◌&&◌, ◌||◌, cond, Option, Some, None, List, [], ◌∷◌, ◌++◌, refl, sym, ◌∙◌, ap}
+use Rattle.std.proofs.Common.{◌≡◌, ℕ, Bool, true, false, not, ◌&&◌, ◌||◌, cond, Some, List, [], ◌∷◌, ◌++◌, refl, sym, ◌∙◌, ap}
 use Rattle.std.specs.Prelude.{codes}
 use Rattle.std.specs.List.{filter, list_all}
-use Rattle.std.specs.Str.{bytes_eq}
 use Rattle.gql_ast_definitions.specs.declared.schema_definition.DirectiveDefinition.{DirectiveDefinition}
 use Rattle.gql_schema_rules.specs.Scalars.{is_named, new_scalar, built_in_scalars, is_missing, with_missing, unless_unused, validated_types}
 use Rattle.gql_schema_types.specs.Entries.{is_called, without}

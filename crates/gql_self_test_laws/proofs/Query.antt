@@ -5,9 +5,7 @@ use Rattle.std.specs.Str.{IsAscii}
 use Rattle.std.proofs.lemmas.Bool.{ltb-true}
 use Rattle.std.proofs.lemmas.List.Sums.{AllPass-from_list_all}
 use Rattle.std.proofs.lemmas.Str.Ascii.{IsAscii-from_all}
-use Rattle.gql_ast.specs.declared.definition.Definition.{Definition}
 use Rattle.gql_ast.specs.declared.definition.Definition.TheVariants as definition
-use Rattle.gql_ast.specs.Documents.{definitions}
 use Rattle.gql_ast_base.specs.Names.{Named}
 use Rattle.gql_ast_base.specs.declared.operation_type.OperationType.TheVariants.{Query}
 use Rattle.gql_ast_laws.specs.Meant.{IsDocumentOf}
