@@ -8,7 +8,6 @@ pub mod Ordered
 pub mod Positions
 pub mod Retention
 pub mod Same
-pub mod SameTexts
 pub mod SortLemmas
 pub mod Taken
 pub mod TextOrder

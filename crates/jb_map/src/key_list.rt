@@ -4,8 +4,7 @@ ghost use Rattle.std.specs.Str.{bytes_eq};
 ghost use Rattle.std.specs.List.{IsDistinct};
 
 use crate::key_table::KeyTable;
-use crate::same_text::is_same_text;
-use jb_text::{ByteString, Memory};
+use jb_text::{ByteString, Memory, is_same_text};
 use std::alloc::Global;
 use std::marker::Model;
 use std::mem;

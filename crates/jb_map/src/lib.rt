@@ -18,7 +18,6 @@ mod lent;
 mod order;
 mod pairs;
 mod removal;
-mod same_text;
 
 pub use copy::TryClone;
 pub use entry::{Entry, OccupiedEntry, VacantEntry};
