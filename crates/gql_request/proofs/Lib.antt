@@ -1,1 +1,1 @@
-mod Items
+mod Tags
