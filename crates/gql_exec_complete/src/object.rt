@@ -15,7 +15,7 @@ use gql_ast_base::Name;
 use gql_ast_values::TypeRef;
 use gql_document_types::innermost;
 use gql_schema_types::{ExtendedType, ObjectType, Schema};
-use jb_text::{Listed, Memory, Refused, is_same_text};
+use jb_text::{Listed, Memory, Refused};
 use std::alloc::Global;
 
 /// What is wrong with a list at a type, its items aside: `None` exactly where the type is a list's (GraphQL October 2021,
@@ -64,7 +64,7 @@ fn object_at<'s>(
     ensures { IsFitAt schema.now wanted.now name.now found.now result }
 {
     match wanted {
-        ExtendedType::Object(it) if is_same_text(found, name) => Ok(it),
+        ExtendedType::Object(it) if found == name => Ok(it),
         ExtendedType::Object(_) => refuse(other_object(alloc, found, name)),
         ExtendedType::Interface(_) => implementing(alloc, schema.get_object(found), name, found),
         ExtendedType::Union(it) => {
@@ -112,5 +112,5 @@ fn member<'s>(
 fn is_among(name: &str, names: &[Name]) -> bool
     ensures { result ≡ spec.is_among name.now names.now }
 {
-    names.iter().any(|other| is_same_text(name, other.as_str()))
+    names.iter().any(|other| name == other.as_str())
 }

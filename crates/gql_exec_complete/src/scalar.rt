@@ -10,7 +10,7 @@ use crate::messages::{other_enum, other_leaf, overflowing_leaf};
 use crate::misfit::{Misfit, wrong};
 use gql_ast_definitions::EnumValueDefinition;
 use gql_schema_types::Table;
-use jb_text::{Memory, Number, is_same_text};
+use jb_text::{Memory, Number};
 use jb_tree::Value;
 use std::alloc::Global;
 
@@ -25,7 +25,7 @@ pub(crate) fn scalar_misfit(
 ) -> Result<Option<Misfit>, Memory>
     ensures { IfOk result (λ found. misfit_seen found ≡ scalar_misfit name.now value.now) }
 {
-    if is_same_text(name, "Int") {
+    if name == "Int" {
         return int_misfit(alloc, value);
     }
     if takes(name, value) {
@@ -59,16 +59,16 @@ fn number_misfit(alloc: Global, value: &Value, number: &Number) -> Result<Option
 fn takes(name: &str, value: &Value) -> bool
     ensures { result ≡ spec.takes name.now value.now }
 {
-    if is_same_text(name, "Float") {
+    if name == "Float" {
         return is_float(value);
     }
-    if is_same_text(name, "String") {
+    if name == "String" {
         return value.as_str().is_some();
     }
-    if is_same_text(name, "Boolean") {
+    if name == "Boolean" {
         return value.as_bool().is_some();
     }
-    if is_same_text(name, "ID") {
+    if name == "ID" {
         return value.as_str().is_some() || is_id(value);
     }
     true

@@ -15,7 +15,7 @@ use gql_document_types::{ExecutableDocument, Operation};
 use gql_exec_groups::{Group, Pieces, collect_fields};
 use gql_exec_steps::Steps;
 use gql_schema_types::{ObjectType, Schema};
-use jb_text::{Listed, Memory, is_same_text};
+use jb_text::{Listed, Memory};
 use std::alloc::Global;
 use std::sync::ledger::Ledger;
 
@@ -130,5 +130,5 @@ fn number_of(name: &str, nodes: &[Node<'_>]) -> Option<usize>
 {
     nodes
         .iter()
-        .position(|node| is_same_text(name, node.object_type.name.as_str()))
+        .position(|node| name == node.object_type.name.as_str())
 }

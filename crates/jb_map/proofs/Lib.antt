@@ -8,6 +8,7 @@ pub mod Ordered
 pub mod Positions
 pub mod Retention
 pub mod Same
+pub mod SameTexts
 pub mod SortLemmas
 pub mod Taken
 pub mod TextOrder

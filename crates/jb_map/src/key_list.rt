@@ -4,7 +4,8 @@ ghost use Rattle.std.specs.Str.{bytes_eq};
 ghost use Rattle.std.specs.List.{IsDistinct};
 
 use crate::key_table::KeyTable;
-use jb_text::{ByteString, Memory, is_same_text};
+use crate::same_text::is_same_text;
+use jb_text::{ByteString, Memory};
 use std::alloc::Global;
 use std::marker::Model;
 use std::mem;

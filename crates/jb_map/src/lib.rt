@@ -18,6 +18,7 @@ mod lent;
 mod order;
 mod pairs;
 mod removal;
+mod same_text;
 
 pub use copy::TryClone;
 pub use entry::{Entry, OccupiedEntry, VacantEntry};

@@ -8,12 +8,10 @@ mod byte_string;
 mod listed;
 mod number;
 mod refused;
-mod same_text;
 mod text;
 
 pub use byte_string::{ByteString, SliceFault};
 pub use listed::{Listed, ListedIter};
 pub use number::Number;
 pub use refused::{Memory, Refused};
-pub use same_text::is_same_text;
 pub use text::Text;

@@ -1,8 +1,8 @@
 use Rattle.std.proofs.Common.{refl, sym, ◌∙◌, ap₂, arith}
 use Rattle.std.specs.Str.{bytes_eq}
 use Rattle.std.proofs.lemmas.List.{drop_all}
-use Rattle.jb_text.proofs.SameTexts.{same_behind}
-use Rattle.jb_text.proofs.same_text.are_same.Goals as goal
+use Rattle.jb_map.proofs.SameTexts.{same_behind}
+use Rattle.jb_map.proofs.same_text.are_same.Goals as goal
 
 pub loop-at-init : goal.loop-at-init
 loop-at-init c = refl

@@ -8,9 +8,8 @@ const MOST_ON_THE_SPOT: usize = 16;
 
 /// Whether the texts are the same. The bytes of short ones, as names and keys are, are gone through on the spot,
 /// which costs less than the call of `==`.
-#[must_use]
 #[inline(always)]
-pub fn is_same_text(left: &str, right: &str) -> bool
+pub(crate) fn is_same_text(left: &str, right: &str) -> bool
     ensures { result ≡ bytes_eq left.now right.now }
 {
     if left.len() != right.len() {
