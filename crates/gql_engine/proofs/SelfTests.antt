@@ -19,7 +19,7 @@ use Rattle.gql_schema_text.specs.SchemaText.{SchemaText}
 use Rattle.gql_schema_types.specs.declared.schema.Schema.{Schema}
 use Rattle.gql_schema_types.specs.declared.types.ObjectType.{ObjectType}
 use Rattle.gql_self_test_laws.specs.Meaning.{IsSelfTest}
-use Rattle.gql_request.specs.SelfTest.{query_text, schema_text}
+use Rattle.gql_self_test_laws.specs.Texts.{query_text, schema_text}
 use Rattle.gql_self_test_laws.proofs.Ways.{few_looks, few_selections}
 use Rattle.gql_engine.specs.Reply.{Answers, root_of}
 

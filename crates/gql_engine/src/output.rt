@@ -4,12 +4,12 @@ ghost use Rattle.std.specs.Prelude.{◌≡◌, ℕ, List, length, IfOk};
 ghost use Rattle.gql_engine.specs.Output.{IsMeasured, IsOutput, IsOutputOf, line as line_of, summary as summary_of};
 ghost use Rattle.gql_engine.specs.declared.task.Task.TheVariants as tasks;
 
-use crate::reply::{Reply, reply_to, reply_to_value};
+use crate::reply::{Reply, reply_to};
 use crate::task::Wish;
 use bytes::{Bytes, BytesMut};
 use gql_answer::Written;
 use gql_exec_steps::Steps;
-use gql_request::self_test_value;
+use gql_request::self_test_text;
 use gql_self_test_laws::laws as request_laws;
 use jb_serve::{ANSWERED, REFUSED};
 use jb_tree::Memory;
@@ -61,7 +61,7 @@ fn output_for(alloc: Global, reply: Reply) -> Result<Output, Memory>
 }
 
 /// How long the response to the self-test's request is, and how many errors it has. That request is answered; if it were not, no
-/// output would be right, and the self-test ends as for want of memory. The request is made as the value that its text spells.
+/// output would be right, and the self-test ends as for want of memory.
 pub(crate) fn self_test<L: Ledger>(
     alloc: Global,
     items: u32,
@@ -71,9 +71,8 @@ pub(crate) fn self_test<L: Ledger>(
 {
     request_laws::self_tests_ask_this();
     request_laws::self_tests_mean_this();
-    request_laws::self_tests_spell_this();
-    let request = self_test_value(alloc, items)?;
-    match reply_to_value(alloc, Wish::Answer, &request, steps)? {
+    let request = self_test_text(alloc, items)?;
+    match reply_to(alloc, Wish::Answer, &request, steps)? {
         Reply::Response(written) => measured(alloc, items, &written),
         _ => Err(AllocError),
     }

@@ -48,7 +48,7 @@ pub(crate) fn reply_to<L: Ledger>(
 }
 
 /// The reply to a JSON value.
-pub(crate) fn reply_to_value<L: Ledger>(
+fn reply_to_value<L: Ledger>(
     alloc: Global,
     wish: Wish,
     value: &Value,

@@ -1,1 +1,1 @@
-mod Tags
+mod Items

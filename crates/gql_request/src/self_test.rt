@@ -1,104 +1,82 @@
-//! The request of the self-test, as the JSON value that its text spells.
+//! The request of the self-test.
 
-ghost use Rattle.std.specs.Prelude.{◌≡◌, ◌++◌, ◌∷◌, [], ◌%◌, IfOk, codes};
+ghost use Rattle.std.specs.Prelude.{◌≡◌, ◌++◌, IfOk, OnOk, codes, string_bytes};
 ghost use Rattle.std.specs.Fmt.{decimal};
-ghost use Rattle.jb_tree.specs.declared.value.Value.TheVariants as json;
-ghost use Rattle.gql_request.specs.SelfTest.{item_value, item_values, query_text, schema_text, self_test_value, tag_value};
+ghost use Rattle.gql_request.specs.SelfTest.{comma_before, head, item, items, self_test, tag, tail};
 
 use bytes::Bytes;
-use jb_tree::{ByteString, Listed, Map, Memory, Number, Value};
+use itoa::Buffer;
+use jb_tree::Memory;
 use std::alloc::Global;
 
-/// The value of the request whose data has this many items. Each has its number, from 0, and one tag; the tag of every tenth is
+const HEAD: &str =
+    "{\"schema\":\"type Query { items: [Item!]! } type Item { id: Int! tags: [String] }\",\"query\":\"{ items { id tags } }\",\"data\":{\"items\":[";
+
+const TAIL: &str = "]}}";
+
+/// The text of the request whose data has this many items. Each has its number, from 0, and one tag; the tag of every tenth is
 /// an error. `Err` only for want of memory.
-pub fn self_test_value(alloc: Global, count: u32) -> Result<Value, Memory>
-    ensures { IfOk result (λ value. value ≡ self_test_value count) }
+pub fn self_test_text(alloc: Global, count: u32) -> Result<Bytes, Memory>
+    ensures { IfOk result (λ text. text ≡ self_test count) }
 {
-    let items = Value::Array(items(alloc, count)?);
-    let data = object_of(alloc, "items", items)?;
-    let mut members = Map::with_capacity(alloc, 3)?;
-    members.insert_new(constant(alloc, "schema")?, schema(alloc)?)?;
-    members.insert_new(constant(alloc, "query")?, query(alloc)?)?;
-    members.insert_new(constant(alloc, "data")?, data)?;
-    Ok(Value::Object(members))
+    let mut out = String::new(alloc);
+    out.push_str(HEAD)?;
+    append_items(&mut out, count)?;
+    out.push_str(TAIL)?;
+    Bytes::from_string(out)
 }
 
-fn schema(alloc: Global) -> Result<Value, Memory>
-    ensures { IfOk result (λ value. value ≡ json.String schema_text) }
+/// Appends the items.
+fn append_items(out: &mut String, count: u32) -> Result<(), Memory>
+    ensures { OnOk result (string_bytes out.new ≡ string_bytes out.old ++ items count) }
 {
-    let text = "type Query { items: [Item!]! } type Item { id: Int! tags: [String] }";
-    Ok(Value::String(constant(alloc, text)?))
-}
-
-fn query(alloc: Global) -> Result<Value, Memory>
-    ensures { IfOk result (λ value. value ≡ json.String query_text) }
-{
-    Ok(Value::String(constant(alloc, "{ items { id tags } }")?))
-}
-
-/// The items of the numbers below `count`.
-fn items(alloc: Global, count: u32) -> Result<Listed<Value>, Memory>
-    ensures { IfOk result (λ items. items ≡ item_values count) }
-{
-    let mut items = Listed::with_capacity(alloc, count as usize)?;
-    for number in 0..count {
-        items.push(item(alloc, number)?)?;
+    let mut number = 0;
+    while number < count {
+        append_comma(out, number)?;
+        append_item(out, number)?;
+        number += 1;
     }
-    Ok(items)
+    Ok(())
 }
 
-/// The item of a number.
-fn item(alloc: Global, number: u32) -> Result<Value, Memory>
-    ensures { IfOk result (λ item. item ≡ item_value number) }
+/// Appends the comma before an item, unless it is the first.
+fn append_comma(out: &mut String, number: u32) -> Result<(), Memory>
+    ensures { OnOk result (string_bytes out.new ≡ string_bytes out.old ++ comma_before number) }
 {
-    let id = Value::Number(Number::from_u64(u64::from(number)));
-    let mut tags = Listed::with_capacity(alloc, 1)?;
-    tags.push(tag(alloc, number)?)?;
-    let mut members = Map::with_capacity(alloc, 2)?;
-    members.insert_new(constant(alloc, "id")?, id)?;
-    members.insert_new(constant(alloc, "tags")?, Value::Array(tags))?;
-    Ok(Value::Object(members))
+    if number == 0 {
+        Ok(())
+    } else {
+        out.push_str(",")
+    }
 }
 
-/// The one tag of an item.
-fn tag(alloc: Global, number: u32) -> Result<Value, Memory>
-    ensures { IfOk result (λ tag. tag ≡ tag_value number) }
+/// Appends one item.
+fn append_item(out: &mut String, number: u32) -> Result<(), Memory>
+    ensures { OnOk result (string_bytes out.new ≡ string_bytes out.old ++ item number) }
+{
+    out.push_str("{\"id\":")?;
+    append_number(out, number)?;
+    out.push_str(",\"tags\":[")?;
+    append_tag(out, number)?;
+    out.push_str("]}")
+}
+
+/// Appends the one tag of an item.
+fn append_tag(out: &mut String, number: u32) -> Result<(), Memory>
+    ensures { OnOk result (string_bytes out.new ≡ string_bytes out.old ++ tag number) }
 {
     if number % 10 == 9 {
-        let message = Value::String(constant(alloc, "e")?);
-        return object_of(alloc, "__error", message);
+        return out.push_str("{\"__error\":\"e\"}");
     }
-    Ok(Value::String(constant(alloc, tag_text(number))?))
+    out.push_str("\"t")?;
+    append_number(out, number % 7)?;
+    out.push_str("\"")
 }
 
-/// The text of a tag that is no error.
-fn tag_text(number: u32) -> &'static str
-    ensures { result.now ≡ codes "t" ++ decimal (number % 7) }
+/// Appends a number in decimal.
+fn append_number(out: &mut String, number: u32) -> Result<(), Memory>
+    ensures { OnOk result (string_bytes out.new ≡ string_bytes out.old ++ decimal number) }
 {
-    match number % 7 {
-        0 => "t0",
-        1 => "t1",
-        2 => "t2",
-        3 => "t3",
-        4 => "t4",
-        5 => "t5",
-        _ => "t6",
-    }
-}
-
-/// An object with one member.
-fn object_of(alloc: Global, key: &'static str, value: Value) -> Result<Value, Memory>
-    ensures { IfOk result (λ object. object ≡ json.Object ((key.now, value) ∷ [])) }
-{
-    let mut members = Map::with_capacity(alloc, 1)?;
-    members.insert_new(constant(alloc, key)?, value)?;
-    Ok(Value::Object(members))
-}
-
-/// A text of the program, which is not copied.
-fn constant(alloc: Global, text: &'static str) -> Result<ByteString, Memory>
-    ensures { IfOk result (λ made. made ≡ text.now) }
-{
-    let bytes = Bytes::from_static(text.as_bytes());
-    ByteString::shared(alloc, &bytes, 0..text.len())
+    let mut buffer = Buffer::new();
+    out.push_str(buffer.format(number))
 }

@@ -30,7 +30,7 @@ use Rattle.gql_schema_types.specs.Schemas.{field_of, object_of}
 use Rattle.gql_schema_types.specs.Types.{type_called}
 use Rattle.gql_schema_types.specs.declared.schema.Schema.{Schema}
 use Rattle.gql_self_test_laws.specs.Meaning.{AreTypes, IsSelfTest, Places, inner, outer}
-use Rattle.gql_request.specs.SelfTest.{query_text, schema_text}
+use Rattle.gql_self_test_laws.specs.Texts.{query_text, schema_text}
 use Rattle.gql_self_test_laws.proofs.BuiltIn.{OneDocument}
 use Rattle.gql_self_test_laws.proofs.Facts.{are_types, query_is_root, query_root}
 use Rattle.gql_self_test_laws.proofs.Query.{SoundLaw}

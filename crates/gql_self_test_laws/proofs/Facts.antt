@@ -26,7 +26,7 @@ use Rattle.gql_schema_types.specs.declared.schema.SchemaDefinition.{SchemaDefini
 use Rattle.gql_schema_types.specs.declared.types.ExtendedType.{ExtendedType}
 use Rattle.gql_schema_types.specs.declared.types.ExtendedType.TheVariants as type
 use Rattle.gql_self_test_laws.specs.Meaning.{AreTypes, IsLeaf}
-use Rattle.gql_request.specs.SelfTest.{schema_text}
+use Rattle.gql_self_test_laws.specs.Texts.{schema_text}
 use Rattle.gql_self_test_laws.proofs.BuiltIn.{OneDocument, types_are}
 use Rattle.gql_self_test_laws.proofs.BuiltIn as built_in
 use Rattle.gql_self_test_laws.proofs.Computed.{tokens_computed, trees_computed}

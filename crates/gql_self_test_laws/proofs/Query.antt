@@ -28,7 +28,7 @@ use Rattle.gql_cst_grammar.specs.Sentence.{Sentence}
 use Rattle.gql_cst_laws.specs.TreeOf.{IsTreeOf}
 use Rattle.gql_source.specs.Span.{Span}
 use Rattle.gql_source.specs.declared.file_id.FileId.{FileId}
-use Rattle.gql_request.specs.SelfTest.{query_text}
+use Rattle.gql_self_test_laws.specs.Texts.{query_text}
 use Rattle.gql_self_test_laws.proofs.Computed.{parts_computed, tokens_computed, trees_computed}
 use Rattle.gql_self_test_laws.proofs.Forests.{planted}
 use Rattle.gql_self_test_laws.proofs.Found.{the}

@@ -9,16 +9,17 @@ use Rattle.jb_io.specs.Proper.{AreProperItems, IsProper, depth, depth_of_items}
 use Rattle.jb_io.proofs.Printed.{text_spelled}
 use Rattle.jb_print.specs.Compact.{comma_separated, compact_items, compact_tree}
 use Rattle.jb_print.specs.Quoted.{escaped}
-use Rattle.jb_read.specs.Spelling.{JsonText, settled, settled_items}
+use Rattle.jb_read.specs.Spelling.{JsonText, settled}
 use Rattle.jb_tree.specs.Tree.{Tree, array, member_then, no_members, no_trees, number, object, text, tree_then, trees_of}
 use Rattle.jb_tree.specs.Value.{object_members, string_text, truth_value}
 use Rattle.jb_tree.specs.declared.value.Value.{Value, the_lemmas}
 use Rattle.jb_tree.specs.declared.value.Value.TheVariants as value
 use Rattle.gql_request.specs.NotAsked.{IsAsked}
 use Rattle.gql_request.specs.Request.{◌>>=◌, Asked, Members, asked, asked_by_kind, asked_by_members, of_kind, optional}
-use Rattle.gql_request.specs.SelfTest.{comma_before, data_value, head, item, item_value, item_values, items, query_text, schema_text, self_test, self_test_value, tag, tag_value}
+use Rattle.gql_request.specs.SelfTest.{comma_before, head, item, items, self_test, tag}
 use Rattle.gql_request.specs.declared.request.Member.TheVariants.{Schema, Query, OperationName, Variables, Introspection, Data}
 use Rattle.gql_request.specs.declared.request.RequestFault.{RequestFault}
+use Rattle.gql_self_test_laws.specs.Texts.{query_text, schema_text}
 
 -- ---- the tree
 
@@ -198,41 +199,6 @@ spells count low = subst (λ bytes. JsonText bytes (settled (whole count))) (pri
   nothing_more = refl;
   is_value = refl;
 })
-
--- ---- the value that it is a text of
-
-tag_settled : (n : ℕ) → settled (tag_tree n) ≡ tag_value n
-tag_settled n = by_test (eqb (n % 10) 9)
-  where
-    by_test : (b : Bool)
-        → settled (if b then object (member_then (codes "__error") (text (codes "e")) no_members) else text (codes "t" ++ decimal (n % 7)))
-        ≡ (if b then value.Object ((codes "__error", value.String (codes "e")) ∷ []) else value.String (codes "t" ++ decimal (n % 7)))
-    by_test true = refl
-    by_test false = refl
-
-item_settled : (n : ℕ) → settled (item_tree n) ≡ item_value n
-item_settled n = ap (λ tag. value.Object ((codes "id", value.Number (pos n)) ∷ (codes "tags", value.Array (tag ∷ [])) ∷ [])) (tag_settled n)
-
-settled_more : (ts : List Tree) (t : Tree) → settled_items (trees_of (ts ++ t ∷ [])) ≡ settled_items (trees_of ts) ++ settled t ∷ []
-settled_more [] t = refl
-settled_more (s ∷ ts) t = ap (λ l. settled s ∷ l) (settled_more ts t)
-
-items_settled : (count : ℕ) → settled_items (trees_of (item_trees count)) ≡ item_values count
-items_settled zero = refl
-items_settled (suc n) =
-    settled_more (item_trees n) (item_tree n)
-    ∙ ap (λ l. l ++ settled (item_tree n) ∷ []) (items_settled n)
-    ∙ ap (λ v. item_values n ++ v ∷ []) (item_settled n)
-
-data_settled : (count : ℕ) → settled (data_tree count) ≡ data_value count
-data_settled count = ap (λ l. value.Object ((codes "items", value.Array l) ∷ [])) (items_settled count)
-
-whole_settled : (count : ℕ) → settled (whole count) ≡ self_test_value count
-whole_settled count =
-    ap (λ last. value.Object ((codes "schema", value.String schema_text) ∷ (codes "query", value.String query_text) ∷ (codes "data", last) ∷ [])) (data_settled count)
-
-pub spells_this : (count : ℕ) → count < 2 ^ 64 → JsonText (self_test count) (self_test_value count)
-spells_this count low = subst (JsonText (self_test count)) (whole_settled count) (spells count low)
 
 -- ---- what it asks
 

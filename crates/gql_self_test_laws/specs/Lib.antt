@@ -1,2 +1,3 @@
 -- What the request of the self-test means.
+pub mod Texts
 pub mod Meaning

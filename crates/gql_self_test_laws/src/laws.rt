@@ -7,20 +7,15 @@ ghost use Rattle.gql_document_types.specs.declared.document.ExecutableDocument.{
 ghost use Rattle.gql_document_types.specs.declared.operation.Operation.{Operation as OperationOf};
 ghost use Rattle.gql_request.specs.NotAsked.{IsAsked};
 ghost use Rattle.gql_request.specs.Request.{Asked};
-ghost use Rattle.gql_request.specs.SelfTest.{query_text, schema_text, self_test, self_test_value};
+ghost use Rattle.gql_request.specs.SelfTest.{self_test};
 ghost use Rattle.gql_schema_text.specs.SchemaText.{SchemaText};
 ghost use Rattle.gql_schema_types.specs.declared.schema.Schema.{Schema as SchemaOf};
 ghost use Rattle.gql_self_test_laws.specs.Meaning.{IsSelfTest};
-ghost use Rattle.jb_read.specs.Spelling.{JsonText};
+ghost use Rattle.gql_self_test_laws.specs.Texts.{query_text, schema_text};
 
 use gql_ast_laws::laws as tree_laws;
 use gql_cst_grammar::laws as grammar_laws;
 use jb_read::laws as json_laws;
-
-/// The text of the request of a self-test spells this value, so that reading it would give that.
-pub fn self_tests_spell_this()
-    ensures { (items : ℕ) → items < 2 ^ 64 → JsonText (self_test items) (self_test_value items) }
-{}
 
 /// The request of a self-test has these texts, however many items its data has.
 pub fn self_tests_ask_this()
