@@ -4,3 +4,4 @@ pub mod Causes
 mod Runs
 pub mod Responses
 mod Faulty
+mod Heads

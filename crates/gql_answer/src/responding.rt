@@ -125,8 +125,8 @@ fn execute<O: ObjectValue, L: Ledger>(
         .operation(operation)
         .coerced_variable_values(values)
         .enable_schema_introspection(wanted.introspection);
-    match execution.execute_counted(alloc, root, steps) {
-        Ok(response) => write_response(alloc, &response),
+    match execution.execute_written(alloc, root, steps) {
+        Ok(response) => write_response(alloc, response),
         Err(Refused::Fault(_)) => unreachable!(),
         Err(Refused::Memory) => Err(AllocError),
     }

@@ -17,7 +17,7 @@ pub use gql_diag::{DiagnosticList, ExecutionResponse, GraphQLError, RequestError
 pub use gql_document_text::document_of_text;
 pub use gql_document_text::laws::valid_documents_run;
 pub use gql_document_types::ExecutableDocument;
-pub use gql_exec_request::{Execution, partial_execute};
+pub use gql_exec_request::{Execution, WrittenResponse, partial_execute};
 pub use gql_exec_resolve::{
     DataObject, FieldError, ObjectValue, ResolveError, ResolveInfo, ResolvedValue,
 };

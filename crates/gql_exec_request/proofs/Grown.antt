@@ -1,6 +1,5 @@
 -- How a plan has grown once a place is completed, told of the place that the caller knows.
-use Rattle.std.proofs.Common.{◌≡◌, ◌⊎◌, inl, inr, ℕ, List, [], ◌∷◌, drop, ◌+◌, Some, None, Result, Ok, Err, OnOk, slice_get, slice_set, refl, sym, ap, ◌∙◌, subst}
-use Rattle.gql_ast_values.specs.declared.type_ref.TypeRef.{TypeRef}
+use Rattle.std.proofs.Common.{◌≡◌, inl, ℕ, List, [], ◌∷◌, drop, Some, None, Result, Ok, Err, OnOk, slice_get, slice_set, refl, sym, ap, ◌∙◌, subst}
 use Rattle.gql_document_types.specs.declared.selection.Selection.{Selection}
 use Rattle.gql_schema_types.specs.declared.types.ObjectType.{ObjectType}
 use Rattle.gql_exec_groups.specs.Groups.{SameGroups, applying}

@@ -23,3 +23,6 @@ pub mod Values
 pub mod Views
 pub mod Ways
 pub mod PartialAnswers
+pub mod Outputs
+pub mod OpenTexts
+pub mod QuotedNames

@@ -8,6 +8,7 @@ use Rattle.gql_exec_places.specs.Execute.{Made, Member, Below, execute, groups_m
 use Rattle.gql_exec_places.specs.Trail.{Trail}
 use Rattle.gql_exec_places.specs.World.{World}
 use Rattle.gql_exec_world.specs.Group.{Group}
+use Rattle.gql_exec_request.specs.Output.{Finds}
 
 -- this is made, and its errors come after those that are listed already
 pub record IsMade {A : Type 0} (found : Option (List A)) (before after : List GraphQLError) (made : Made A) : Type 0 where
@@ -22,6 +23,10 @@ module _ {X : Type 0} (w : World X ObjectType Group (List (List Selection))) whe
   -- whatever is deep enough for a group, what is made is what this makes by runs of that depth
   abbrev pub MakesBelow : {A : Type 0} → Group → Option (List A) → List GraphQLError → List GraphQLError → (Below w → Made A) → Type 0
   MakesBelow g found before after make = (depth : ℕ) → IsEnough depth g → IsMade found before after (make (execute w depth))
+
+  -- and these are found made
+  abbrev pub Makes : {A : Type 0} → (Option (List A) → Type 0) → Group → List GraphQLError → List GraphQLError → (Below w → Made A) → Type 0
+  Makes Are g before after make = Finds Are (λ found. MakesBelow g found before after make)
 
   -- the execution of selection sets on an object, whatever is deep enough
   abbrev pub Executes : ObjectType → X → Trail → List (List Selection) → Option (List Member) → List GraphQLError → List GraphQLError → Type 0

@@ -4,6 +4,9 @@ pub mod Planning
 pub mod Opened
 pub mod Looks
 pub mod Asking
+pub mod Output
+pub mod Written
 pub mod Executed
 pub mod Execution
+pub mod Running
 pub mod Partial

@@ -1,5 +1,5 @@
 -- Places as the code has them.
-use Rattle.std.specs.Prelude.{◌≡◌, List, [], ◌∷◌, ◌++◌, Option, Some, None}
+use Rattle.std.specs.Prelude.{◌≡◌, List, [], ◌∷◌, ◌++◌, Option}
 use Rattle.std.specs.Option.{option_copied}
 use Rattle.jb_tree.specs.declared.value.Value.{Value}
 use Rattle.gql_source.specs.File.{Files}
@@ -17,8 +17,6 @@ use Rattle.gql_exec_places.specs.Spot.{Spot}
 use Rattle.gql_exec_places.specs.Trail.{Segment, Trail, path_of}
 use Rattle.gql_exec_places.specs.Types.{is_strict}
 use Rattle.gql_exec_world.specs.Group.{Group, pieces_of}
-use Rattle.gql_exec_request.specs.declared.completed.Completed.{Completed}
-use Rattle.gql_exec_request.specs.declared.completed.Completed.TheVariants as completed
 use Rattle.gql_exec_request.specs.declared.path.Path.{Path, fold-Path}
 use Rattle.gql_exec_request.specs.declared.path.Path.TheOpen.{Path-F, Root, Below}
 use Rattle.gql_exec_request.specs.declared.path.Step.{Step}
@@ -55,12 +53,6 @@ place_path place = path_of (trail_of place.around.now) ++ segment_of place.step 
 -- the error of a fault, at these steps
 abbrev pub listed_at : Files → List Segment → RequestError → GraphQLError
 listed_at sources path fault = record (request_error fault sources) { path = path }
-
--- what is made of a place: none where a null is passed on, no value where it is left out
-abbrev pub made_of : Completed → Option (List Value)
-made_of (completed.Value v) = Some (v ∷ [])
-made_of completed.LeftOut = Some []
-made_of completed.NullPasses = None
 
 -- a null at a place of this type
 abbrev pub null_at : TypeRef → Option (List Value)

@@ -8,12 +8,14 @@ ghost use Rattle.gql_exec_places.specs.Execute.{completed, settled};
 ghost use Rattle.gql_exec_places.specs.Fault.{fault_error, told_at};
 ghost use Rattle.gql_exec_places.specs.Resolved.{fails_with, gives_leaf};
 ghost use Rattle.gql_exec_world.specs.Asks.{fault_of};
-ghost use Rattle.gql_exec_request.specs.Executed.{IsMade, MakesBelow};
+ghost use Rattle.gql_exec_request.specs.Executed.{IsMade, Makes};
 ghost use Rattle.gql_exec_request.specs.Executing.{world_of};
-ghost use Rattle.gql_exec_request.specs.Trails.{IsNamed, group_of, made_of, spot_of};
+ghost use Rattle.gql_exec_request.specs.Output.{Finds, IsWritten};
+ghost use Rattle.gql_exec_request.specs.Trails.{IsNamed, group_of, spot_of};
 
 use crate::completed::Completed;
 use crate::executing::Executing;
+use crate::output::Output;
 use crate::place::Place;
 use gql_coerce::ArgumentFault;
 use gql_diag::RequestError;
@@ -25,36 +27,38 @@ use jb_tree::Value;
 
 impl<'s> Executing<'s> {
     /// What is made of a leaf at a place.
-    pub(crate) fn complete_leaf<O: ObjectValue>(
+    pub(crate) fn complete_leaf<O: ObjectValue, M: Output>(
         &self,
         place: &Place<'_, '_>,
         value: Value,
         errors: &mut Listed<GraphQLError>,
-    ) -> Result<Completed, Memory>
+        out: &mut M,
+    ) -> Result<Completed<M::Made>, Memory>
         requires { IsNamed self.now.request.schema.now place.now }
         ensures { IfOk result (λ done.
             let w = world_of self.now O.type_of O.resolves in
-            MakesBelow w (group_of place.now.group.now) (made_of done) errors.old errors.new
+            Makes w (IsWritten M.is_made out.old out.new done) (group_of place.now.group.now) errors.old errors.new
             (λ run. completed w run (spot_of place.now) (gives_leaf value))) }
     {
         match leaf_misfit(self.alloc, place.named, place.ty, &value)? {
-            None => Ok(Completed::Value(value)),
-            Some(misfit) => self.refuse::<O>(place, misfit, errors),
+            None => Ok(Completed::Value(out.value(value)?)),
+            Some(misfit) => self.refuse::<O, M>(place, misfit, errors, out),
         }
     }
 
     /// Lists what is wrong with an answer at a place, whose value is then null.
-    pub(crate) fn refuse<O: ObjectValue>(
+    pub(crate) fn refuse<O: ObjectValue, M: Output>(
         &self,
         place: &Place<'_, '_>,
         misfit: Misfit,
         errors: &mut Listed<GraphQLError>,
-    ) -> Result<Completed, Memory>
+        out: &mut M,
+    ) -> Result<Completed<M::Made>, Memory>
         ensures { IfOk result (λ done.
             let w = world_of self.now O.type_of O.resolves in
             let spot = spot_of place.now in
-            IsMade (made_of done) errors.old errors.new
-            (settled spot (None, fault_error w spot (told_at (w.span_of spot.group) (seen misfit)) ∷ []))) }
+            Finds (IsWritten M.is_made out.old out.new done) (λ found. IsMade found errors.old errors.new
+            (settled spot (None, fault_error w spot (told_at (w.span_of spot.group) (seen misfit)) ∷ [])))) }
     {
         let fault = RequestError {
             message: misfit.message,
@@ -62,23 +66,24 @@ impl<'s> Executing<'s> {
             is_suspected_validation_bug: misfit.suspected,
         };
         place.list(self.alloc, &self.document().sources, fault, errors)?;
-        Ok(place.null())
+        place.null(out)
     }
 
     /// Lists a resolver's failure at the place of a field, whose value is then null.
-    pub(crate) fn fail<O: ObjectValue>(
+    pub(crate) fn fail<O: ObjectValue, M: Output>(
         &self,
         place: &Place<'_, '_>,
         error: FieldError,
         errors: &mut Listed<GraphQLError>,
-    ) -> Result<Completed, Memory>
+        out: &mut M,
+    ) -> Result<Completed<M::Made>, Memory>
         ensures { IfOk result (λ done.
             let w = world_of self.now O.type_of O.resolves in
-            MakesBelow w (group_of place.now.group.now) (made_of done) errors.old errors.new
+            Makes w (IsWritten M.is_made out.old out.new done) (group_of place.now.group.now) errors.old errors.new
             (λ run. completed w run (spot_of place.now) (fails_with error.message))) }
     {
         self.list_failure::<O>(place, error, errors)?;
-        Ok(place.null())
+        place.null(out)
     }
 
     /// Lists a resolver's failure at a place.
@@ -102,16 +107,18 @@ impl<'s> Executing<'s> {
     }
 
     /// Lists the fault of an argument at a place, whose value is then null.
-    pub(crate) fn refuse_argument<O: ObjectValue>(
+    pub(crate) fn refuse_argument<O: ObjectValue, M: Output>(
         &self,
         place: &Place<'_, '_>,
         fault: ArgumentFault,
         errors: &mut Listed<GraphQLError>,
-    ) -> Result<Completed, Memory>
+        out: &mut M,
+    ) -> Result<Completed<M::Made>, Memory>
         ensures { IfOk result (λ done.
             let w = world_of self.now O.type_of O.resolves in
             let spot = spot_of place.now in
-            IsMade (made_of done) errors.old errors.new (settled spot (None, fault_error w spot (fault_of fault) ∷ []))) }
+            Finds (IsWritten M.is_made out.old out.new done)
+            (λ found. IsMade found errors.old errors.new (settled spot (None, fault_error w spot (fault_of fault) ∷ [])))) }
     {
         let fault = RequestError {
             message: fault.message,
@@ -119,6 +126,6 @@ impl<'s> Executing<'s> {
             is_suspected_validation_bug: fault.suspected,
         };
         place.list(self.alloc, &self.document().sources, fault, errors)?;
-        Ok(place.null())
+        place.null(out)
     }
 }

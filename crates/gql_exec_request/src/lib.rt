@@ -7,12 +7,20 @@
 
 mod asking;
 mod completed;
+mod executed;
 mod executing;
 mod execution;
 mod faults;
+mod ground;
+mod output;
 mod partial;
 mod path;
 mod place;
+mod running;
+mod text_output;
+mod tree_output;
+mod written_response;
 
 pub use execution::Execution;
 pub use partial::partial_execute;
+pub use written_response::WrittenResponse;

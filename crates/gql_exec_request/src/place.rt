@@ -1,13 +1,16 @@
 //! A place of the response that is executed.
 
 ghost use Rattle.std.specs.Prelude.{◌≡◌, [], ◌∷◌, ◌++◌, IfOk, OnOk};
+ghost use Rattle.gql_exec_places.specs.Types as places;
+ghost use Rattle.gql_exec_request.specs.Output.{IsWritten};
 ghost use Rattle.gql_exec_request.specs.Trails as spec;
 
 use crate::completed::Completed;
+use crate::output::Output;
 use crate::path::{Path, Step};
 use gql_ast_values::TypeRef;
 use gql_diag::RequestError;
-use gql_exec_complete::is_non_null;
+use gql_exec_complete::{is_non_null, item_type};
 use gql_exec_groups::Group;
 use gql_response::{GraphQLError, ResponseDataPathSegment};
 use gql_schema_types::ExtendedType;
@@ -53,14 +56,25 @@ impl<'p, 's> Place<'p, 's> {
         errors.push(error)
     }
 
-    /// A null that comes to this place: it stays, or it is passed on where the type rules it out.
-    pub(crate) fn null(&self) -> Completed
-        ensures { spec.made_of result ≡ spec.null_at self.now.ty.now }
+    /// A null that comes to this place: it is made, or it is passed on where the type rules it out. `Err` only for want of
+    /// memory.
+    pub(crate) fn null<M: Output>(&self, out: &mut M) -> Result<Completed<M::Made>, Memory>
+        ensures { IfOk result (λ done. IsWritten M.is_made out.old out.new done (spec.null_at self.now.ty.now)) }
     {
         if is_non_null(self.ty) {
-            Completed::NullPasses
+            Ok(Completed::NullPasses)
         } else {
-            Completed::Value(Value::Null)
+            Ok(Completed::Value(out.value(Value::Null)?))
         }
+    }
+}
+
+/// The type of a list's items; at no list's type it stands for itself.
+pub(crate) fn item_of(ty: &TypeRef) -> &TypeRef
+    ensures { result.now ≡ places.item_type ty.now }
+{
+    match item_type(ty) {
+        Some(item) => item,
+        None => ty,
     }
 }

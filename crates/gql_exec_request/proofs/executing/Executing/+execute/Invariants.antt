@@ -1,4 +1,6 @@
-use Rattle.std.proofs.Common.{◌≡◌, ◌+◌, ◌*◌, drop, length}
+use Rattle.std.proofs.Common.{◌≡◌, ◌+◌, ◌*◌, List, drop, length}
+use Rattle.jb_tree.specs.declared.value.Value.{Value}
+use Rattle.gql_exec_places.specs.Execute.{Member}
 use Rattle.gql_exec_places.specs.Types.{item_type}
 use Rattle.gql_exec_plan.specs.Plan.{AreNodes, HaveNodes, fields_in, groups_in, sets_below}
 use Rattle.gql_exec_plan.specs.Ways.{Turn}
@@ -47,8 +49,9 @@ invariant-execute_parts-loop-number g l =
       planned : HaveNodes (ground_in l.self) l.parts;
       grows : PartsGrow l.self l.fn.steps l.steps l.fn.parts l.parts
           (OpensBy (world_of l.self g.O.ObjectValue.type_of g.O.ObjectValue.resolves) (views (groups_in l.fn.parts)) l.object_type (g.O.ObjectValue.seen l.object));
-      so_far : IsExecuting (world_of l.self g.O.ObjectValue.type_of g.O.ObjectValue.resolves) l.object_type (g.O.ObjectValue.seen l.object) (trail_of l.path)
-          l.members l.errors l.fn.errors (views (drop l.number (groups_in l.fn.parts))) (views (groups_in l.fn.parts));
+      so_far : (members : List Member) × g.M.Output.are_members l.fn.out l.out l.members members
+          × IsExecuting (world_of l.self g.O.ObjectValue.type_of g.O.ObjectValue.resolves) l.object_type (g.O.ObjectValue.seen l.object) (trail_of l.path)
+          members l.errors l.fn.errors (views (drop l.number (groups_in l.fn.parts))) (views (groups_in l.fn.parts));
     }
 
 abbrev pub invariant-complete_items-loop-item : goal.invariant-complete_items-loop-item
@@ -63,6 +66,7 @@ invariant-complete_items-loop-item g l =
           let w = world_of l.self g.O.ObjectValue.type_of g.O.ObjectValue.resolves in
           AnyGives w (Turns w (sets_below l.place.group.now) turn) (item_type l.place.ty.now) (meanings_by g.O.ObjectValue.seen l.item-iterator)
           → AnyGives w (Turns w (sets_below l.place.group.now) turn) (item_type l.place.ty.now) (meanings_by g.O.ObjectValue.seen l.fn.items);
-      so_far : IsCompleting (world_of l.self g.O.ObjectValue.type_of g.O.ObjectValue.resolves) (spot_of l.place)
-          l.values l.errors l.fn.errors l.index (meanings_by g.O.ObjectValue.seen l.item-iterator) (meanings_by g.O.ObjectValue.seen l.fn.items);
+      so_far : (values : List Value) × g.M.Output.are_items l.fn.out l.out l.list values
+          × IsCompleting (world_of l.self g.O.ObjectValue.type_of g.O.ObjectValue.resolves) (spot_of l.place)
+          values l.errors l.fn.errors l.index (meanings_by g.O.ObjectValue.seen l.item-iterator) (meanings_by g.O.ObjectValue.seen l.fn.items);
     }

@@ -1,23 +1,29 @@
-use Rattle.gql_exec_request.proofs.Introspecting.{answers-with, answers-without, counts-with, counts-without}
+use Rattle.std.proofs.Common.{List, Option, Ok, subst}
+use Rattle.gql_exec_places.specs.Execute.{Member}
+use Rattle.gql_exec_request.specs.Execution.{Answers, Counts}
+use Rattle.gql_exec_request.specs.Running.{response_of}
+use Rattle.gql_exec_request.proofs.Introspecting.{run-answered, run-refused, refused-counts, tree-found}
 use Rattle.gql_exec_request.proofs.execution.Execution.execute_counted.Goals as goal
 
-pub returns-then-self : goal.returns-then-self
-returns-then-self g c =
-    let execution = c.args.self.now in
+pub returns-in-Ok : goal.returns-in-Ok
+returns-in-Ok g c =
     let types = g.O.ObjectValue.type_of in
+    let resolves = g.O.ObjectValue.resolves in
     let x = g.O.ObjectValue.seen c.args.initial.now in
-    let answer = c.execute_introspected.result in
+    let executed = c.in-Ok.executed in
+    let it = run-answered _ c.args.self.now types resolves x c.args.steps.now c.execute_into.new.steps executed c.in-Ok.ensures in
+    let same = tree-found _ _ executed.members it.found it.are in
     record {
-      answer = answers-with execution types g.O.ObjectValue.resolves x answer c.args.steps.now c.execute_introspected.new.steps c.if-self.true c.execute_introspected.ensures;
-      looks = counts-with execution types g.O.ObjectValue.resolves x answer c.args.steps.now c.execute_introspected.new.steps c.if-self.true c.execute_introspected.ensures;
+      answer = subst (λ (found : Option (List Member)). Answers c.args.self.now types resolves x (Ok (response_of executed found))) same it.hold.0;
+      looks = subst (λ (found : Option (List Member)). Counts c.args.self.now types resolves x c.args.steps.now c.execute_into.new.steps (Ok (response_of executed found))) same it.hold.1;
     }
 
-pub returns-else-self : goal.returns-else-self
-returns-else-self g c =
-    let execution = c.args.self.now in
+pub returns-in-Err : goal.returns-in-Err
+returns-in-Err g c =
     let types = g.O.ObjectValue.type_of in
+    let resolves = g.O.ObjectValue.resolves in
     let x = g.O.ObjectValue.seen c.args.initial.now in
     record {
-      answer = answers-without execution types g.O.ObjectValue.resolves x c.execute.result c.args.steps.now c.execute.new.steps c.if-self.false c.execute.ensures;
-      looks = counts-without execution types g.O.ObjectValue.resolves x c.execute.result c.args.steps.now c.execute.new.steps c.if-self.false c.execute.ensures;
+      answer = run-refused _ c.args.self.now types resolves x c.args.steps.now c.execute_into.new.steps c.in-Err.refused c.in-Err.ensures;
+      looks = refused-counts c.args.self.now types resolves x c.args.steps.now c.execute_into.new.steps c.in-Err.refused;
     }

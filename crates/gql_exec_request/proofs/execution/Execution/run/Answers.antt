@@ -30,9 +30,9 @@ returns g c =
     let sets = sets_of c.add.new.self in
     let parts = subst (λ it. ArePartsOf it root sets c.in_ok-parts.parts) c.planner.ensures c.in_ok-parts.ensures.parts in
     let groups = groups_in c.in_ok-parts.parts in
-    let found = c.in_ok-root.root in
+    let found = c.in_ok-members.ensures.executed.found in
     let after = c.execute_parts.new.errors in
-    let executes = executed-sets (plain_world r) root x (trail_of Root) sets (views groups) found c.new-errors.result after (views-run r root groups sets parts.0.groups) c.in_ok-root.ensures.executed in
+    let executes = executed-sets (plain_world r) root x (trail_of Root) sets (views groups) found c.new-errors.result after (views-run r root groups sets parts.0.groups) c.in_ok-members.ensures.executed.hold in
     let answered = answered-alone r ranked.0 (fragments-ranked all ranked.0 ranked.1) root x selections (trail_of Root) sets found c.new-errors.result after trail-root alone c.new-errors.ensures executes in
     let e : Executing = record {
       alloc = c.args.alloc;
@@ -41,12 +41,17 @@ returns g c =
       variables = c.args.variables;
       introspection = c.args.self.now.introspection;
     } in
-    let few = subst (λ it. c.parts.new.steps ≤ c.args.steps.now + most_looks it) c.planner.ensures c.parts.ensures.looks in (
-      answered.0,
-      answered.1,
-      looks-of e g.O.ObjectValue.type_of g.O.ObjectValue.resolves root x sets alone c.args.steps.now c.parts.new.steps c.execute_parts.new.steps
-          c.in_ok-parts.parts c.execute_parts.new.parts parts c.in_ok-parts.ensures.fresh few c.in_ok-parts.ensures.counted c.in_ok-root.ensures.same c.in_ok-root.ensures.planned c.in_ok-root.ensures.grows,
-    )
+    let few = subst (λ it. c.parts.new.steps ≤ c.args.steps.now + most_looks it) c.planner.ensures c.parts.ensures.looks in
+    record {
+      found = found;
+      are = c.in_ok-members.ensures.executed.are;
+      hold = (
+        answered.0,
+        answered.1,
+        looks-of e g.O.ObjectValue.type_of g.O.ObjectValue.resolves root x sets alone c.args.steps.now c.parts.new.steps c.execute_parts.new.steps
+            c.in_ok-parts.parts c.execute_parts.new.parts parts c.in_ok-parts.ensures.fresh few c.in_ok-parts.ensures.counted c.in_ok-members.ensures.same c.in_ok-members.ensures.planned c.in_ok-members.ensures.grows,
+      );
+    }
 
 pub parts-requires : goal.parts-requires
 parts-requires g c =
