@@ -12,7 +12,7 @@ use std::alloc::{AllocError, Global};
 use std::fmt::{self, Debug, Formatter, Write};
 use std::marker::Model;
 use std::ops::Range;
-use std::rc::Rc;
+use std::sync::Arc;
 
 /// A source file: a path and a text.
 ///
@@ -21,7 +21,7 @@ use std::rc::Rc;
 /// lines alone, however long they are. Copies share what they hold.
 #[derive(Drop)]
 pub struct SourceFile {
-    shared: Rc<Contents>,
+    shared: Arc<Contents>,
 }
 
 /// What the copies of a file share.
@@ -76,7 +76,7 @@ impl SourceFile {
             counts: counts_at_marks(alloc, bytes)?,
             source_text,
         };
-        match Rc::new(alloc, contents) {
+        match Arc::new(alloc, contents) {
             Ok(shared) => Ok(SourceFile { shared }),
             Err(_) => Err(AllocError),
         }
