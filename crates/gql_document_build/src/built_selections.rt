@@ -11,7 +11,7 @@ use gql_ast_operations as ast;
 use gql_document_types::{
     Field, FragmentSpread, InlineFragment, Selection, SelectionSet, innermost,
 };
-use gql_schema_types::Schema;
+use gql_schema_types::{Schema, Shared};
 use jb_text::{Listed, Memory};
 use std::alloc::Global;
 
@@ -94,7 +94,7 @@ impl<'s> Make<'s> {
     fn add_defined(
         &self,
         field: ast::Field,
-        definition: &FieldDefinition,
+        definition: &Shared<FieldDefinition>,
         made: &mut Listed<Selection>,
     ) -> Result<(), Memory>
         ensures { OnOk result (made.new ≡ made.old ++ made_by.defined self.now.schema.now field definition.now) }

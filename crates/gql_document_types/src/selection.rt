@@ -5,6 +5,7 @@ ghost use Rattle.std.specs.Prelude.{◌≡◌, IfOk};
 use gql_ast_base::{Copying, Name, all_four, all_three, both};
 use gql_ast_definitions::FieldDefinition;
 use gql_ast_values::{Argument, Directive};
+use gql_schema_types::Shared;
 use gql_source::SourceSpan;
 use jb_text::{Listed, Memory};
 use std::alloc::Global;
@@ -36,7 +37,7 @@ pub struct Field {
     pub directives: Listed<Directive>,
     pub selection_set: SelectionSet,
     pub location: Option<SourceSpan>,
-    pub definition: FieldDefinition,
+    pub definition: Shared<FieldDefinition>,
 }
 
 /// A fragment that is named in a selection set (section 2.8).

@@ -21,7 +21,7 @@ use gql_ast_definitions::{
 use gql_ast_values::Directive;
 use gql_diag::{JsonMap, Valid};
 use gql_exec_resolve::ResolvedValue;
-use gql_schema_types::{ExtendedType, Schema};
+use gql_schema_types::{ExtendedType, Schema, Shared};
 use jb_text::Memory;
 use std::alloc::Global;
 
@@ -72,6 +72,22 @@ impl Deprecatable for FieldDefinition {
 
     fn directives(&self) -> &[Directive] {
         self.directives.as_slice()
+    }
+}
+
+impl<T: Shown> Shown for Shared<T> {
+    ghost shows = { T.shows };
+
+    fn shown<'a>(&'a self, schema: &'a Valid<Schema>) -> MetaObject<'a> {
+        T::shown(self, schema)
+    }
+}
+
+impl<T: Deprecatable> Deprecatable for Shared<T> {
+    ghost directives_of = { T.directives_of };
+
+    fn directives(&self) -> &[Directive] {
+        T::directives(self)
     }
 }
 

@@ -177,11 +177,15 @@ impl<'a> ResolveInfo<'a> {
         ensures named { option_copied result.named ≡ type_named_by (spec.schema_of self.now) (option_copied result.definition) }
     {
         let schema = self.schema().as_ref();
-        let definition = schema.type_field(self.object_type.name.as_str(), self.field_name());
-        let named = match definition {
-            Some(definition) => schema.types.get(innermost(&definition.ty).as_str()),
-            None => None,
-        };
-        FieldOnType { definition, named }
+        match schema.type_field(self.object_type.name.as_str(), self.field_name()) {
+            Some(definition) => FieldOnType {
+                definition: Some(definition),
+                named: schema.types.get(innermost(&definition.ty).as_str()),
+            },
+            None => FieldOnType {
+                definition: None,
+                named: None,
+            },
+        }
     }
 }

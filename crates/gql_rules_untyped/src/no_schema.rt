@@ -7,7 +7,7 @@ ghost use Rattle.gql_rules_untyped.specs.NoSchema as spec;
 use gql_ast_base::{Name, both};
 use gql_ast_definitions::FieldDefinition;
 use gql_ast_values::TypeRef;
-use gql_schema_types::{MetaFields, Schema, SchemaDefinition, Table};
+use gql_schema_types::{MetaFields, Schema, SchemaDefinition, Shared, Table};
 use gql_source::SourceMap;
 use jb_text::{Listed, Memory, Refused};
 use std::alloc::{AllocError, Global};
@@ -60,16 +60,17 @@ fn named(alloc: Global, text: &str) -> Result<Name, Memory>
 }
 
 /// The definition of a field that is not known: it has no arguments. `Err` only for want of memory.
-pub(crate) fn unknown_field(alloc: Global) -> Result<FieldDefinition, Memory>
+pub(crate) fn unknown_field(alloc: Global) -> Result<Shared<FieldDefinition>, Memory>
     ensures { IfOk result (λ definition. definition ≡ spec.unknown_field) }
 {
     let (name, ty) = both(unknown_type(alloc), unknown_type(alloc))?;
-    Ok(FieldDefinition {
+    let field = FieldDefinition {
         description: None,
         name,
         arguments: Listed::new(alloc),
         ty: TypeRef::Named(ty),
         directives: Listed::new(alloc),
         location: None,
-    })
+    };
+    Shared::new(alloc, field)
 }

@@ -6,9 +6,10 @@ ghost use Rattle.gql_schema_parts.specs.ObjectFieldNameCollision.{object_field_n
 ghost use Rattle.gql_schema_parts.specs.PartNames.{field_name};
 
 use crate::distinct::distinct;
+use crate::lists::shared;
 use gql_ast_definitions::FieldDefinition;
 use gql_diag_messages::{DiagnosticData, Rule};
-use gql_schema_types::Table;
+use gql_schema_types::{Shared, Table};
 use jb_text::{Listed, Memory};
 use std::alloc::Global;
 
@@ -18,9 +19,10 @@ pub(crate) fn object_fields(
     owner: &str,
     fields: Listed<FieldDefinition>,
     faults: &mut Listed<DiagnosticData>,
-) -> Result<Table<FieldDefinition>, Memory>
+) -> Result<Table<Shared<FieldDefinition>>, Memory>
     ensures table { IfOk result (λ table. table ≡ joined field_name [] fields) }
     ensures faults { OnOk result (faults.new ≡ faults.old ++ object_field_name_collisions owner.now fields) }
 {
+    let fields = shared(alloc, fields)?;
     distinct(alloc, Rule::ObjectFieldNameCollision, owner, fields, faults)
 }

@@ -9,7 +9,7 @@ ghost use Rattle.gql_schema_rules.specs.Scalars as spec;
 use gql_ast_base::Name;
 use gql_ast_definitions::{DirectiveDefinition, FieldDefinition, InputValueDefinition};
 use gql_rules_base::{is_written, named_type};
-use gql_schema_types::{ExtendedType, ScalarType, Table};
+use gql_schema_types::{ExtendedType, ScalarType, Shared, Table};
 use jb_text::{Listed, Memory, Refused};
 use std::alloc::{AllocError, Global};
 
@@ -181,7 +181,7 @@ fn type_names(ty: &ExtendedType, name: &str) -> bool
     }
 }
 
-fn any_field_names(fields: &[FieldDefinition], name: &str) -> bool
+fn any_field_names(fields: &[Shared<FieldDefinition>], name: &str) -> bool
     ensures { result ≡ list_any (spec.field_names name.now) fields.now }
 {
     fields.iter().any(|field| field_names(field, name))

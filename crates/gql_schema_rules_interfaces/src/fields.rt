@@ -14,7 +14,7 @@ use crate::missing_interface_field_argument::list_missing_interface_field_argume
 use gql_ast_base::Name;
 use gql_ast_definitions::{FieldDefinition, InputValueDefinition};
 use gql_diag_messages::DiagnosticData;
-use gql_schema_types::{ExtendedType, Table};
+use gql_schema_types::{ExtendedType, Shared, Table};
 use jb_text::{Listed, Memory};
 use std::alloc::Global;
 
@@ -24,7 +24,7 @@ pub(crate) fn list_wanted_field(
     types: &Table<ExtendedType>,
     ty: &Name,
     interface: &Name,
-    fields: &Table<FieldDefinition>,
+    fields: &Table<Shared<FieldDefinition>>,
     wanted: &FieldDefinition,
     faults: &mut Listed<DiagnosticData>,
 ) -> Result<(), Memory>

@@ -10,7 +10,7 @@ use gql_ast_base::Name;
 use gql_ast_definitions::FieldDefinition;
 use gql_diag_messages::DiagnosticData;
 use gql_rules_base::is_written;
-use gql_schema_types::{ExtendedType, InterfaceType, Table};
+use gql_schema_types::{ExtendedType, InterfaceType, Shared, Table};
 use jb_text::{Listed, Memory};
 use std::alloc::Global;
 
@@ -65,7 +65,7 @@ fn list_implementations(
     alloc: Global,
     types: &Table<ExtendedType>,
     ty: &Name,
-    fields: &Table<FieldDefinition>,
+    fields: &Table<Shared<FieldDefinition>>,
     listed: &[Name],
     faults: &mut Listed<DiagnosticData>,
 ) -> Result<(), Memory>
@@ -79,7 +79,7 @@ fn list_each(
     alloc: Global,
     types: &Table<ExtendedType>,
     ty: &Name,
-    fields: &Table<FieldDefinition>,
+    fields: &Table<Shared<FieldDefinition>>,
     listed: &[Name],
     faults: &mut Listed<DiagnosticData>,
 ) -> Result<(), Memory>
@@ -96,7 +96,7 @@ fn list_listed(
     alloc: Global,
     types: &Table<ExtendedType>,
     ty: &Name,
-    fields: &Table<FieldDefinition>,
+    fields: &Table<Shared<FieldDefinition>>,
     name: &Name,
     faults: &mut Listed<DiagnosticData>,
 ) -> Result<(), Memory>
@@ -115,7 +115,7 @@ fn list_implementation(
     alloc: Global,
     types: &Table<ExtendedType>,
     ty: &Name,
-    fields: &Table<FieldDefinition>,
+    fields: &Table<Shared<FieldDefinition>>,
     found: &ExtendedType,
     faults: &mut Listed<DiagnosticData>,
 ) -> Result<(), Memory>
@@ -136,7 +136,7 @@ fn list_fields(
     alloc: Global,
     types: &Table<ExtendedType>,
     ty: &Name,
-    fields: &Table<FieldDefinition>,
+    fields: &Table<Shared<FieldDefinition>>,
     interface: &InterfaceType,
     faults: &mut Listed<DiagnosticData>,
 ) -> Result<(), Memory>

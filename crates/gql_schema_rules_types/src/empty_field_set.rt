@@ -7,6 +7,7 @@ use gql_ast_base::Name;
 use gql_ast_definitions::FieldDefinition;
 use gql_diag_messages::{DiagnosticData, Rule};
 use gql_rules_base::list_name;
+use gql_schema_types::Shared;
 use jb_text::{Listed, Memory};
 use std::alloc::Global;
 
@@ -14,7 +15,7 @@ use std::alloc::Global;
 pub(crate) fn list_empty_field_set(
     alloc: Global,
     name: &Name,
-    fields: &[FieldDefinition],
+    fields: &[Shared<FieldDefinition>],
     faults: &mut Listed<DiagnosticData>,
 ) -> Result<(), Memory>
     ensures { OnOk result (faults.new ≡ faults.old ++ spec.empty_field_set name.now fields.now) }

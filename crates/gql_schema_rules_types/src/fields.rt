@@ -12,7 +12,7 @@ use gql_ast_definitions::{DirectiveLocation, EnumValueDefinition, FieldDefinitio
 use gql_diag_messages::DiagnosticData;
 use gql_rules_base::{Defined, is_written, named_type};
 use gql_rules_values::list_directives;
-use gql_schema_types::Schema;
+use gql_schema_types::{Schema, Shared};
 use jb_text::{Listed, Memory};
 use std::alloc::Global;
 
@@ -20,7 +20,7 @@ use std::alloc::Global;
 pub(crate) fn list_fields(
     alloc: Global,
     schema: &Schema,
-    fields: &[FieldDefinition],
+    fields: &[Shared<FieldDefinition>],
     faults: &mut Listed<DiagnosticData>,
 ) -> Result<(), Memory>
     ensures { OnOk result (faults.new ≡ faults.old ++ spec.fields_faults schema.now fields.now) }

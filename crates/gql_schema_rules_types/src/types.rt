@@ -26,7 +26,7 @@ use gql_rules_base::{Defined, is_written};
 use gql_rules_values::list_directives;
 use gql_schema_types::{
     EnumType, ExtendedType, InputObjectType, InterfaceType, ObjectType, ScalarType, Schema,
-    UnionType,
+    Shared, UnionType,
 };
 use gql_source::SourceSpan;
 use jb_text::{Listed, Memory};
@@ -196,7 +196,7 @@ fn list_no_fields(
     alloc: Global,
     place: Option<SourceSpan>,
     name: &Name,
-    fields: &[FieldDefinition],
+    fields: &[Shared<FieldDefinition>],
     faults: &mut Listed<DiagnosticData>,
 ) -> Result<(), Memory>
     ensures { OnOk result (faults.new ≡ faults.old ++ spec.if_written place (empty_field_set name.now fields.now)) }

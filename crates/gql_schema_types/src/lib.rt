@@ -9,6 +9,7 @@ mod implementers;
 mod meta_fields;
 mod named;
 mod schema;
+mod shared;
 mod table;
 mod types;
 
@@ -16,6 +17,7 @@ pub use implementers::{Implementers, ImplementersMap};
 pub use meta_fields::MetaFields;
 pub use named::Named;
 pub use schema::{Schema, SchemaDefinition};
+pub use shared::Shared;
 pub use table::Table;
 pub use types::{
     EnumType, ExtendedType, InputObjectType, InterfaceType, ObjectType, ScalarType, UnionType,

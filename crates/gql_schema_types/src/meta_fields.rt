@@ -5,6 +5,7 @@ ghost use Rattle.std.specs.Option.{option_copied};
 ghost use Rattle.gql_ast_base.specs.Names.{is_name};
 ghost use Rattle.gql_schema_types.specs.MetaFields as spec;
 
+use crate::shared::Shared;
 use gql_ast_base::{Name, both};
 use gql_ast_definitions::{FieldDefinition, InputValueDefinition};
 use gql_ast_values::TypeRef;
@@ -15,9 +16,9 @@ use std::marker::Model;
 /// The fields that types have besides their own (GraphQL October 2021, sections 2.9.1 and 4.1). A schema keeps them so
 /// that it can lend them; all values are the same.
 pub struct MetaFields {
-    type_name: FieldDefinition,
-    schema: FieldDefinition,
-    ty: FieldDefinition,
+    type_name: Shared<FieldDefinition>,
+    schema: Shared<FieldDefinition>,
+    ty: Shared<FieldDefinition>,
 }
 
 impl Drop for MetaFields {
@@ -65,7 +66,7 @@ impl MetaFields {
         composite: bool,
         query_root: bool,
         name: &str,
-    ) -> Option<&FieldDefinition>
+    ) -> Option<&Shared<FieldDefinition>>
         ensures { option_copied result ≡ meta_field composite query_root name.now }
     {
         if composite && name == "__typename" {
@@ -93,37 +94,39 @@ fn name(alloc: Global, text: &str) -> Result<Name, Memory>
 }
 
 /// A field without arguments, of a type that is not null.
-fn plain_field(alloc: Global, text: &str, ty: &str) -> Result<FieldDefinition, Memory>
+fn plain_field(alloc: Global, text: &str, ty: &str) -> Result<Shared<FieldDefinition>, Memory>
     requires text { is_name text.now ≡ true }
     requires ty { is_name ty.now ≡ true }
     ensures { IfOk result (λ made. made ≡ spec.field text.now [] (TypeRef.NonNullNamed (spec.named ty.now))) }
 {
     let (name, ty) = both(name(alloc, text), name(alloc, ty))?;
-    Ok(FieldDefinition {
+    let field = FieldDefinition {
         description: None,
         name,
         arguments: Listed::new(alloc),
         ty: TypeRef::NonNullNamed(ty),
         directives: Listed::new(alloc),
         location: None,
-    })
+    };
+    Shared::new(alloc, field)
 }
 
 /// The field `__type`.
-fn type_field(alloc: Global) -> Result<FieldDefinition, Memory>
+fn type_field(alloc: Global) -> Result<Shared<FieldDefinition>, Memory>
     ensures { IfOk result (λ made. made ≡ spec.type_field) }
 {
     let mut arguments = Listed::new(alloc);
     arguments.push(name_argument(alloc)?)?;
     let (name, ty) = both(name(alloc, "__type"), name(alloc, "__Type"))?;
-    Ok(FieldDefinition {
+    let field = FieldDefinition {
         description: None,
         name,
         arguments,
         ty: TypeRef::Named(ty),
         directives: Listed::new(alloc),
         location: None,
-    })
+    };
+    Shared::new(alloc, field)
 }
 
 /// The argument of `__type`.

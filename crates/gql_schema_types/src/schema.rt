@@ -4,6 +4,7 @@ ghost use Rattle.std.specs.Prelude.{◌≡◌, codes};
 ghost use Rattle.std.specs.Option.{option_copied};
 
 use crate::meta_fields::MetaFields;
+use crate::shared::Shared;
 use crate::table::Table;
 use crate::types::{ExtendedType, ObjectType};
 use gql_ast_base::{Name, OperationType};
@@ -101,7 +102,7 @@ impl Schema {
     /// `__type` of the root type of queries (sections 2.9.1 and 4.1). `None` exactly where there is none of these, or no
     /// such type. It takes no memory.
     #[must_use]
-    pub fn type_field(&self, type_name: &str, field_name: &str) -> Option<&FieldDefinition>
+    pub fn type_field(&self, type_name: &str, field_name: &str) -> Option<&Shared<FieldDefinition>>
         ensures { option_copied result ≡ spec.field_of self.now type_name.now field_name.now }
     {
         match self.types.get(type_name) {
@@ -116,7 +117,7 @@ impl Schema {
         ty: &'s ExtendedType,
         type_name: &str,
         field_name: &str,
-    ) -> Option<&'s FieldDefinition>
+    ) -> Option<&'s Shared<FieldDefinition>>
         ensures { option_copied result ≡ spec.field_on self.now.schema_definition ty.now type_name.now field_name.now }
     {
         match ty.own_field(field_name) {

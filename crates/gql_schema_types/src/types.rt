@@ -3,6 +3,7 @@
 ghost use Rattle.std.specs.Prelude.{◌≡◌};
 
 use crate::named::Named;
+use crate::shared::Shared;
 use crate::table::Table;
 use gql_ast_base::Name;
 use gql_ast_definitions::{EnumValueDefinition, FieldDefinition, InputValueDefinition};
@@ -35,7 +36,7 @@ pub struct ObjectType {
     pub name: Name,
     pub implements_interfaces: Listed<Name>,
     pub directives: Listed<Directive>,
-    pub fields: Table<FieldDefinition>,
+    pub fields: Table<Shared<FieldDefinition>>,
     pub location: Option<SourceSpan>,
 }
 
@@ -58,7 +59,7 @@ pub struct InterfaceType {
     pub name: Name,
     pub implements_interfaces: Listed<Name>,
     pub directives: Listed<Directive>,
-    pub fields: Table<FieldDefinition>,
+    pub fields: Table<Shared<FieldDefinition>>,
     pub location: Option<SourceSpan>,
 }
 
@@ -197,7 +198,7 @@ impl ExtendedType {
 
     /// Its own field of the name: those of object and interface types alone have any.
     #[must_use]
-    pub fn own_field(&self, name: &str) -> Option<&FieldDefinition>
+    pub fn own_field(&self, name: &str) -> Option<&Shared<FieldDefinition>>
         ensures { option_copied result ≡ entry field_name name.now (fields_of self.now) }
     {
         match self {
