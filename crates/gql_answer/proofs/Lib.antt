@@ -4,4 +4,3 @@ pub mod Causes
 mod Runs
 pub mod Responses
 mod Faulty
-mod Heads

@@ -1,16 +1,14 @@
 //! Responses as bytes.
 
-ghost use Rattle.std.specs.Prelude.{◌≡◌, ◌++◌, ℕ, List, Option, codes, IfOk};
-ghost use Rattle.jb_print.specs.Compact.{compact};
+ghost use Rattle.std.specs.Prelude.{IfOk};
 ghost use Rattle.gql_answer.specs.Answered.{IsPrint};
 ghost use Rattle.gql_exec_request.specs.Running.{IsPrintedIn};
-ghost use Rattle.gql_response.specs.Response.{Member, data_value, response_value};
 ghost use Rattle.gql_response.specs.declared.execution_response.ExecutionResponse.{ExecutionResponse as Response};
 
 use bytes::Bytes;
-use gql_diag::{ExecutionResponse, GraphQLError};
+use gql_diag::ExecutionResponse;
 use gql_exec_request::WrittenResponse;
-use jb_tree::{Listed, Memory};
+use jb_tree::Memory;
 use std::alloc::Global;
 
 /// The bytes of a response, and the number of its errors.
@@ -25,27 +23,9 @@ pub(crate) fn write_response(alloc: Global, written: WrittenResponse) -> Result<
     ensures { IfOk result (λ made. (response : Response) → IsPrintedIn response written → IsPrint response made) }
 {
     let WrittenResponse { errors, data } = written;
-    let count = errors.len();
-    let data = data.as_str().as_bytes();
-    let head = before_data(alloc, errors)?;
-    let room = head.len().saturating_add(data.len()).saturating_add(1);
-    let mut bytes = Vec::with_capacity(alloc, room)?;
-    bytes.extend_from_slice(head.as_slice())?;
-    bytes.extend_from_slice(data)?;
-    bytes.push(b'}')?;
+    let bytes = ExecutionResponse::bytes_with(alloc, errors.as_slice(), data.as_str())?;
     Ok(Written {
-        bytes: Bytes::from_vec(bytes)?,
-        errors: count,
+        bytes,
+        errors: errors.len(),
     })
-}
-
-/// What stands before the data in a response with these errors. `Err` only for want of memory.
-fn before_data(alloc: Global, errors: Listed<GraphQLError>) -> Result<Bytes, Memory>
-    ensures { IfOk result (λ head. (root : Option (List Member))
-        → compact (response_value (record { errors = errors; root = root })) ≡ head ++ (compact (data_value root) ++ codes "}")) }
-{
-    let response = ExecutionResponse { errors, root: None };
-    let mut head = response.to_bytes(alloc)?;
-    head.truncate(head.len().saturating_sub(b"null}".len()));
-    Ok(head)
 }

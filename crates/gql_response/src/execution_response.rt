@@ -1,6 +1,6 @@
 //! Responses: what an execution gives.
 
-ghost use Rattle.std.specs.Prelude.{◌≡◌, ◌++◌, ◌∷◌, [], false, map, codes, IfOk, OnOk, string_bytes};
+ghost use Rattle.std.specs.Prelude.{◌≡◌, ◌++◌, ◌∷◌, [], false, List, Option, map, codes, IfOk, OnOk, string_bytes};
 ghost use Rattle.jb_print.specs.Pieces.{pieces_text, member_piece};
 ghost use Rattle.jb_print.specs.Compact.{compact};
 ghost use Rattle.jb_shape.specs.Outcome.{Answers};
@@ -46,6 +46,18 @@ impl ExecutionResponse {
     {
         let mut out = String::with_capacity(alloc, FIRST_ROOM)?;
         self.append(&mut out)?;
+        Ok(Bytes::from_vec(out.into_bytes())?)
+    }
+
+    /// The bytes of a response with these errors whose data are written already, as JSON without white space. `Err` only when
+    /// out of memory.
+    pub fn bytes_with(alloc: Global, errors: &[GraphQLError], data: &str) -> Result<Bytes, Memory>
+        ensures { IfOk result (λ bytes. (root : Option (List Member)) → data.now ≡ compact (data_value root)
+            → bytes ≡ compact (response_value (record { errors = errors.now; root = root }))) }
+    {
+        let room = FIRST_ROOM.saturating_add(data.len());
+        let mut out = String::with_capacity(alloc, room)?;
+        append_with(&mut out, errors, data)?;
         Ok(Bytes::from_vec(out.into_bytes())?)
     }
 
@@ -113,6 +125,19 @@ fn append_errors(out: &mut String, errors: &[GraphQLError]) -> Result<(), Memory
     append_key(out, false, "errors")?;
     append_list(out, errors)?;
     out.push_str(",")?;
+    Ok(())
+}
+
+/// Appends a response with these errors whose data are written already.
+fn append_with(out: &mut String, errors: &[GraphQLError], data: &str) -> Result<(), Memory>
+    ensures { OnOk result ((root : Option (List Member)) → data.now ≡ compact (data_value root)
+        → string_bytes out.new ≡ string_bytes out.old ++ compact (response_value (record { errors = errors.now; root = root }))) }
+{
+    out.push_str("{")?;
+    append_errors(out, errors)?;
+    append_key(out, false, "data")?;
+    out.push_str(data)?;
+    out.push_str("}")?;
     Ok(())
 }
 
