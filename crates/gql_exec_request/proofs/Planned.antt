@@ -14,7 +14,6 @@ use Rattle.gql_schema_types.specs.declared.types.ExtendedType.{ExtendedType}
 use Rattle.gql_schema_types.specs.declared.types.ExtendedType.TheVariants.{Scalar, Object, Interface, Union, Enum, InputObject}
 use Rattle.gql_schema_types.specs.declared.types.ObjectType.{ObjectType}
 use Rattle.gql_exec_groups.specs.Grouping.{groups_seen}
-use Rattle.gql_exec_groups.specs.Groups.{response_name}
 use Rattle.gql_exec_groups.specs.Ranks.{AreRanked}
 use Rattle.gql_exec_groups.specs.declared.group.Group.{Group as FieldsOfKey}
 use Rattle.gql_exec_places.specs.Execute.{Member}
@@ -22,8 +21,6 @@ use Rattle.gql_exec_places.specs.Trail.{Trail}
 use Rattle.gql_exec_plan.specs.Plan.{Ground, AreNodes, ArePartsOf, HaveNodes, IsNodeOf, IsPlanned, IsTyped, field_in, fields_in, group_in, groups_from, groups_in, nodes_in, parts_in, sets_below, type_in}
 use Rattle.gql_exec_plan.specs.declared.plan.Node.{Node}
 use Rattle.gql_exec_plan.specs.declared.plan.Part.{Part}
-use Rattle.gql_exec_plan.specs.declared.planned_field.PlannedField.{PlannedField}
-use Rattle.gql_exec_plan.proofs.Changes.{with_nodes, changed-field}
 use Rattle.gql_exec_plan.proofs.Fields.{field-at}
 use Rattle.gql_exec_plan.proofs.Nodes.{node-parts, part-nodes}
 use Rattle.gql_exec_introspected.specs.ThingMeaning.{Resolving}
@@ -53,10 +50,6 @@ pub group-there : (parts : List Part) (i : ℕ) (part : Part) (groups : List Fie
     → (i < length groups) × (group_in part ≡ get_or groups i (group_in part))
 group-there parts i part groups is same =
     subst (λ (gs : List FieldsOfKey). (i < length gs) × (group_in part ≡ get_or gs i (group_in part))) same (group-at parts i part is)
-
--- the response key of a part whose nodes have changed
-pub changed-key : (part : Part) (nodes : List Node) → (response_name (group_in (with_nodes part nodes)).first.now).text ≡ (response_name (group_in part).first.now).text
-changed-key part nodes = ap (λ (field : PlannedField). (response_name field.group.first.now).text) (changed-field part nodes)
 
 -- an object type that a schema has under a name has that name
 find-holds : {A : Type 0} (p : A → Bool) (xs : List A) (x : A) → find p xs ≡ Some x → p x ≡ true

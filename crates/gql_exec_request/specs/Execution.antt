@@ -170,7 +170,3 @@ IsCounted execution types resolves x before after wanted (Ok response) =
     × AreLooks (request_in execution p.variables types resolves) p.root x p.operation.selection_set.selections before after
 IsCounted execution types resolves x before after wanted (Err (Fault fault)) = wanted ≡ Err fault
 IsCounted execution types resolves x before after wanted (Err Memory) = Unit {0}
-
-abbrev pub CountsOver : {X : Type 0} → Execution → (X → List ℕ) → Resolving X → X → (before after : ℕ)
-    → Result ExecutionResponse (Refused RequestError) → Type 0
-CountsOver execution types resolves x before after answer = IsCounted execution types resolves x before after (prepared execution) answer
