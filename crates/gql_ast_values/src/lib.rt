@@ -7,6 +7,7 @@
 mod boxed;
 mod directive;
 mod literal;
+mod type_parts;
 mod type_ref;
 mod value;
 

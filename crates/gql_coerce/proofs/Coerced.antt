@@ -14,7 +14,8 @@ use Rattle.gql_coerce.specs.Outcome.{mapped, all_of}
 use Rattle.gql_coerce.specs.Faults.{fault}
 use Rattle.gql_coerce.specs.Messages.{missing_field, null_value}
 use Rattle.gql_coerce.specs.Subject.{field_words}
-use Rattle.gql_coerce.specs.TypeShape.{innermost, is_non_null, item_type, wrap}
+use Rattle.gql_ast_values.specs.TypeParts.{named_type, is_non_null, item_type}
+use Rattle.gql_coerce.specs.Wrapped.{wrap}
 use Rattle.gql_coerce.specs.Filled.{Members, not_given, filled}
 use Rattle.gql_coerce.specs.InputTypes.{input_object_called, field_name}
 use Rattle.gql_coerce.specs.InputValue.{Coercion, misfit, refused_or, places, field_given, field_value, input_object, object_at, leaf, object, array, level, rule, within, coerced}
@@ -80,7 +81,7 @@ module _ (types : List ExtendedType) (f g : Value → Coercion) (n : ℕ) (agree
   level-agree (Value-F.String text) small value = refl
   level-agree (Value-F.Array items) small value = λ i d ty. array-agree (item_type ty) items (omega (arith, size-Array items)) value d ty i
   level-agree (Value-F.Object members) small value =
-      λ i d ty. mapped (wrap ty) (object-agree (input_object_called (innermost ty).text types) members (omega (arith, size-Object members)) d (innermost ty) value i)
+      λ i d ty. mapped (wrap ty) (object-agree (input_object_called (named_type ty).text types) members (omega (arith, size-Object members)) d (named_type ty) value i)
 
   rule-agree : (value : Value) → size-Value value ≤ n → rule types f value ≡ rule types g value
   rule-agree value small =
@@ -111,13 +112,13 @@ module _ (types : List ExtendedType) where
   pub at-Null : (value : Value) (d : List ℕ) (ty : TypeRef) → value ≡ Null → coerced types value d ty ≡ (if is_non_null ty then Err (fault (null_value d ty)) else Ok Null)
   at-Null value d ty is = let opened : out-Value Null ≡ Value-F.Null = search (rules, the_lemmas) in at_type Value-F.Null value d ty (ap out-Value is ∙ opened)
 
-  pub at-Bool : (value : Value) (truth : Bool) (d : List ℕ) (ty : TypeRef) → value ≡ Truth truth → coerced types value d ty ≡ mapped (wrap ty) (leaf types d (innermost ty) value)
+  pub at-Bool : (value : Value) (truth : Bool) (d : List ℕ) (ty : TypeRef) → value ≡ Truth truth → coerced types value d ty ≡ mapped (wrap ty) (leaf types d (named_type ty) value)
   at-Bool value truth d ty is = let opened : out-Value (Truth truth) ≡ Value-F.Bool truth = search (rules, the_lemmas) in at_type (Value-F.Bool truth) value d ty (ap out-Value is ∙ opened)
 
-  pub at-Number : (value : Value) (number : ℤ) (d : List ℕ) (ty : TypeRef) → value ≡ Number number → coerced types value d ty ≡ mapped (wrap ty) (leaf types d (innermost ty) value)
+  pub at-Number : (value : Value) (number : ℤ) (d : List ℕ) (ty : TypeRef) → value ≡ Number number → coerced types value d ty ≡ mapped (wrap ty) (leaf types d (named_type ty) value)
   at-Number value number d ty is = let opened : out-Value (Number number) ≡ Value-F.Number number = search (rules, the_lemmas) in at_type (Value-F.Number number) value d ty (ap out-Value is ∙ opened)
 
-  pub at-String : (value : Value) (text : List ℕ) (d : List ℕ) (ty : TypeRef) → value ≡ String text → coerced types value d ty ≡ mapped (wrap ty) (leaf types d (innermost ty) value)
+  pub at-String : (value : Value) (text : List ℕ) (d : List ℕ) (ty : TypeRef) → value ≡ String text → coerced types value d ty ≡ mapped (wrap ty) (leaf types d (named_type ty) value)
   at-String value text d ty is = let opened : out-Value (String text) ≡ Value-F.String text = search (rules, the_lemmas) in at_type (Value-F.String text) value d ty (ap out-Value is ∙ opened)
 
   pub at-Array : (value : Value) (items : List Value) (d : List ℕ) (ty : TypeRef) (found : Option TypeRef) → value ≡ Array items → item_type ty ≡ found
@@ -127,7 +128,7 @@ module _ (types : List ExtendedType) where
       at_type (Value-F.Array items) value d ty (ap out-Value is ∙ opened) ∙ ap (λ item. array types (coerced types) item items value d ty) found_is
 
   pub at-Object : (value : Value) (members : Members) (d : List ℕ) (ty : TypeRef) → value ≡ Object members
-      → coerced types value d ty ≡ mapped (wrap ty) (object types (coerced types) members d (innermost ty) value)
+      → coerced types value d ty ≡ mapped (wrap ty) (object types (coerced types) members d (named_type ty) value)
   at-Object value members d ty is =
       let opened : out-Value (Object members) ≡ Value-F.Object members = search (rules, the_lemmas) in
       at_type (Value-F.Object members) value d ty (ap out-Value is ∙ opened)

@@ -16,7 +16,8 @@ use Rattle.gql_coerce.specs.Outcome.{mapped, all_of}
 use Rattle.gql_coerce.specs.Faults.{fault_at}
 use Rattle.gql_coerce.specs.Messages.{missing_field}
 use Rattle.gql_coerce.specs.Subject.{field_words}
-use Rattle.gql_coerce.specs.TypeShape.{innermost, item_type, wrap}
+use Rattle.gql_ast_values.specs.TypeParts.{named_type, item_type}
+use Rattle.gql_coerce.specs.Wrapped.{wrap}
 use Rattle.gql_coerce.specs.Filled.{Members, not_given, filled}
 use Rattle.gql_coerce.specs.InputTypes.{input_object_called, field_name}
 use Rattle.gql_coerce.specs.LiteralValue.{Coercion, Literals, greatest, greatest_member, depth_of, depth, member_name, last_of, last_named, refused_at, literal_misfit, null_at, variable_at, literal_given, literal_field, literal_object, literal_leaf, literal_members_at, literal_members, literal_array, literal_level, literal_rule, literal_within, coerced_literal}
@@ -114,7 +115,7 @@ module _ (types : List ExtendedType) (env : Members) (f g : Value → Coercion) 
   level-agree kind (ValueKind-F.Enum name) is small literal = refl
   level-agree kind (ValueKind-F.List items) is small literal = λ i d ty. array-agree (item_type ty) items (omega (arith, depth-List kind items is)) literal d ty i
   level-agree kind (ValueKind-F.Object members) is small literal =
-      λ i d ty. mapped (wrap ty) (members-agree (input_object_called (innermost ty).text types) members (omega (arith, depth-Object kind members is)) d (innermost ty) literal i)
+      λ i d ty. mapped (wrap ty) (members-agree (input_object_called (named_type ty).text types) members (omega (arith, depth-Object kind members is)) d (named_type ty) literal i)
 
   rule-agree : (literal : Value) → depth literal ≤ n → literal_rule types env f literal ≡ literal_rule types env g literal
   rule-agree literal small =
@@ -148,7 +149,7 @@ module _ (types : List ExtendedType) (env : Members) where
       let opened : out-ValueKind (Variable name) ≡ ValueKind-F.Variable name = search (rules, the_lemmas) in at_kind (ValueKind-F.Variable name) literal d ty (ap out-ValueKind is ∙ opened)
 
   abbrev pub Single : Value → List ℕ → TypeRef → Type 0
-  Single literal d ty = coerced_literal types env literal d ty ≡ mapped (wrap ty) (literal_leaf types d (innermost ty) literal)
+  Single literal d ty = coerced_literal types env literal d ty ≡ mapped (wrap ty) (literal_leaf types d (named_type ty) literal)
 
   pub at-Int : (literal : Value) (text : List ℕ) (d : List ℕ) (ty : TypeRef) → literal.kind ≡ Int text → Single literal d ty
   at-Int literal text d ty is = let opened : out-ValueKind (Int text) ≡ ValueKind-F.Int text = search (rules, the_lemmas) in at_kind (ValueKind-F.Int text) literal d ty (ap out-ValueKind is ∙ opened)
@@ -172,7 +173,7 @@ module _ (types : List ExtendedType) (env : Members) where
       at_kind (ValueKind-F.List items) literal d ty (ap out-ValueKind is ∙ opened) ∙ ap (λ item. literal_array types env (coerced_literal types env) item items literal d ty) found_is
 
   pub at-Object : (literal : Value) (members : Literals) (d : List ℕ) (ty : TypeRef) → literal.kind ≡ ObjectKind members
-      → coerced_literal types env literal d ty ≡ mapped (wrap ty) (literal_members types env (coerced_literal types env) members d (innermost ty) literal)
+      → coerced_literal types env literal d ty ≡ mapped (wrap ty) (literal_members types env (coerced_literal types env) members d (named_type ty) literal)
   at-Object literal members d ty is =
       let opened : out-ValueKind (ObjectKind members) ≡ ValueKind-F.Object members = search (rules, the_lemmas) in
       at_kind (ValueKind-F.Object members) literal d ty (ap out-ValueKind is ∙ opened)

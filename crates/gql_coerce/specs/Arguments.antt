@@ -14,7 +14,7 @@ use Rattle.gql_coerce.specs.Outcome.{Outcome, mapped}
 use Rattle.gql_coerce.specs.Faults.{fault_at}
 use Rattle.gql_coerce.specs.Subject.{argument_words}
 use Rattle.gql_coerce.specs.Messages.{null_argument, missing_argument}
-use Rattle.gql_coerce.specs.TypeShape.{is_non_null}
+use Rattle.gql_ast_values.specs.TypeParts.{is_non_null}
 use Rattle.gql_coerce.specs.Filled.{Members, filled, not_given}
 use Rattle.gql_coerce.specs.InputTypes.{field_name}
 use Rattle.gql_coerce.specs.LiteralValue.{coerced_literal}

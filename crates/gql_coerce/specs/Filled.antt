@@ -7,7 +7,7 @@ use Rattle.gql_ast_values.specs.declared.type_ref.TypeRef.{TypeRef}
 use Rattle.gql_ast_values.specs.declared.value.Value.{Value}
 use Rattle.gql_coerce.specs.declared.fault.CoercionFault.{CoercionFault}
 use Rattle.gql_coerce.specs.Outcome.{Outcome, and_then, mapped}
-use Rattle.gql_coerce.specs.TypeShape.{is_non_null}
+use Rattle.gql_ast_values.specs.TypeParts.{is_non_null}
 use Rattle.gql_coerce.specs.Translation.{translated}
 
 abbrev pub Members : Type 0

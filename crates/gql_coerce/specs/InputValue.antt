@@ -17,7 +17,8 @@ use Rattle.gql_coerce.specs.Outcome.{Outcome, mapped, all_of}
 use Rattle.gql_coerce.specs.Faults.{fault, bug_at}
 use Rattle.gql_coerce.specs.Subject.{field_words}
 use Rattle.gql_coerce.specs.Messages.{null_value, could_not_coerce, undefined_type, non_input_type, unknown_key, missing_field}
-use Rattle.gql_coerce.specs.TypeShape.{innermost, is_non_null, item_type, wrap}
+use Rattle.gql_ast_values.specs.TypeParts.{named_type, is_non_null, item_type}
+use Rattle.gql_coerce.specs.Wrapped.{wrap}
 use Rattle.gql_coerce.specs.Scalars.{scalar_takes, enum_takes}
 use Rattle.gql_coerce.specs.InputTypes.{input_object_called, field_name, is_field}
 use Rattle.gql_coerce.specs.Filled.{Members, filled, not_given}
@@ -104,15 +105,15 @@ module _ (types : List ExtendedType) where
 
     abbrev pub array : Option TypeRef → List Value → Value → Coercion
     array (Some item) items value d ty = each_at below d item items
-    array None items value d ty = leaf d (innermost ty) value
+    array None items value d ty = leaf d (named_type ty) value
 
     abbrev pub level : Value-F Value → Value → Coercion
     level Value-F.Null value d ty = if is_non_null ty then Err (fault (null_value d ty)) else Ok Null
-    level (Value-F.Bool truth) value d ty = mapped (wrap ty) (leaf d (innermost ty) value)
-    level (Value-F.Number number) value d ty = mapped (wrap ty) (leaf d (innermost ty) value)
-    level (Value-F.String text) value d ty = mapped (wrap ty) (leaf d (innermost ty) value)
+    level (Value-F.Bool truth) value d ty = mapped (wrap ty) (leaf d (named_type ty) value)
+    level (Value-F.Number number) value d ty = mapped (wrap ty) (leaf d (named_type ty) value)
+    level (Value-F.String text) value d ty = mapped (wrap ty) (leaf d (named_type ty) value)
     level (Value-F.Array items) value d ty = array (item_type ty) items value d ty
-    level (Value-F.Object members) value d ty = mapped (wrap ty) (object members d (innermost ty) value)
+    level (Value-F.Object members) value d ty = mapped (wrap ty) (object members d (named_type ty) value)
 
     abbrev pub rule : Value → Coercion
     rule value = level (out-Value value) value

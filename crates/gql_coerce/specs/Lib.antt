@@ -1,7 +1,7 @@
 pub mod Outcome
 pub mod Faults
 pub mod Subject
-pub mod TypeShape
+pub mod Wrapped
 pub mod Messages
 pub mod Missing
 pub mod Scalars

@@ -22,7 +22,8 @@ use Rattle.gql_coerce.specs.Outcome.{Outcome, mapped, all_of}
 use Rattle.gql_coerce.specs.Faults.{fault_at, bug_at}
 use Rattle.gql_coerce.specs.Subject.{field_words}
 use Rattle.gql_coerce.specs.Messages.{null_literal, null_variable, absent_variable, could_not_coerce, undefined_type, unknown_literal_key, missing_field}
-use Rattle.gql_coerce.specs.TypeShape.{innermost, is_non_null, item_type, wrap}
+use Rattle.gql_ast_values.specs.TypeParts.{named_type, is_non_null, item_type}
+use Rattle.gql_coerce.specs.Wrapped.{wrap}
 use Rattle.gql_coerce.specs.Filled.{Members, filled, not_given}
 use Rattle.gql_coerce.specs.InputTypes.{as_input_object, input_object_called, field_name}
 use Rattle.gql_coerce.specs.InputValue.{first_unknown}
@@ -138,18 +139,18 @@ module _ (types : List ExtendedType) where
 
       abbrev pub literal_array : Option TypeRef → List Value → Value → Coercion
       literal_array (Some item) items literal d ty = each_literal_at below d item items
-      literal_array None items literal d ty = literal_leaf d (innermost ty) literal
+      literal_array None items literal d ty = literal_leaf d (named_type ty) literal
 
       abbrev pub literal_level : ValueKind-F ValueKind Value → Value → Coercion
       literal_level ValueKind-F.Null literal d ty = null_at literal.location d ty
       literal_level (ValueKind-F.Variable name) literal d ty = variable_at literal.location d ty (lookup (bytes_eq name.text) env)
       literal_level (ValueKind-F.List items) literal d ty = literal_array (item_type ty) items literal d ty
-      literal_level (ValueKind-F.Object members) literal d ty = mapped (wrap ty) (literal_members members d (innermost ty) literal)
-      literal_level (ValueKind-F.Int text) literal d ty = mapped (wrap ty) (literal_leaf d (innermost ty) literal)
-      literal_level (ValueKind-F.Float text) literal d ty = mapped (wrap ty) (literal_leaf d (innermost ty) literal)
-      literal_level (ValueKind-F.String text) literal d ty = mapped (wrap ty) (literal_leaf d (innermost ty) literal)
-      literal_level (ValueKind-F.Boolean truth) literal d ty = mapped (wrap ty) (literal_leaf d (innermost ty) literal)
-      literal_level (ValueKind-F.Enum name) literal d ty = mapped (wrap ty) (literal_leaf d (innermost ty) literal)
+      literal_level (ValueKind-F.Object members) literal d ty = mapped (wrap ty) (literal_members members d (named_type ty) literal)
+      literal_level (ValueKind-F.Int text) literal d ty = mapped (wrap ty) (literal_leaf d (named_type ty) literal)
+      literal_level (ValueKind-F.Float text) literal d ty = mapped (wrap ty) (literal_leaf d (named_type ty) literal)
+      literal_level (ValueKind-F.String text) literal d ty = mapped (wrap ty) (literal_leaf d (named_type ty) literal)
+      literal_level (ValueKind-F.Boolean truth) literal d ty = mapped (wrap ty) (literal_leaf d (named_type ty) literal)
+      literal_level (ValueKind-F.Enum name) literal d ty = mapped (wrap ty) (literal_leaf d (named_type ty) literal)
 
       abbrev pub literal_rule : Value → Coercion
       literal_rule literal = literal_level (out-ValueKind literal.kind) literal

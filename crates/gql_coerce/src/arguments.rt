@@ -15,7 +15,6 @@ use crate::missing::Missing;
 use crate::outcome::{given_value, put};
 use crate::subject::Subject;
 use crate::told::{ArgumentFault, tell_arguments};
-use crate::type_shape::is_non_null;
 use gql_ast_definitions::{FieldDefinition, InputValueDefinition};
 use gql_ast_values::{Argument, Value as Literal, ValueKind};
 use gql_diag::{JsonMap, Valid};
@@ -143,7 +142,7 @@ impl<'s> LiteralCoercion<'s> {
     ) -> Result<Option<Value>, Refused<CoercionFault>>
         ensures { Answers (whole_value definition.now value.now) result }
     {
-        if is_non_null(&definition.ty) && value.as_null().is_some() {
+        if definition.ty.is_non_null() && value.as_null().is_some() {
             return refuse(
                 null_argument(self.coercion.alloc, definition.name.as_str()),
                 definition.location,

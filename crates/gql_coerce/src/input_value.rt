@@ -9,7 +9,8 @@ ghost use Rattle.jb_tree.specs.declared.value.Value.{Value as JsonValue, Null, O
 ghost use Rattle.gql_coerce.specs.Outcome.{Outcome, Answers, mapped, all_of};
 ghost use Rattle.gql_coerce.specs.Subject.{subject_text};
 ghost use Rattle.gql_coerce.specs.Missing.{missing_fault};
-ghost use Rattle.gql_coerce.specs.TypeShape.{wrap, innermost, is_non_null};
+ghost use Rattle.gql_ast_values.specs.TypeParts.{named_type, is_non_null};
+ghost use Rattle.gql_coerce.specs.Wrapped.{wrap};
 ghost use Rattle.gql_coerce.specs.Filled.{filled, absent, not_given};
 ghost use Rattle.gql_coerce.specs.InputValue as spec;
 ghost use Rattle.gql_coerce.specs.InputTypes.{field_name};
@@ -24,8 +25,8 @@ use crate::outcome::{given_value, places, put};
 use crate::scalar::{enum_takes, scalar_takes};
 use crate::subject::Subject;
 use crate::translation::translate;
-use crate::type_shape::{innermost, is_non_null, wrap};
 use crate::wanted::Wanted;
+use crate::wrapped::wrap;
 use gql_ast_base::Name;
 use gql_ast_definitions::InputValueDefinition;
 use gql_ast_values::{TypeRef, Value as Literal};
@@ -77,7 +78,7 @@ impl<'s> Coercion<'s> {
     ) -> Result<Value, Refused<CoercionFault>>
         ensures { Answers (if is_non_null ty.now then Err (fault (null_text (subject_text subject.now) ty.now)) else Ok Null) result }
     {
-        if is_non_null(ty) {
+        if ty.is_non_null() {
             return refuse(null_value(self.alloc, subject, ty), None);
         }
         Ok(Value::Null)
@@ -91,7 +92,7 @@ impl<'s> Coercion<'s> {
         wanted: &Wanted<'_>,
     ) -> Result<Value, Refused<CoercionFault>>
         requires { IsFound self.now.types.now wanted.now }
-        ensures { Answers (mapped (wrap wanted.now.ty.now) (leaf self.now.types.now (subject_text subject.now) (innermost wanted.now.ty.now) value.now)) result }
+        ensures { Answers (mapped (wrap wanted.now.ty.now) (leaf self.now.types.now (subject_text subject.now) (named_type wanted.now.ty.now) value.now)) result }
     {
         let made = self.coerce_leaf(value, subject, wanted);
         self.wrapped(wanted.ty, made)
@@ -140,9 +141,9 @@ impl<'s> Coercion<'s> {
         wanted: &Wanted<'_>,
     ) -> Result<Value, Refused<CoercionFault>>
         requires { IsFound self.now.types.now wanted.now }
-        ensures { Answers (leaf self.now.types.now (subject_text subject.now) (innermost wanted.now.ty.now) value.now) result }
+        ensures { Answers (leaf self.now.types.now (subject_text subject.now) (named_type wanted.now.ty.now) value.now) result }
     {
-        let name = innermost(wanted.ty);
+        let name = wanted.ty.inner_named_type();
         match wanted.found {
             None => self.undefined(subject, name),
             Some(ExtendedType::Scalar(_)) => {
@@ -170,10 +171,10 @@ impl<'s> Coercion<'s> {
         wanted: &Wanted<'_>,
     ) -> Result<Value, Refused<CoercionFault>>
         requires { IsFound self.now.types.now wanted.now }
-        ensures { Answers (object self.now.types.now (coerced self.now.types.now) members.now (subject_text subject.now) (innermost wanted.now.ty.now) value.now) result }
+        ensures { Answers (object self.now.types.now (coerced self.now.types.now) members.now (subject_text subject.now) (named_type wanted.now.ty.now) value.now) result }
     {
         match wanted.input_object() {
-            Some(it) => self.coerce_members(members, innermost(wanted.ty).as_str(), it),
+            Some(it) => self.coerce_members(members, wanted.ty.inner_named_type().as_str(), it),
             None => self.coerce_leaf(value, subject, wanted),
         }
     }
@@ -297,7 +298,7 @@ fn absent(
 ) -> Result<Option<Value>, Refused<CoercionFault>>
     ensures { Answers (absent ty.now (missing_fault missing.now)) result }
 {
-    if is_non_null(ty) {
+    if ty.is_non_null() {
         return missing.refuse(alloc);
     }
     Ok(None)

@@ -22,9 +22,9 @@ mod scalar;
 mod subject;
 mod told;
 mod translation;
-mod type_shape;
 mod variables;
 mod wanted;
+mod wrapped;
 
 pub use arguments::coerce_arguments;
 pub use told::{ArgumentFault, InputCoercionError};

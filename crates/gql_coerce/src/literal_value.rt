@@ -8,7 +8,8 @@ ghost use Rattle.jb_tree.specs.declared.value.Value.{Object};
 ghost use Rattle.gql_coerce.specs.Outcome.{Answers, mapped};
 ghost use Rattle.gql_coerce.specs.Subject.{subject_text};
 ghost use Rattle.gql_coerce.specs.Filled.{filled};
-ghost use Rattle.gql_coerce.specs.TypeShape.{wrap, innermost};
+ghost use Rattle.gql_ast_values.specs.TypeParts.{named_type};
+ghost use Rattle.gql_coerce.specs.Wrapped.{wrap};
 ghost use Rattle.gql_coerce.specs.ByName.{FindsLast};
 ghost use Rattle.gql_coerce.specs.InputTypes.{field_name};
 ghost use Rattle.gql_coerce.specs.InputValue.{first_unknown};
@@ -26,7 +27,6 @@ use crate::missing::Missing;
 use crate::outcome::{given_value, put};
 use crate::subject::Subject;
 use crate::translation::translate;
-use crate::type_shape::{innermost, is_non_null, item_type};
 use gql_ast_base::Name;
 use gql_ast_definitions::InputValueDefinition;
 use gql_ast_values::{TypeRef, Value as Literal, ValueKind};
@@ -62,12 +62,12 @@ impl<'s> LiteralCoercion<'s> {
                 ty,
                 name.as_str(),
             ),
-            ValueKind::List(items) => match item_type(ty) {
+            ValueKind::List(items) => match ty.item_type() {
                 Some(item) => self.coerce_items(items, subject, item),
-                None => self.leaf(literal, subject, innermost(ty)),
+                None => self.leaf(literal, subject, ty.inner_named_type()),
             },
             ValueKind::Object(members) => {
-                let made = self.coerce_object(members, literal, subject, innermost(ty));
+                let made = self.coerce_object(members, literal, subject, ty.inner_named_type());
                 self.coercion.wrapped(ty, made)
             }
             ValueKind::Int(_) => self.single(literal, subject, ty),
@@ -88,7 +88,7 @@ impl<'s> LiteralCoercion<'s> {
     ) -> Result<Value, Refused<CoercionFault>>
         ensures { Answers (null_at place (subject_text subject.now) ty.now) result }
     {
-        if is_non_null(ty) {
+        if ty.is_non_null() {
             return refuse(null_literal(self.coercion.alloc, subject), place);
         }
         Ok(Value::Null)
@@ -101,9 +101,9 @@ impl<'s> LiteralCoercion<'s> {
         subject: &Subject<'_>,
         ty: &TypeRef,
     ) -> Result<Value, Refused<CoercionFault>>
-        ensures { Answers (mapped (wrap ty.now) (literal_leaf self.now.coercion.types.now (subject_text subject.now) (innermost ty.now) literal.now)) result }
+        ensures { Answers (mapped (wrap ty.now) (literal_leaf self.now.coercion.types.now (subject_text subject.now) (named_type ty.now) literal.now)) result }
     {
-        let made = self.leaf(literal, subject, innermost(ty));
+        let made = self.leaf(literal, subject, ty.inner_named_type());
         self.coercion.wrapped(ty, made)
     }
 
@@ -118,11 +118,11 @@ impl<'s> LiteralCoercion<'s> {
         ensures { Answers (variable_at place (subject_text subject.now) ty.now (lookup (bytes_eq name.now) self.now.env.now)) result }
     {
         match self.env.get(name) {
-            Some(Value::Null) if is_non_null(ty) => {
+            Some(Value::Null) if ty.is_non_null() => {
                 refuse(null_variable(self.coercion.alloc, subject), place)
             }
             Some(value) => Ok(value.copy(self.coercion.alloc)?),
-            None if is_non_null(ty) => {
+            None if ty.is_non_null() => {
                 refuse(absent_variable(self.coercion.alloc, subject), place)
             }
             None => Ok(Value::Null),

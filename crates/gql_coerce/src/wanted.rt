@@ -3,11 +3,10 @@
 ghost use Rattle.std.specs.Prelude.{◌≡◌, IfSome};
 ghost use Rattle.std.specs.Option.{option_copied, option_map, option_and_then};
 ghost use Rattle.gql_coerce.specs.InputTypes.{as_input_object as input_object_of};
-ghost use Rattle.gql_coerce.specs.TypeShape.{item_type as item_of};
+ghost use Rattle.gql_ast_values.specs.TypeParts.{item_type as item_of};
 ghost use Rattle.gql_coerce.specs.Wanted.{IsFound};
 
 use crate::input_types::as_input_object;
-use crate::type_shape::{innermost, item_type};
 use gql_ast_values::TypeRef;
 use gql_schema_types::{ExtendedType, InputObjectType, Table};
 
@@ -26,7 +25,7 @@ impl<'t> Wanted<'t> {
     {
         Wanted {
             ty,
-            found: types.get(innermost(ty).as_str()),
+            found: types.get(ty.inner_named_type().as_str()),
         }
     }
 
@@ -35,7 +34,7 @@ impl<'t> Wanted<'t> {
         ensures ty { option_map (λ (item : _). item.ty.now) result ≡ item_of self.now.ty.now }
         ensures found { IfSome result (λ item. item.found ≡ self.now.found) }
     {
-        match item_type(self.ty) {
+        match self.ty.item_type() {
             Some(ty) => Some(Wanted {
                 ty,
                 found: self.found,

@@ -22,7 +22,8 @@ use Rattle.gql_coerce.specs.Filled.{Members, with_value, filled, absent, not_giv
 use Rattle.gql_coerce.specs.InputTypes.{input_object_called, field_name}
 use Rattle.gql_coerce.specs.Messages.{missing_field, missing_variable}
 use Rattle.gql_coerce.specs.Subject.{field_words, variable_words, default_words}
-use Rattle.gql_coerce.specs.TypeShape.{innermost, is_non_null, item_type, wrap}
+use Rattle.gql_ast_values.specs.TypeParts.{named_type, is_non_null, item_type}
+use Rattle.gql_coerce.specs.Wrapped.{wrap}
 use Rattle.gql_coerce.specs.Scalars.{scalar_takes, enum_takes}
 use Rattle.gql_coerce.specs.Translation.{translated}
 use Rattle.gql_coerce.specs.InputValue.{Coercion, misfit, refused_or, places, taken, at_definition, field_given, field_value, input_object, each_at, object_at, leaf, object, array, level, rule, within, coerced}
@@ -102,13 +103,13 @@ module _ (types : List ExtendedType) (fields : AreInputFields types) where
 
     array-unmarked : (found : Option TypeRef) (items : List Value) (d : List ℕ) (ty : TypeRef) → item_type ty ≡ found → is_input_type types ty ≡ true → (value : Value)
         → IsUnmarked (array types below found items value d ty)
-    array-unmarked None items d ty is input value = leaf-unmarked d (innermost ty) input value
+    array-unmarked None items d ty is input value = leaf-unmarked d (named_type ty) input value
     array-unmarked (Some item) items d ty is input value =
         mapped-unmarked Array (all_of (map (λ (other : Value). below other d item) items))
         (items-unmarked d item (ap (λ (name : Named). is_input (type_called name.text types)) (innermost-item ty item is) ∙ input) items)
 
-    wrapped : (d : List ℕ) (ty : TypeRef) → is_input_type types ty ≡ true → (value : Value) → IsUnmarked (mapped (wrap ty) (leaf types d (innermost ty) value))
-    wrapped d ty input value = mapped-unmarked (wrap ty) (leaf types d (innermost ty) value) (leaf-unmarked d (innermost ty) input value)
+    wrapped : (d : List ℕ) (ty : TypeRef) → is_input_type types ty ≡ true → (value : Value) → IsUnmarked (mapped (wrap ty) (leaf types d (named_type ty) value))
+    wrapped d ty input value = mapped-unmarked (wrap ty) (leaf types d (named_type ty) value) (leaf-unmarked d (named_type ty) input value)
 
     null-unmarked : (text : List ℕ) (b : Bool) → IsUnmarked {A = Value} (if b then Err (fault text) else Ok Null)
     null-unmarked text true = refl
@@ -121,8 +122,8 @@ module _ (types : List ExtendedType) (fields : AreInputFields types) where
     level-unmarked (Value-F.String text) value d ty input = wrapped d ty input value
     level-unmarked (Value-F.Array items) value d ty input = array-unmarked (item_type ty) items d ty refl input value
     level-unmarked (Value-F.Object members) value d ty input =
-        mapped-unmarked (wrap ty) (object types below members d (innermost ty) value)
-        (object-unmarked (input_object_called (innermost ty).text types) members d (innermost ty) refl input value)
+        mapped-unmarked (wrap ty) (object types below members d (named_type ty) value)
+        (object-unmarked (input_object_called (named_type ty).text types) members d (named_type ty) refl input value)
 
   within-unmarked : (n : ℕ) (value : Value) (d : List ℕ) (ty : TypeRef) → is_input_type types ty ≡ true → IsUnmarked (within types n value d ty)
   unfolding within

@@ -7,7 +7,7 @@ use Rattle.gql_ast_operations.specs.declared.operation.VariableDefinition.{Varia
 use Rattle.gql_ast_values.specs.declared.type_ref.TypeRef.{TypeRef}
 use Rattle.gql_ast_values.specs.declared.value.Value.{Value}
 use Rattle.gql_coerce.specs.InputTypes.{input_object_called}
-use Rattle.gql_coerce.specs.TypeShape.{innermost}
+use Rattle.gql_ast_values.specs.TypeParts.{named_type}
 use Rattle.gql_schema_types.specs.Types.{type_called, is_composite}
 use Rattle.gql_schema_types.specs.declared.types.ExtendedType.{ExtendedType}
 use Rattle.gql_schema_types.specs.declared.types.InputObjectType.{InputObjectType}
@@ -20,7 +20,7 @@ is_input found = option_map_or (λ ty. not (is_composite ty)) found false
 module _ (types : List ExtendedType) where
   -- within all lists the type is an input type of the schema
   abbrev pub is_input_type : TypeRef → Bool
-  is_input_type ty = is_input (type_called (innermost ty).text types)
+  is_input_type ty = is_input (type_called (named_type ty).text types)
 
   -- something of such a type, with such a default
   pub record IsInput (ty : TypeRef) (default : Option Value) : Type 0 where

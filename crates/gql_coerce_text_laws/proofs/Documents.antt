@@ -2,7 +2,6 @@
 use Rattle.std.proofs.Common.{◌≡◌, true, false, not, Option, Some, None, is_some, List, [], ◌∷◌, ◌++◌, flat_map, All, refl, sym, ap, ◌∙◌}
 use Rattle.std.specs.Option.{option_map_or}
 use Rattle.std.proofs.lemmas.List.Elements.{All-cons, All-nil, All-weaker}
-use Rattle.gql_ast_base.specs.Names.{Named}
 use Rattle.gql_ast_definitions.specs.declared.schema_definition.DirectiveLocation.TheVariants as at
 use Rattle.gql_ast_operations.specs.declared.operation.VariableDefinition.{VariableDefinition}
 use Rattle.gql_diag_messages.specs.declared.diagnostic_data.DiagnosticData.{DiagnosticData}
@@ -12,7 +11,7 @@ use Rattle.gql_document_types.specs.declared.operation.Operation.{Operation}
 use Rattle.gql_rules.specs.DocumentFaults.{AreDocumentFaults, AreFirstOrAll, AreOtherFaults}
 use Rattle.gql_rules_base.specs.Faults.{name_fault}
 use Rattle.gql_rules_base.specs.Known.{is_defined}
-use Rattle.gql_rules_base.specs.TypeShape.{named_type}
+use Rattle.gql_ast_values.specs.TypeParts.{named_type}
 use Rattle.gql_rules_base.specs.declared.known.Defined.TheVariants.{Types}
 use Rattle.gql_rules_fields.specs.Composite.{is_composite_name}
 use Rattle.gql_rules_fields.specs.DocumentNodes.{operation_location, directives_at, node_faults, document_nodes_faults}
@@ -27,7 +26,6 @@ use Rattle.gql_schema_types.specs.declared.schema.Schema.{Schema}
 use Rattle.gql_schema_types.specs.declared.types.ExtendedType.{ExtendedType}
 use Rattle.gql_coerce_laws.specs.Inputs.{is_input, is_input_type}
 use Rattle.gql_coerce_text_laws.proofs.Empty.{front_empty, back_empty, not_told, not_false, each_empty}
-use Rattle.gql_coerce_text_laws.proofs.Names.{innermost-named}
 
 -- ---- the rules on single nodes find nothing
 
@@ -78,8 +76,7 @@ variable-typed schema variable none =
     let of_type : T ≡ [] = front_empty T R none in
     let undefined = not_told (not (is_defined Types types name.text)) (name_fault UndefinedDefinition name) (front_empty (undefined_variable_type types variable) (variable_input_type types variable) of_type) in
     let output = not_told (is_composite_name types name.text) (output_type variable) (back_empty (undefined_variable_type types variable) (variable_input_type types variable) of_type) in
-    ap (λ (n : Named). is_input (type_called n.text types)) (innermost-named variable.ty)
-    ∙ is_input-of (type_called name.text types) (not_false (is_defined Types types name.text) undefined) output
+    is_input-of (type_called name.text types) (not_false (is_defined Types types name.text) undefined) output
 
 pub variables-typed : (schema : Schema) (document : ExecutableDocument) → AreDocumentFaults schema document []
     → All (λ (it : Operation). All (λ (variable : VariableDefinition). is_input_type schema.types variable.ty ≡ true) it.variables) document.operations

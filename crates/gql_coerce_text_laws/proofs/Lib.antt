@@ -1,6 +1,5 @@
 mod Empty
 mod Each
-mod Names
 mod Entries
 mod Scalars
 mod Found

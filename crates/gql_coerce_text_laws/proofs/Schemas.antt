@@ -9,7 +9,6 @@ use Rattle.std.proofs.lemmas.Slice.Eq.{bytes_eq-Decides}
 use Rattle.gql_source.specs.declared.file_id.FileId.{FileId}
 use Rattle.gql_ast.specs.declared.definition.Definition.{Definition}
 use Rattle.gql_ast.specs.declared.document.Document.{Document}
-use Rattle.gql_ast_base.specs.Names.{Named}
 use Rattle.gql_ast_default_laws.specs.Defaults.{HasConstantDefaults}
 use Rattle.gql_coerce_text_laws.proofs.Each.{Each, all-of}
 use Rattle.gql_ast_definitions.specs.declared.field_definition.InputValueDefinition.{InputValueDefinition}
@@ -19,7 +18,7 @@ use Rattle.gql_diag_messages.specs.declared.rule.Rule.TheVariants.{UndefinedDefi
 use Rattle.gql_parser.specs.Parsers.{its_file}
 use Rattle.gql_rules_base.specs.Faults.{fault, name_fault}
 use Rattle.gql_rules_base.specs.Known.{is_built_in_scalar, is_known}
-use Rattle.gql_rules_base.specs.TypeShape.{named_type}
+use Rattle.gql_ast_values.specs.TypeParts.{named_type}
 use Rattle.gql_rules_base.specs.Written.{is_written}
 use Rattle.gql_rules_base.specs.declared.known.Defined.TheVariants.{TypesAndScalars}
 use Rattle.gql_rules_values.specs.Directives.{directive_faults}
@@ -53,7 +52,6 @@ use Rattle.gql_coerce.specs.InputTypes.{as_input_object}
 use Rattle.gql_coerce_laws.specs.Inputs.{is_input, IsInputField, AreInputFields}
 use Rattle.gql_coerce_text_laws.proofs.Empty.{front_empty, back_empty, not_told, not_false, each_empty, of_entry}
 use Rattle.gql_coerce_text_laws.proofs.Fields.{IsUsers, OfType, OfSystem, of-types, of-definitions, of-built_in}
-use Rattle.gql_coerce_text_laws.proofs.Names.{innermost-named}
 use Rattle.gql_coerce_text_laws.proofs.Settled.{AreThere, any-at, settled-there, before-settled}
 
 abbrev is_scalar_type : Option ExtendedType → Bool
@@ -127,8 +125,7 @@ module _ (schema : Schema) (holds : AreSchemaFaults schema []) (fields : Each Of
         (record { object = found; field = target.1.0 }) in
         record {
           typed =
-              ap (λ (k : Named). is_input (type_called k.text (validated schema).types)) (innermost-named field.ty)
-              ∙ ap is_input there.field ∙ ap not target.1.1;
+              ap is_input there.field ∙ ap not target.1.1;
           constant = user.constant;
         }
 

@@ -10,5 +10,5 @@ pub use gql_document_build::{ExecutableDocumentBuilder, build_field_set};
 pub use gql_document_expand::{ExpandFault, expand_fragments};
 pub use gql_document_types::{
     Copying, ExecutableDocument, Field, FieldSet, Fragment, FragmentSpread, InlineFragment,
-    Operation, Selection, SelectionSet, innermost,
+    Operation, Selection, SelectionSet,
 };

@@ -11,7 +11,7 @@ use Rattle.gql_ast_operations.specs.declared.selection.InlineFragment.{InlineFra
 use Rattle.gql_ast_operations.specs.declared.selection.Selection.{Selection, the_lemmas}
 use Rattle.gql_ast_operations.specs.declared.selection.Selection.TheVariants as selection
 use Rattle.gql_diag_messages.specs.declared.diagnostic_data.DiagnosticData.{DiagnosticData}
-use Rattle.gql_document_types.specs.NamedType.{named_type}
+use Rattle.gql_ast_values.specs.TypeParts.{named_type}
 use Rattle.gql_schema_types.specs.Schemas.{field_of}
 use Rattle.gql_schema_types.specs.Types.{type_called}
 use Rattle.gql_schema_types.specs.declared.schema.Schema.{Schema}

@@ -8,7 +8,7 @@ use Rattle.gql_ast_definitions.specs.declared.field_definition.FieldDefinition.{
 use Rattle.gql_ast_operations.specs.declared.selection.FragmentSpread.{FragmentSpread}
 use Rattle.gql_ast_operations.specs.declared.selection.Selection.{Selection, fold-Selection}
 use Rattle.gql_ast_operations.specs.declared.selection.Selection.TheOpen.{Selection-F, Field-F, InlineFragment-F}
-use Rattle.gql_document_types.specs.NamedType.{named_type}
+use Rattle.gql_ast_values.specs.TypeParts.{named_type}
 use Rattle.gql_document_types.specs.declared.selection.Selection.{Selection as Built}
 use Rattle.gql_document_types.specs.declared.selection.Selection.TheVariants as built
 use Rattle.gql_document_types.specs.declared.selection.SelectionSet.{SelectionSet}

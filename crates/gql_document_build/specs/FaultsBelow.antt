@@ -8,7 +8,7 @@ use Rattle.gql_ast_operations.specs.declared.selection.Field.{Field}
 use Rattle.gql_ast_operations.specs.declared.selection.InlineFragment.{InlineFragment}
 use Rattle.gql_ast_operations.specs.declared.selection.Selection.{Selection}
 use Rattle.gql_diag_messages.specs.declared.diagnostic_data.DiagnosticData.{DiagnosticData}
-use Rattle.gql_document_types.specs.NamedType.{named_type}
+use Rattle.gql_ast_values.specs.TypeParts.{named_type}
 use Rattle.gql_schema_types.specs.Schemas.{field_of}
 use Rattle.gql_schema_types.specs.declared.schema.Schema.{Schema}
 use Rattle.gql_document_build.specs.Nodes.{is_of, is_open, is_nonempty, type_inside, nodes_of}

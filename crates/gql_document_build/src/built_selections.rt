@@ -8,9 +8,7 @@ use crate::type_kind::{Leaf, is_open, leaf_of, type_inside};
 use gql_ast_base::{Copying, Name, both};
 use gql_ast_definitions::FieldDefinition;
 use gql_ast_operations as ast;
-use gql_document_types::{
-    Field, FragmentSpread, InlineFragment, Selection, SelectionSet, innermost,
-};
+use gql_document_types::{Field, FragmentSpread, InlineFragment, Selection, SelectionSet};
 use gql_schema_types::{Schema, Shared};
 use jb_text::{Listed, Memory};
 use std::alloc::Global;
@@ -103,7 +101,7 @@ impl<'s> Make<'s> {
             return Ok(());
         }
         let (ty, definition) = both(
-            innermost(&definition.ty).copy(self.alloc),
+            definition.ty.inner_named_type().copy(self.alloc),
             definition.copy(self.alloc),
         )?;
         let selections = self.list(&ty, field.selection_set)?;

@@ -13,7 +13,6 @@ use gql_ast_base::Name;
 use gql_ast_definitions::FieldDefinition;
 use gql_ast_operations::{Field, InlineFragment, Selection};
 use gql_diag_messages::DiagnosticData;
-use gql_document_types::innermost;
 use gql_schema_types::Schema;
 use jb_text::{Listed, Memory};
 use std::alloc::Global;
@@ -113,7 +112,11 @@ impl<'s> Look<'s> {
                 field.location,
                 faults,
             ),
-            Leaf::Neither => self.list_all(innermost(&definition.ty), &field.selection_set, faults),
+            Leaf::Neither => self.list_all(
+                definition.ty.inner_named_type(),
+                &field.selection_set,
+                faults,
+            ),
         }
     }
 

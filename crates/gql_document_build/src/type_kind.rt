@@ -6,7 +6,6 @@ ghost use Rattle.gql_document_build.specs.Nodes as spec;
 
 use gql_ast_base::Name;
 use gql_ast_values::TypeRef;
-use gql_document_types::innermost;
 use gql_schema_types::{ExtendedType, Schema};
 
 /// The kind of a type that has no fields.
@@ -22,7 +21,7 @@ pub(crate) enum Leaf {
 pub(crate) fn leaf_of(schema: &Schema, ty: &TypeRef) -> Leaf
     ensures { result ≡ leaves.leaf_of schema.now ty.now }
 {
-    match schema.types.get(innermost(ty).as_str()) {
+    match schema.type_named_by(ty) {
         Some(ty) => leaf_kind(ty),
         None => Leaf::Neither,
     }

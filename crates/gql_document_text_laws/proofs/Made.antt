@@ -11,7 +11,7 @@ use Rattle.gql_ast_operations.specs.declared.selection.Selection.TheVariants as 
 use Rattle.gql_document_build.specs.BuiltSelections.{is_selected_leaf, makes_of, set_of, spread_of}
 use Rattle.gql_document_build.specs.Made as made
 use Rattle.gql_document_build.specs.Nodes.{Node, FieldNode, field, inline_fragment, is_nonempty, is_open, nodes, nodes_below, nodes_of, type_inside}
-use Rattle.gql_document_types.specs.NamedType.{named_type}
+use Rattle.gql_ast_values.specs.TypeParts.{named_type}
 use Rattle.gql_document_types.specs.declared.selection.Selection.{Selection as Built}
 use Rattle.gql_document_types.specs.declared.selection.Selection.TheVariants as built
 use Rattle.gql_schema_types.specs.Schemas.{field_of}

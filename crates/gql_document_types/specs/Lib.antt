@@ -1,5 +1,4 @@
 pub mod ChosenOperation
-pub mod NamedType
 pub mod RootFields
 pub mod RootWalk
 pub mod Spreads

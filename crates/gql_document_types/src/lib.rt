@@ -9,7 +9,6 @@
 mod document;
 mod fragment;
 mod fragments_acyclic;
-mod named_type;
 mod operation;
 mod operations_get;
 mod root_fields;
@@ -18,6 +17,5 @@ mod selection;
 pub use document::{ExecutableDocument, FieldSet};
 pub use fragment::Fragment;
 pub use gql_ast_base::Copying;
-pub use named_type::innermost;
 pub use operation::Operation;
 pub use selection::{Field, FragmentSpread, InlineFragment, Selection, SelectionSet};

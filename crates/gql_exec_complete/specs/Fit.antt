@@ -7,14 +7,12 @@ use Rattle.jb_tree.specs.Value.{is_null, whole_number}
 use Rattle.gql_ast_base.specs.Names.{Named}
 use Rattle.gql_ast_values.specs.declared.type_ref.TypeRef.{TypeRef}
 use Rattle.gql_ast_definitions.specs.declared.field_definition.EnumValueDefinition.{EnumValueDefinition}
-use Rattle.gql_document_types.specs.NamedType.{named_type}
-use Rattle.gql_schema_types.specs.Types.{type_called}
-use Rattle.gql_schema_types.specs.Schemas.{object_of}
+use Rattle.gql_ast_values.specs.TypeParts.{named_type, is_non_null}
+use Rattle.gql_schema_types.specs.Schemas.{object_of, type_named}
 use Rattle.gql_schema_types.specs.declared.schema.Schema.{Schema}
 use Rattle.gql_schema_types.specs.declared.types.ExtendedType.{ExtendedType}
 use Rattle.gql_schema_types.specs.declared.types.ExtendedType.TheVariants as type
 use Rattle.gql_schema_types.specs.declared.types.ObjectType.{ObjectType}
-use Rattle.gql_exec_places.specs.Types.{is_strict}
 use Rattle.gql_exec_places.specs.Resolved.{Meaning, gives_leaf, gives_object, gives_list, gives_skip, fails_with, Misfit}
 use Rattle.gql_exec_complete.specs.Lists.{is_list}
 use Rattle.gql_exec_complete.specs.Messages as message
@@ -61,11 +59,7 @@ leaf_at (Some (type.Union it)) T value = Some (wrong (message.leaf_at_composite 
 
 -- null fits where it is not ruled out
 abbrev pub null_misfit : TypeRef → Option Misfit
-null_misfit ty = if is_strict ty then Some (wrong (message.null_at_non_null ty)) else None
-
--- the type of the schema that the name within all lists of a type is of
-abbrev pub type_of_name : Schema → TypeRef → Option ExtendedType
-type_of_name schema ty = type_called (named_type ty).text schema.types
+null_misfit ty = if is_non_null ty then Some (wrong (message.null_at_non_null ty)) else None
 
 abbrev pub leaf_misfit_at : Option ExtendedType → TypeRef → Value → Option Misfit
 leaf_misfit_at named ty value =
@@ -74,7 +68,7 @@ leaf_misfit_at named ty value =
     else leaf_at named (named_type ty).text value)
 
 abbrev pub leaf_misfit : Schema → TypeRef → Value → Option Misfit
-leaf_misfit schema ty value = leaf_misfit_at (type_of_name schema ty) ty value
+leaf_misfit schema ty value = leaf_misfit_at (type_named schema ty) ty value
 
 -- ---- Lists
 
@@ -110,7 +104,7 @@ module _ (schema : Schema) where
   abbrev pub object_misfit : TypeRef → List ℕ → Option Misfit
   object_misfit ty found =
       if is_list ty then Some (wrong (message.other_at_list ty))
-      else object_at (type_of_name schema ty) (named_type ty).text found
+      else object_at (type_named schema ty) (named_type ty).text found
 
   -- what is wrong with an answer; a failure is wrong at any type, and what is to be left out fits any
   abbrev pub misfit : {X : Type 0} → (X → List ℕ) → TypeRef → Meaning X → Option Misfit

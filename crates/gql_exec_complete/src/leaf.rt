@@ -10,9 +10,7 @@ use crate::messages::{
 };
 use crate::misfit::{Misfit, bug, wrong};
 use crate::scalar::{enum_misfit, scalar_misfit};
-use crate::type_parts::{is_non_null, item_type};
 use gql_ast_values::TypeRef;
-use gql_document_types::innermost;
 use gql_schema_types::ExtendedType;
 use jb_text::Memory;
 use jb_tree::Value;
@@ -32,10 +30,10 @@ pub fn leaf_misfit(
     if value.is_null() {
         return null_misfit(alloc, ty);
     }
-    if item_type(ty).is_some() {
+    if ty.item_type().is_some() {
         return wrong(other_at_list(alloc, ty));
     }
-    let name = innermost(ty).as_str();
+    let name = ty.inner_named_type().as_str();
     leaf_at(alloc, named, name, value)
 }
 
@@ -43,7 +41,7 @@ pub fn leaf_misfit(
 fn null_misfit(alloc: Global, ty: &TypeRef) -> Result<Option<Misfit>, Memory>
     ensures { IfOk result (λ found. misfit_seen found ≡ spec.null_misfit ty.now) }
 {
-    if is_non_null(ty) {
+    if ty.is_non_null() {
         return wrong(null_at_non_null(alloc, ty));
     }
     Ok(None)

@@ -11,10 +11,8 @@ mod messages;
 mod misfit;
 mod object;
 mod scalar;
-mod type_parts;
 
 pub use leaf::leaf_misfit;
 pub use messages::resolver_error;
 pub use misfit::Misfit;
 pub use object::{fitting_object, list_misfit};
-pub use type_parts::{is_non_null, item_type};

@@ -2,6 +2,7 @@
 
 ghost use Rattle.std.specs.Prelude.{◌≡◌, IfOk};
 ghost use Rattle.std.specs.Option.{option_copied};
+ghost use Rattle.gql_schema_types.specs.Schemas.{type_named};
 ghost use Rattle.gql_exec_complete.specs.Fit as spec;
 ghost use Rattle.gql_exec_complete.specs.Seen.{misfit_seen, IsFitOfObject, IsFitAt, IsFitOf};
 
@@ -10,10 +11,8 @@ use crate::messages::{
     object_not_defined, other_at_list, other_object, undefined_type,
 };
 use crate::misfit::{Misfit, refuse, suspect, wrong};
-use crate::type_parts::item_type;
 use gql_ast_base::Name;
 use gql_ast_values::TypeRef;
-use gql_document_types::innermost;
 use gql_schema_types::{ExtendedType, ObjectType, Schema};
 use jb_text::{Listed, Memory, Refused};
 use std::alloc::Global;
@@ -23,7 +22,7 @@ use std::alloc::Global;
 pub fn list_misfit(alloc: Global, ty: &TypeRef) -> Result<Option<Misfit>, Memory>
     ensures { IfOk result (λ found. misfit_seen found ≡ spec.list_misfit ty.now) }
 {
-    match item_type(ty) {
+    match ty.item_type() {
         Some(_) => Ok(None),
         None => wrong(list_at_other(alloc, ty)),
     }
@@ -40,13 +39,13 @@ pub fn fitting_object<'s>(
     ty: &TypeRef,
     found: &str,
 ) -> Result<&'s ObjectType, Refused<Misfit>>
-    requires { option_copied named ≡ spec.type_of_name schema.now ty.now }
+    requires { option_copied named ≡ type_named schema.now ty.now }
     ensures { IsFitOfObject schema.now ty.now found.now result }
 {
-    if item_type(ty).is_some() {
+    if ty.item_type().is_some() {
         return refuse(other_at_list(alloc, ty));
     }
-    let name = innermost(ty).as_str();
+    let name = ty.inner_named_type().as_str();
     match named {
         None => suspect(undefined_type(alloc, name)),
         Some(wanted) => object_at(alloc, schema, wanted, name, found),

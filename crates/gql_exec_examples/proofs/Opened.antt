@@ -9,7 +9,7 @@ use Rattle.gql_ast_print.specs.TypeText.{type_text}
 use Rattle.gql_ast_values.specs.declared.type_ref.TypeRef.{TypeRef, out-TypeRef, the_lemmas as type_lemmas}
 use Rattle.gql_ast_values.specs.declared.type_ref.TypeRef.TheVariants as type
 use Rattle.gql_ast_values.specs.declared.type_ref.TypeRef.TheOpen.{TypeRef-F}
-use Rattle.gql_document_types.specs.NamedType.{named_type}
+use Rattle.gql_ast_values.specs.TypeParts.{named_type}
 use Rattle.gql_document_types.specs.declared.selection.Field.{Field}
 use Rattle.gql_document_types.specs.declared.selection.Selection.{the_lemmas as selection_lemmas}
 use Rattle.gql_document_types.specs.declared.selection.Selection.TheVariants as selection

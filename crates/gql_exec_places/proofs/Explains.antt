@@ -5,7 +5,7 @@ use Rattle.jb_tree.specs.declared.value.Value.{Value}
 use Rattle.jb_tree.specs.declared.value.Value.TheVariants as json
 use Rattle.gql_ast_values.specs.declared.type_ref.TypeRef.{TypeRef}
 use Rattle.gql_response.specs.declared.graphql_error.GraphQLError.{GraphQLError}
-use Rattle.gql_exec_places.specs.Types.{is_strict}
+use Rattle.gql_ast_values.specs.TypeParts.{is_non_null}
 use Rattle.gql_exec_places.specs.Resolved.{Meaning, Meanings, gives_leaf, gives_object, gives_list, gives_skip, fails_with, no_answer, answer_then}
 use Rattle.gql_exec_places.specs.Resolved.{Misfit, Outcome, answered, refused}
 use Rattle.gql_exec_places.specs.World.{World, key_of}
@@ -51,7 +51,7 @@ module _ {X T G S : Type 0} (w : World X T G S)
   abbrev IsOne : Spot G → Outcome X → List Value → Type 0
   IsOne spot outcome vs = (v : Value) × (vs ≡ v ∷ []) × Good spot outcome v
 
-  told_settled : (strict : Bool) (spot : Spot G) (outcome : Outcome X) (vs : Option (List Value)) → is_strict spot.type ≡ strict
+  told_settled : (strict : Bool) (spot : Spot G) (outcome : Outcome X) (vs : Option (List Value)) → is_non_null spot.type ≡ strict
       → Told (held (trail spot)) vs (IsOne spot outcome) → Told (held spot.around) (settled_by strict vs) (IsOne spot outcome)
   told_settled strict spot outcome (Some vs) e told = told
   told_settled false spot outcome None e told =
@@ -123,16 +123,16 @@ module _ {X T G S : Type 0} (w : World X T G S)
       → Told (held (trail list)) (settled_item it m (unless_misfit w it (w.misfit it.type m) (value_made w run it m))).0 (IsOne it (answered m))
   told_item run list i (gives_leaf v) reached inside listed =
       let it = item_spot list i in
-      told_settled (is_strict it.type) it (answered (gives_leaf v)) _ refl (told_unless (trail it) it (gives_leaf v) _ _ refl refl reached inside listed)
+      told_settled (is_non_null it.type) it (answered (gives_leaf v)) _ refl (told_unless (trail it) it (gives_leaf v) _ _ refl refl reached inside listed)
   told_item run list i (gives_object x) reached inside listed =
       let it = item_spot list i in
-      told_settled (is_strict it.type) it (answered (gives_object x)) _ refl (told_unless (trail it) it (gives_object x) _ _ refl refl reached inside listed)
+      told_settled (is_non_null it.type) it (answered (gives_object x)) _ refl (told_unless (trail it) it (gives_object x) _ _ refl refl reached inside listed)
   told_item run list i (gives_list ms) reached inside listed =
       let it = item_spot list i in
-      told_settled (is_strict it.type) it (answered (gives_list ms)) _ refl (told_unless (trail it) it (gives_list ms) _ _ refl refl reached inside listed)
+      told_settled (is_non_null it.type) it (answered (gives_list ms)) _ refl (told_unless (trail it) it (gives_list ms) _ _ refl refl reached inside listed)
   told_item run list i gives_skip reached inside listed =
       let it = item_spot list i in
-      told_settled (is_strict it.type) it (answered gives_skip) _ refl (told_unless (trail it) it gives_skip _ _ refl refl reached inside listed)
+      told_settled (is_non_null it.type) it (answered gives_skip) _ refl (told_unless (trail it) it gives_skip _ _ refl refl reached inside listed)
   told_item run list i (fails_with text) reached inside listed =
       let it = item_spot list i in
       told_unless (trail list) it (fails_with text) (w.misfit it.type (fails_with text)) _ refl refl reached (λ fits. absurd (failure_misfits it.type text fits)) listed
@@ -183,11 +183,11 @@ module _ {X T G S : Type 0} (w : World X T G S)
         → Told (held outer) (field_made w run (field_spot w U outer g) outcome).0 (IsOne (field_spot w U outer g) outcome)
     told_field U outer g (answered m) law reached listed =
         let spot = field_spot w U outer g in
-        told_settled (is_strict spot.type) spot (answered m) _ refl
+        told_settled (is_non_null spot.type) spot (answered m) _ refl
         (told_unless (trail spot) spot m (w.misfit spot.type m) (value_made w run spot m) refl (starts_field U outer g m) reached (λ fits. told_value spot m law reached fits) listed)
     told_field U outer g (refused fault) law reached listed =
         let spot = field_spot w U outer g in
-        told_settled (is_strict spot.type) spot (refused fault) None refl (
+        told_settled (is_non_null spot.type) spot (refused fault) None refl (
           fault_error w spot fault,
           listed.0,
           record { spot = spot; outcome = refused fault; reached = reached; fault = fault; told = refl; is = refl; holds = refl },

@@ -10,7 +10,7 @@ use Rattle.jb_tree.specs.declared.value.Value.{out-Value}
 use Rattle.jb_tree.specs.declared.value.Value.TheOpen as shape
 use Rattle.jb_tree.specs.declared.value.Value.TheOpen.{Value-F}
 use Rattle.gql_exec_places.proofs.Steps.{index_of, text_of}
-use Rattle.gql_exec_places.specs.Types.{is_strict}
+use Rattle.gql_ast_values.specs.TypeParts.{is_non_null}
 use Rattle.gql_exec_places.specs.Resolved.{Meaning, Meanings, gives_leaf, gives_object, gives_list, gives_skip, fails_with, no_answer, answer_then}
 use Rattle.gql_exec_places.specs.Resolved.{Fault, Outcome, answered, refused}
 use Rattle.gql_exec_places.specs.World.{World, key_of, DistinctKeys, IsLawful}
@@ -140,19 +140,19 @@ module _ {X T G S : Type 0} (w : World X T G S) (root : T) (initial : X) (all : 
       let moved : IsAmong s a (inside w outer2 m2) = subst (λ (p : Spot G). IsAmong s a (inside w p m2)) one.0 (subst (λ (n : Meaning X). IsAmong s a (inside w outer n)) answers h) in
       among_unique (inside w outer2 m2) (inside_distinct outer2 m2) s t a b moved k (trail_step s t same)
 
-  held_strict : (spot : Spot G) (b : Bool) (at : Option Trail) → is_strict spot.type ≡ b → held (trail spot) ≡ at
+  held_strict : (spot : Spot G) (b : Bool) (at : Option Trail) → is_non_null spot.type ≡ b → held (trail spot) ≡ at
       → (if b then held spot.around else Some (trail spot)) ≡ at
   held_strict spot b at e h = subst (λ (c : Bool). (if c then held spot.around else Some (trail spot)) ≡ at) e h
 
   -- where an error is held stands a place whose type may be null
-  held_nullable : (t : Trail) (s : Segment × TypeRef) (ts : Trail) → held t ≡ Some (s ∷ ts) → is_strict s.1 ≡ true → ⊥
+  held_nullable : (t : Trail) (s : Segment × TypeRef) (ts : Trail) → held t ≡ Some (s ∷ ts) → is_non_null s.1 ≡ true → ⊥
   held_nullable [] s ts h strict = cc
-  held_nullable (u ∷ us) s ts h strict = by_case (is_strict u.1) refl h (λ k. held_nullable us s ts k strict) where
-    by_case : (b : Bool) → is_strict u.1 ≡ b → (if b then held us else Some (u ∷ us)) ≡ Some (s ∷ ts) → (held us ≡ Some (s ∷ ts) → ⊥) → ⊥
+  held_nullable (u ∷ us) s ts h strict = by_case (is_non_null u.1) refl h (λ k. held_nullable us s ts k strict) where
+    by_case : (b : Bool) → is_non_null u.1 ≡ b → (if b then held us else Some (u ∷ us)) ≡ Some (s ∷ ts) → (held us ≡ Some (s ∷ ts) → ⊥) → ⊥
     by_case true e k onward = onward k
     by_case false e k onward =
         let same : u ≡ s = cc in
-        let wrong : false ≡ true = sym e ∙ ap (λ (p : Segment × TypeRef). is_strict p.1) same ∙ strict in
+        let wrong : false ≡ true = sym e ∙ ap (λ (p : Segment × TypeRef). is_non_null p.1) same ∙ strict in
         cc
 
   module _ (L : GraphQLError → Type 0) where
@@ -169,7 +169,7 @@ module _ {X T G S : Type 0} (w : World X T G S) (root : T) (initial : X) (all : 
     Stops (Some t) = (spot : Spot G) (outcome : Outcome X) → IsReached spot outcome → trail spot ≡ t → NoValue spot outcome
 
     -- a place that may not be null and has no value has nothing good
-    null_strict : {spot : Spot G} {outcome : Outcome X} {v : Value} → is_strict spot.type ≡ true → Good spot outcome v → v ≡ json.Null → ⊥
+    null_strict : {spot : Spot G} {outcome : Outcome X} {v : Value} → is_non_null spot.type ≡ true → Good spot outcome v → v ≡ json.Null → ⊥
     null_strict {spot = spot} strict (null_held h) null = held_nullable (start h.2.spot h.2.outcome) (spot.step, spot.type) spot.around h.2.holds strict
     null_strict {spot = spot} strict (leaf_kept fits) null =
         lawful.null_misfits spot.type strict (subst (λ (u : Value). w.misfit spot.type (gives_leaf u) ≡ None) null fits)
@@ -208,8 +208,8 @@ module _ {X T G S : Type 0} (w : World X T G S) (root : T) (initial : X) (all : 
     -- from a place without a value outward, to the one that holds it
     step_out : (s : Spot G) (a : Outcome X) → IsReached s a → NoValue s a → (at : Option Trail) → held (trail s) ≡ at
         → (((v : Value) → Good s a v → ⊥) → held s.around ≡ at → Stops at) → Stops at
-    step_out s a reached none at holds onward = by_case (is_strict s.type) refl (held_strict s (is_strict s.type) at refl holds) where
-      by_case : (b : Bool) → is_strict s.type ≡ b → (if b then held s.around else Some (trail s)) ≡ at → Stops at
+    step_out s a reached none at holds onward = by_case (is_non_null s.type) refl (held_strict s (is_non_null s.type) at refl holds) where
+      by_case : (b : Bool) → is_non_null s.type ≡ b → (if b then held s.around else Some (trail s)) ≡ at → Stops at
       by_case false e h = subst Stops h (λ spot outcome r same. let one = same_place r reached same in
           subst (λ (p : Spot G). NoValue p outcome) (sym one.0) (subst (λ (b : Outcome X). NoValue s b) (sym one.1) none))
       by_case true e h = onward (λ v good. null_strict e good (none v good)) h
@@ -237,7 +237,7 @@ module _ {X T G S : Type 0} (w : World X T G S) (root : T) (initial : X) (all : 
   abbrev HeldFrom : Spot G → Outcome X → Trail → Type 0
   HeldFrom s a t = (p : Spot G) × (c : Outcome X) × IsReached p c × (trail p ≡ t) × (((p ≡ s) × (c ≡ a)) ⊎ ((m : Meaning X) × (c ≡ answered m) × (w.misfit p.type m ≡ None)))
 
-  up_by : (s : Spot G) (a : Outcome X) → IsReached s a → (t : Trail) → (b : Bool) → is_strict s.type ≡ b → (if b then held s.around else Some (trail s)) ≡ Some t
+  up_by : (s : Spot G) (a : Outcome X) → IsReached s a → (t : Trail) → (b : Bool) → is_non_null s.type ≡ b → (if b then held s.around else Some (trail s)) ≡ Some t
       → (held s.around ≡ Some t → HeldFrom s a t) → HeldFrom s a t
   up_by s a reached t true e h onward = onward h
   up_by s a reached t false e h onward = let same : trail s ≡ t = cc in (s, a, reached, same, inl (refl, refl))
@@ -248,10 +248,10 @@ module _ {X T G S : Type 0} (w : World X T G S) (root : T) (initial : X) (all : 
   inner outer m s a t fits (p, c, reached, same, inr e) = (p, c, reached, same, inr e)
 
   up : {s : Spot G} {a : Outcome X} → IsReached s a → (t : Trail) → held (trail s) ≡ Some t → HeldFrom s a t
-  up {s = s} {a = a} (at_root h) t holds = up_by s a (at_root h) t (is_strict s.type) refl (held_strict s (is_strict s.type) (Some t) refl holds)
+  up {s = s} {a = a} (at_root h) t holds = up_by s a (at_root h) t (is_non_null s.type) refl (held_strict s (is_non_null s.type) (Some t) refl holds)
       (λ e. let none : None ≡ Some t = subst (λ (u : Trail). held u ≡ Some t) (fields_around root initial [] _ s a h) e in cc)
   up {s = s} {a = a} (at_inside outer m r fits h) t holds =
-      up_by s a (at_inside outer m r fits h) t (is_strict s.type) refl (held_strict s (is_strict s.type) (Some t) refl holds)
+      up_by s a (at_inside outer m r fits h) t (is_non_null s.type) refl (held_strict s (is_non_null s.type) (Some t) refl holds)
       (λ e. inner outer m s a t fits (up r t (ap held (sym (inside_around outer m s a h)) ∙ e)))
 
   abbrev IsFailedItem : Spot G → Outcome X → Type 0

@@ -4,7 +4,7 @@ use Rattle.std.specs.Option.{option_map}
 use Rattle.jb_tree.specs.declared.value.Value.{Value}
 use Rattle.jb_tree.specs.declared.value.Value.TheVariants as json
 use Rattle.gql_response.specs.declared.graphql_error.GraphQLError.{GraphQLError}
-use Rattle.gql_exec_places.specs.Types.{is_strict}
+use Rattle.gql_ast_values.specs.TypeParts.{is_non_null}
 use Rattle.gql_exec_places.specs.Resolved.{Meaning, Meanings, gives_leaf, gives_object, gives_list, gives_skip, fails_with, no_answer, answer_then}
 use Rattle.gql_exec_places.specs.Resolved.{Misfit, Outcome, answered, refused}
 use Rattle.gql_exec_places.specs.World.{World, key_of}
@@ -54,7 +54,7 @@ settled_by strict (Some vs) = Some vs
 
 -- a null is passed on outward where the type rules it out
 abbrev pub settled : {G : Type 0} → Spot G → Made Value → Made Value
-settled spot made = (settled_by (is_strict spot.type) made.0, made.1)
+settled spot made = (settled_by (is_non_null spot.type) made.0, made.1)
 
 -- a failed item isn't settled at its own place, so it faults its list whatever its own type
 abbrev pub settled_item : {X G : Type 0} → Spot G → Meaning X → Made Value → Made Value

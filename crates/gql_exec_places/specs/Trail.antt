@@ -3,7 +3,7 @@ use Rattle.std.specs.Prelude.{List, [], ◌∷◌, ◌++◌, map, Option, Some, 
 use Rattle.gql_ast_values.specs.declared.type_ref.TypeRef.{TypeRef}
 use Rattle.gql_response.specs.declared.path.ResponseDataPathSegment.{ResponseDataPathSegment}
 use Rattle.gql_response.specs.Held.{unplaced_segment}
-use Rattle.gql_exec_places.specs.Types.{is_strict}
+use Rattle.gql_ast_values.specs.TypeParts.{is_non_null}
 
 abbrev pub Segment : Type 0
 Segment = ResponseDataPathSegment
@@ -24,4 +24,4 @@ shown path = map unplaced_segment path
 -- the innermost place, from this one outward, whose type may be null; none: the root
 abbrev pub held : Trail → Option Trail
 held [] = None
-held (t ∷ ts) = if is_strict t.1 then held ts else Some (t ∷ ts)
+held (t ∷ ts) = if is_non_null t.1 then held ts else Some (t ∷ ts)

@@ -1,17 +1,6 @@
--- The parts of a type that execution asks for: section 2.11 of GraphQL October 2021.
-use Rattle.std.specs.Prelude.{Bool, true, false}
+-- The types of items: section 3.11 of GraphQL October 2021.
 use Rattle.gql_ast_values.specs.declared.type_ref.TypeRef.{TypeRef, out-TypeRef}
 use Rattle.gql_ast_values.specs.declared.type_ref.TypeRef.TheOpen.{TypeRef-F}
-
-abbrev pub strict_level : TypeRef-F TypeRef → Bool
-strict_level (TypeRef-F.Named name) = false
-strict_level (TypeRef-F.NonNullNamed name) = true
-strict_level (TypeRef-F.List item) = false
-strict_level (TypeRef-F.NonNullList item) = true
-
--- whether null is ruled out
-abbrev pub is_strict : TypeRef → Bool
-is_strict ty = strict_level (out-TypeRef ty)
 
 abbrev pub item_level : TypeRef → TypeRef-F TypeRef → TypeRef
 item_level ty (TypeRef-F.Named name) = ty

@@ -6,7 +6,7 @@ use Rattle.gql_source.specs.File.{Files}
 use Rattle.gql_source.specs.Span.{Span}
 use Rattle.gql_ast_base.specs.Names.{Named}
 use Rattle.gql_ast_values.specs.declared.type_ref.TypeRef.{TypeRef}
-use Rattle.gql_exec_places.specs.Types.{is_strict}
+use Rattle.gql_ast_values.specs.TypeParts.{is_non_null}
 use Rattle.gql_exec_places.specs.Resolved.{Meaning, gives_leaf, gives_object, fails_with, Misfit, Outcome}
 
 -- X: objects, the user's and the library's. T: object types. G: groups of fields with one response key. S: what is
@@ -39,5 +39,5 @@ module _ {X T G S : Type 0} (w : World X T G S) where
   pub record IsLawful : Type 0 where
     pub failure_misfits : (ty : TypeRef) (text : List ℕ) → ¬ (w.misfit ty (fails_with text) ≡ None)
     pub object_typed : (ty : TypeRef) (x : X) → w.misfit ty (gives_object x) ≡ None → ¬ (w.type_of x ≡ None)
-    pub null_misfits : (ty : TypeRef) → is_strict ty ≡ true → ¬ (w.misfit ty (gives_leaf json.Null) ≡ None)
+    pub null_misfits : (ty : TypeRef) → is_non_null ty ≡ true → ¬ (w.misfit ty (gives_leaf json.Null) ≡ None)
     pub distinct_keys : (U : T) (s : S) → DistinctKeys (w.groups U s)

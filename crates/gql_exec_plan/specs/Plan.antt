@@ -4,20 +4,16 @@ use Rattle.std.specs.Prelude.{◌≡◌, ℕ, zero, suc, List, map, Option, Some
 use Rattle.std.specs.List.{AllByRecursion}
 use Rattle.std.specs.Option.{option_copied, unwrap_or}
 use Rattle.gql_ast_definitions.specs.declared.field_definition.FieldDefinition.{FieldDefinition}
-use Rattle.gql_ast_values.specs.declared.type_ref.TypeRef.{TypeRef}
 use Rattle.gql_coerce.specs.Arguments.{coerced_arguments}
 use Rattle.gql_coerce.specs.Filled.{Members}
 use Rattle.gql_coerce.specs.Outcome.{told_as}
 use Rattle.gql_coerce.specs.Told.{argument_fault}
 use Rattle.gql_coerce.specs.declared.told.ArgumentFault.{ArgumentFault}
-use Rattle.gql_document_types.specs.NamedType.{named_type}
 use Rattle.gql_document_types.specs.declared.fragment.Fragment.{Fragment}
 use Rattle.gql_document_types.specs.declared.selection.Field.{Field}
 use Rattle.gql_document_types.specs.declared.selection.Selection.{Selection}
-use Rattle.gql_schema_types.specs.Schemas.{field_of, object_of}
-use Rattle.gql_schema_types.specs.Types.{type_called}
+use Rattle.gql_schema_types.specs.Schemas.{field_of, object_of, type_named}
 use Rattle.gql_schema_types.specs.declared.schema.Schema.{Schema}
-use Rattle.gql_schema_types.specs.declared.types.ExtendedType.{ExtendedType}
 use Rattle.gql_schema_types.specs.declared.types.ObjectType.{ObjectType}
 use Rattle.gql_exec_groups.specs.Collected.{setting}
 use Rattle.gql_exec_groups.specs.Grouping.{groups_seen}
@@ -88,10 +84,6 @@ most_looks ground = all_selections ground.fragments ground.operation
 abbrev pub IsTyped : Schema → ObjectType → Type 0
 IsTyped schema U = object_of schema U.name.text ≡ Some U
 
--- the type of the schema that the name within all lists of a type is of
-abbrev pub type_of_name : Schema → TypeRef → Option ExtendedType
-type_of_name schema ty = type_called (named_type ty).text schema.types
-
 module _ (ground : Ground) where
   -- a collection of these sets looks at no more than what the operation and the fragments have
   abbrev pub IsWithin : List (List Selection) → Type 0
@@ -109,7 +101,7 @@ module _ (ground : Ground) where
   -- names, and the arguments of the definition where they are kept
   pub record IsPlanned (U : ObjectType) (field : PlannedField) : Type 0 where
     pub definition : field.definition.now ≡ definition_on U field.group.first.now
-    pub named : option_copied field.named ≡ type_of_name ground.schema field.definition.now.ty
+    pub named : option_copied field.named ≡ type_named ground.schema field.definition.now.ty
     pub arguments : IfSome field.arguments (λ arguments. arguments ≡ arguments_by field.definition.now field.group.first.now)
 
   -- the groups of these sets on an object type, and what objects of the type ask by them

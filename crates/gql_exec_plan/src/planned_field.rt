@@ -1,16 +1,14 @@
 //! What the objects of one type ask by a group: a definition and arguments, which are the same for each of them.
 
 ghost use Rattle.std.specs.Prelude.{◌≡◌, IfOk, IfSome};
-ghost use Rattle.std.specs.Option.{option_copied};
 ghost use Rattle.gql_exec_plan.specs.Plan as spec;
 
 use crate::kept_arguments::are_kept;
 use crate::planner::Planner;
 use gql_ast_definitions::FieldDefinition;
-use gql_ast_values::TypeRef;
 use gql_coerce::{ArgumentFault, coerce_arguments};
 use gql_diag::JsonMap;
-use gql_document_types::{Field, innermost};
+use gql_document_types::Field;
 use gql_exec_groups::Group;
 use gql_schema_types::{ExtendedType, ObjectType};
 use jb_text::{Memory, Refused};
@@ -44,7 +42,7 @@ impl<'d> Planner<'d> {
         Ok(PlannedField {
             group,
             definition,
-            named: self.type_named(&definition.ty),
+            named: self.schema.as_ref().type_named_by(&definition.ty),
             arguments,
         })
     }
@@ -59,14 +57,6 @@ impl<'d> Planner<'d> {
             Some(definition) => definition,
             None => &field.definition,
         }
-    }
-
-    /// The type of the schema that has the name within all lists of this type.
-    fn type_named(&self, ty: &TypeRef) -> Option<&'d ExtendedType>
-        ensures { option_copied result ≡ spec.type_of_name (spec.ground_of self.now).schema ty.now }
-    {
-        let schema = self.schema.as_ref();
-        schema.types.get(innermost(ty).as_str())
     }
 
     /// The arguments of a field with this definition, where they are kept. `Err` only for want of memory.

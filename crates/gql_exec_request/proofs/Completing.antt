@@ -12,7 +12,7 @@ use Rattle.gql_exec_places.specs.Fault.{told_at, fault_error}
 use Rattle.gql_exec_places.specs.Resolved.{Meaning, gives_object, Misfit}
 use Rattle.gql_exec_places.specs.Spot.{Spot, trail, field_spot}
 use Rattle.gql_exec_places.specs.Trail.{Trail}
-use Rattle.gql_exec_places.specs.Types.{is_strict}
+use Rattle.gql_ast_values.specs.TypeParts.{is_non_null}
 use Rattle.gql_exec_places.specs.World.{World}
 use Rattle.gql_exec_request.specs.Executed.{IsMade}
 
@@ -43,28 +43,28 @@ module _ {G : Type 0} (spot : Spot G) where
   pub object-some : (members : List Member) (before after : List GraphQLError) (made : Made Member) → IsMade (Some members) before after made
       → IsMade (Some (json.Object members ∷ [])) before after (settled spot (one_object made))
   object-some members before after made it = record {
-    is = ap (λ (o : Option (List Member)). settled_by (is_strict spot.type) (option_map (λ ms. json.Object ms ∷ []) o)) it.is;
+    is = ap (λ (o : Option (List Member)). settled_by (is_non_null spot.type) (option_map (λ ms. json.Object ms ∷ []) o)) it.is;
     listed = it.listed;
   }
 
   pub object-none : (before after : List GraphQLError) (made : Made Member) → IsMade None before after made
-      → IsMade (null_or_pass (is_strict spot.type)) before after (settled spot (one_object made))
+      → IsMade (null_or_pass (is_non_null spot.type)) before after (settled spot (one_object made))
   object-none before after made it = record {
-    is = ap (λ (o : Option (List Member)). settled_by (is_strict spot.type) (option_map (λ ms. json.Object ms ∷ []) o)) it.is;
+    is = ap (λ (o : Option (List Member)). settled_by (is_non_null spot.type) (option_map (λ ms. json.Object ms ∷ []) o)) it.is;
     listed = it.listed;
   }
 
   pub array-some : (values : List Value) (before after : List GraphQLError) (made : Made Value) → IsMade (Some values) before after made
       → IsMade (Some (json.Array values ∷ [])) before after (settled spot (one_array made))
   array-some values before after made it = record {
-    is = ap (λ (o : Option (List Value)). settled_by (is_strict spot.type) (option_map (λ vs. json.Array vs ∷ []) o)) it.is;
+    is = ap (λ (o : Option (List Value)). settled_by (is_non_null spot.type) (option_map (λ vs. json.Array vs ∷ []) o)) it.is;
     listed = it.listed;
   }
 
   pub array-none : (before after : List GraphQLError) (made : Made Value) → IsMade None before after made
-      → IsMade (null_or_pass (is_strict spot.type)) before after (settled spot (one_array made))
+      → IsMade (null_or_pass (is_non_null spot.type)) before after (settled spot (one_array made))
   array-none before after made it = record {
-    is = ap (λ (o : Option (List Value)). settled_by (is_strict spot.type) (option_map (λ vs. json.Array vs ∷ []) o)) it.is;
+    is = ap (λ (o : Option (List Value)). settled_by (is_non_null spot.type) (option_map (λ vs. json.Array vs ∷ []) o)) it.is;
     listed = it.listed;
   }
 

@@ -8,7 +8,7 @@ use Rattle.gql_schema_types.specs.declared.types.ObjectType.{ObjectType}
 use Rattle.gql_exec_places.specs.Execute.{Made, Below, null_or_pass, items_made, one_array, settled, settled_item, unless_misfit, value_made, execute}
 use Rattle.gql_exec_places.specs.Resolved.{Meaning, Meanings, no_answer, answer_then}
 use Rattle.gql_exec_places.specs.Spot.{Spot, item_spot}
-use Rattle.gql_exec_places.specs.Types.{is_strict}
+use Rattle.gql_ast_values.specs.TypeParts.{is_non_null}
 use Rattle.gql_exec_places.specs.World.{World}
 use Rattle.gql_exec_world.specs.Group.{Group}
 use Rattle.gql_exec_request.specs.Executed.{IsEnough, MakesBelow}
@@ -45,7 +45,7 @@ module _ {X : Type 0} (w : World X ObjectType Group (List (List Selection))) (li
   pub completing-stops : (values : List Value) (errors before after : List GraphQLError) (i : ℕ) (left rest all : Meanings X) (m : Meaning X) (found : Option (List Value))
       → found ≡ None → left ≡ answer_then m rest → MakesBelow w list.group found errors after (λ run. item_made run i m)
       → IsCompleting values errors before i left all
-      → MakesBelow w list.group (null_or_pass (is_strict list.type)) before after (λ run. settled list (one_array (items_made w run list 0 all)))
+      → MakesBelow w list.group (null_or_pass (is_non_null list.type)) before after (λ run. settled list (one_array (items_made w run list 0 all)))
   completing-stops values errors before after i left rest all m found gives is makes so_far depth enough =
       let here : IsCompleting values errors before i (answer_then m rest) all = subst (λ l. IsCompleting values errors before i l all) is so_far in
       array-none list before after (made_at depth 0 all)

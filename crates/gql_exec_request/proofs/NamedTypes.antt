@@ -5,11 +5,12 @@ use Rattle.gql_ast_base.specs.Names.{Named}
 use Rattle.gql_ast_values.specs.declared.type_ref.TypeRef.{TypeRef, out-TypeRef, fold_out-TypeRef}
 use Rattle.gql_ast_values.specs.declared.type_ref.TypeRef as ref
 use Rattle.gql_ast_values.specs.declared.type_ref.TypeRef.TheOpen.{TypeRef-F}
-use Rattle.gql_document_types.specs.NamedType.{name_step, named_type}
+use Rattle.gql_ast_values.specs.TypeParts.{name_step, named_type}
 use Rattle.gql_schema_types.specs.Types.{type_called}
 use Rattle.gql_schema_types.specs.declared.schema.Schema.{Schema}
-use Rattle.gql_exec_complete.specs.Fit.{type_of_name}
-use Rattle.gql_exec_complete.specs.Lists.{is_list, item_level}
+use Rattle.gql_schema_types.specs.Schemas.{type_named}
+use Rattle.gql_ast_values.specs.TypeParts.{item_level}
+use Rattle.gql_exec_complete.specs.Lists.{is_list}
 use Rattle.gql_exec_places.specs.Types as places
 use Rattle.gql_exec_request.specs.Trails.{IsNamed}
 use Rattle.gql_exec_request.specs.declared.place.Place.{Place}
@@ -25,6 +26,6 @@ item-name ty list = fold_out-TypeRef Named name_step ty ∙ by (out-TypeRef ty) 
     by (TypeRef-F.NonNullList item) e = refl
 
 pub item-named : (schema : Schema) (list : Place) (ty : TypeRef) → is_list list.ty.now ≡ true → ty ≡ places.item_type list.ty.now → IsNamed schema list
-    → option_copied list.named ≡ type_of_name schema ty
+    → option_copied list.named ≡ type_named schema ty
 item-named schema list ty lists is named =
     named ∙ ap (λ (name : Named). type_called name.text schema.types) (item-name list.ty.now lists ∙ ap named_type (sym is))

@@ -12,7 +12,7 @@ use Rattle.gql_exec_places.specs.Fault.{told_at, fault_error}
 use Rattle.gql_exec_places.specs.Resolved.{Meaning, gives_object, fails_with, Misfit, Fault, Outcome, answered, refused}
 use Rattle.gql_exec_places.specs.Spot.{Spot, trail, field_spot}
 use Rattle.gql_exec_places.specs.Trail.{Trail}
-use Rattle.gql_exec_places.specs.Types.{is_strict}
+use Rattle.gql_ast_values.specs.TypeParts.{is_non_null}
 use Rattle.gql_exec_places.specs.World.{World}
 use Rattle.gql_exec_resolve.specs.declared.resolved_value.ResolvedValue.{ResolvedValue}
 use Rattle.gql_exec_resolve.specs.Meaning.{meaning_by}
@@ -53,7 +53,7 @@ module _ {X : Type 0} (w : World X ObjectType Group (List (List Selection))) (sp
 
   pub made-null : (U : ObjectType) (x : X) (outer : Trail) (sets : List (List Selection)) → outer ≡ trail spot → sets ≡ w.below spot.group
       → Executes w U x outer sets None before after
-      → MakesBelow w spot.group (null_or_pass (is_strict spot.type)) before after (λ run. settled spot (one_object (run U x (trail spot) (w.below spot.group))))
+      → MakesBelow w spot.group (null_or_pass (is_non_null spot.type)) before after (λ run. settled spot (one_object (run U x (trail spot) (w.below spot.group))))
   made-null U x outer sets there below executes depth enough =
       object-none spot before after (execute w depth U x (trail spot) (w.below spot.group)) (moved U x outer sets None there below executes depth (enough U))
 

@@ -4,7 +4,7 @@ use Rattle.std.specs.Option.{option_copied}
 use Rattle.gql_schema_types.specs.Schemas.{field_of}
 use Rattle.gql_schema_types.specs.declared.schema.Schema.{Schema}
 use Rattle.gql_schema_types.specs.declared.types.ObjectType.{ObjectType}
-use Rattle.gql_exec_complete.specs.Fit.{type_of_name}
+use Rattle.gql_schema_types.specs.Schemas.{type_named}
 use Rattle.gql_exec_places.specs.Resolved.{fails_with, Outcome, answered, refused}
 use Rattle.gql_exec_plan.specs.declared.planned_field.PlannedField.{PlannedField}
 use Rattle.gql_exec_resolve.specs.Meaning.{meaning_by}
@@ -21,7 +21,7 @@ outcome_of see (Refused fault) = refused (fault_of fault)
 -- the object type has the field as it is planned
 pub record IsDefined (schema : Schema) (U : ObjectType) (field : PlannedField) : Type 0 where
   pub definition : field_of schema U.name.text field.group.first.now.name.text ≡ Some field.definition.now
-  pub named : option_copied field.named ≡ type_of_name schema field.definition.now.ty
+  pub named : option_copied field.named ≡ type_named schema field.definition.now.ty
 
 -- it begins with two underscores, as the names of `__typename`, `__schema` and `__type` do
 abbrev pub is_reserved : List ℕ → Bool

@@ -9,13 +9,13 @@ use Rattle.gql_diag.specs.declared.request_error.RequestError.{RequestError}
 use Rattle.gql_response.specs.declared.graphql_error.GraphQLError.{GraphQLError}
 use Rattle.gql_response.specs.declared.path.ResponseDataPathSegment.TheVariants.{Field, ListIndex}
 use Rattle.gql_schema_types.specs.declared.schema.Schema.{Schema}
-use Rattle.gql_exec_complete.specs.Fit.{type_of_name}
+use Rattle.gql_schema_types.specs.Schemas.{type_named}
 use Rattle.gql_exec_groups.specs.Walk.{fields_of}
 use Rattle.gql_exec_groups.specs.declared.group.Group.{Group as FieldsOfKey}
 use Rattle.gql_exec_places.specs.Execute.{null_or_pass}
 use Rattle.gql_exec_places.specs.Spot.{Spot}
 use Rattle.gql_exec_places.specs.Trail.{Segment, Trail, path_of}
-use Rattle.gql_exec_places.specs.Types.{is_strict}
+use Rattle.gql_ast_values.specs.TypeParts.{is_non_null}
 use Rattle.gql_exec_world.specs.Group.{Group, pieces_of}
 use Rattle.gql_exec_request.specs.declared.path.Path.{Path, fold-Path}
 use Rattle.gql_exec_request.specs.declared.path.Path.TheOpen.{Path-F, Root, Below}
@@ -44,7 +44,7 @@ spot_of place =
 
 -- a place comes with the type of the schema that its type names
 abbrev pub IsNamed : Schema → Place → Type 0
-IsNamed schema place = option_copied place.named ≡ type_of_name schema place.ty.now
+IsNamed schema place = option_copied place.named ≡ type_named schema place.ty.now
 
 -- the steps from the root to a place
 abbrev pub place_path : Place → List Segment
@@ -56,4 +56,4 @@ listed_at sources path fault = record (request_error fault sources) { path = pat
 
 -- a null at a place of this type
 abbrev pub null_at : TypeRef → Option (List Value)
-null_at ty = null_or_pass (is_strict ty)
+null_at ty = null_or_pass (is_non_null ty)

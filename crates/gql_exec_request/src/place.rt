@@ -10,7 +10,6 @@ use crate::output::Output;
 use crate::path::{Path, Step};
 use gql_ast_values::TypeRef;
 use gql_diag::RequestError;
-use gql_exec_complete::{is_non_null, item_type};
 use gql_exec_groups::Group;
 use gql_response::{GraphQLError, ResponseDataPathSegment};
 use gql_schema_types::ExtendedType;
@@ -61,7 +60,7 @@ impl<'p, 's> Place<'p, 's> {
     pub(crate) fn null<M: Output>(&self, out: &mut M) -> Result<Completed<M::Made>, Memory>
         ensures { IfOk result (λ done. IsWritten M.is_made out.old out.new done (spec.null_at self.now.ty.now)) }
     {
-        if is_non_null(self.ty) {
+        if self.ty.is_non_null() {
             Ok(Completed::NullPasses)
         } else {
             Ok(Completed::Value(out.value(Value::Null)?))
@@ -73,7 +72,7 @@ impl<'p, 's> Place<'p, 's> {
 pub(crate) fn item_of(ty: &TypeRef) -> &TypeRef
     ensures { result.now ≡ places.item_type ty.now }
 {
-    match item_type(ty) {
+    match ty.item_type() {
         Some(item) => item,
         None => ty,
     }

@@ -3,7 +3,8 @@ use Rattle.std.proofs.Common.{◌≡◌, ℕ, suc, true, false, Some, None, is_s
 use Rattle.gql_ast_values.specs.declared.type_ref.TypeRef.{TypeRef, fold-TypeRef, out-TypeRef, fold_out-TypeRef}
 use Rattle.gql_ast_values.specs.declared.type_ref.TypeRef as ref
 use Rattle.gql_ast_values.specs.declared.type_ref.TypeRef.TheOpen.{TypeRef-F}
-use Rattle.gql_exec_complete.specs.Lists.{item_type_of, is_list, item_level}
+use Rattle.gql_ast_values.specs.TypeParts.{item_type, item_level}
+use Rattle.gql_exec_complete.specs.Lists.{is_list}
 use Rattle.gql_exec_places.specs.Types as places
 
 abbrev pub height_step : TypeRef-F ℕ → ℕ
@@ -25,7 +26,7 @@ height-item ty list = fold_out-TypeRef ℕ height_step ty ∙ by (out-TypeRef ty
     by (TypeRef-F.List item) e = refl
     by (TypeRef-F.NonNullList item) e = refl
 
-pub height-some : (ty item : TypeRef) → item_type_of ty ≡ Some item → height ty ≡ suc (height item)
+pub height-some : (ty item : TypeRef) → item_type ty ≡ Some item → height ty ≡ suc (height item)
 height-some ty item is = fold_out-TypeRef ℕ height_step ty ∙ by (out-TypeRef ty) is
   where
     here : (other : TypeRef) → Some other ≡ Some item → suc (height other) ≡ suc (height item)

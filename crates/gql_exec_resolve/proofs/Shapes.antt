@@ -3,8 +3,8 @@ use Rattle.std.proofs.Common.{◌≡◌, List, [], ◌∷◌, map, Option, Some,
 use Rattle.std.specs.Prelude.{option_and_then, codes}
 use Rattle.jb_tree.specs.Value.{array_items, object_members}
 use Rattle.gql_ast_definitions.specs.declared.field_definition.FieldDefinition.{FieldDefinition}
-use Rattle.gql_document_types.specs.NamedType.{named_type}
-use Rattle.gql_exec_complete.specs.Lists.{item_type_of}
+use Rattle.gql_ast_values.specs.TypeParts.{named_type}
+use Rattle.gql_ast_values.specs.TypeParts.{item_type}
 use Rattle.gql_schema_types.specs.declared.schema.Schema.{Schema}
 use Rattle.gql_exec_places.specs.Resolved.{gives_leaf}
 use Rattle.jb_tree.specs.declared.value.Value.{Value}
@@ -12,11 +12,11 @@ use Rattle.gql_ast_base.specs.Names.{Named}
 use Rattle.gql_ast_values.specs.declared.type_ref.TypeRef.{TypeRef, out-TypeRef, fold_out-TypeRef}
 use Rattle.gql_ast_values.specs.declared.type_ref.TypeRef as ref
 use Rattle.gql_ast_values.specs.declared.type_ref.TypeRef.TheOpen.{TypeRef-F}
-use Rattle.gql_exec_complete.specs.Lists.{item_level}
+use Rattle.gql_ast_values.specs.TypeParts.{item_level}
 use Rattle.gql_exec_places.specs.Resolved.{Meaning, answer_then}
 use Rattle.gql_exec_resolve.specs.Data.{Data}
 use Rattle.gql_exec_resolve.specs.DataMeaning.{failure_text, text_member, unless_failed, shaped_items, list_or_leaf, object_or_leaf, shape_level, shaped, unfailed_level, unfailed_at, unfailed, composite_name, value_of}
-use Rattle.gql_exec_resolve.specs.NamedTypes.{type_named}
+use Rattle.gql_schema_types.specs.Schemas.{type_named}
 use Rattle.gql_exec_resolve.specs.Meaning.{item_by, meanings_by, itself}
 use Rattle.gql_exec_resolve.specs.declared.resolve_error.FieldError.{FieldError}
 use Rattle.gql_exec_resolve.specs.declared.resolved_value.ResolvedValue.{ResolvedValue}
@@ -62,4 +62,4 @@ simple-is-leaf schema (Some definition) value no-array no-object =
     let composite = composite_name (type_named schema definition.ty) (named_type definition.ty) in
     shaped-is composite definition.ty value
     ∙ unfailed-is value (unfailed composite definition.ty value) no-object
-    ∙ leaf-at composite (item_type_of definition.ty) value no-array no-object
+    ∙ leaf-at composite (item_type definition.ty) value no-array no-object

@@ -10,14 +10,14 @@ use Rattle.gql_ast_base.specs.Names.{Named}
 use Rattle.gql_ast_definitions.specs.declared.field_definition.FieldDefinition.{FieldDefinition}
 use Rattle.gql_ast_values.specs.declared.type_ref.TypeRef.{TypeRef, fold-TypeRef}
 use Rattle.gql_ast_values.specs.declared.type_ref.TypeRef.TheOpen.{TypeRef-F}
-use Rattle.gql_document_types.specs.NamedType.{named_type}
+use Rattle.gql_ast_values.specs.TypeParts.{named_type}
 use Rattle.gql_schema_types.specs.Schemas.{field_of}
 use Rattle.gql_schema_types.specs.Types.{is_composite}
 use Rattle.gql_schema_types.specs.declared.schema.Schema.{Schema}
 use Rattle.gql_schema_types.specs.declared.types.ExtendedType.{ExtendedType}
 use Rattle.gql_schema_types.specs.declared.types.ObjectType.{ObjectType}
 use Rattle.gql_exec_places.specs.Resolved.{Meaning, Meanings, gives_leaf, gives_object, gives_list, fails_with, no_answer, answer_then}
-use Rattle.gql_exec_complete.specs.Lists.{item_type_of}
+use Rattle.gql_ast_values.specs.TypeParts.{item_type}
 use Rattle.gql_exec_resolve.specs.Data.{Data}
 use Rattle.gql_exec_resolve.specs.Meaning.{Members}
 use Rattle.gql_exec_resolve.specs.NamedTypes.{type_named_by}
@@ -74,7 +74,7 @@ module _ (composite : Option Named) where
 
   -- the same of a value that is no failure
   abbrev pub unfailed : TypeRef → Value → Meaning Data
-  unfailed ty value = unfailed_at (item_type_of ty) value
+  unfailed ty value = unfailed_at (item_type ty) value
 
 abbrev pub is_composite_type : Option ExtendedType → Bool
 is_composite_type found = option_map_or is_composite found false

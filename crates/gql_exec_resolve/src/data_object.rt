@@ -14,7 +14,6 @@ use crate::resolve_info::{FieldOnType, ResolveInfo};
 use crate::resolved_value::ResolvedValue;
 use crate::resolver::ObjectValue;
 use gql_ast_base::Name;
-use gql_document_types::innermost;
 use gql_schema_types::ExtendedType;
 use jb_tree::{Map, Value};
 use std::alloc::Global;
@@ -143,7 +142,7 @@ fn value_at<'d>(
 {
     match field.definition {
         Some(definition) => {
-            let composite = composite_name(field.named, innermost(&definition.ty));
+            let composite = composite_name(field.named, definition.ty.inner_named_type());
             let shape = DataShape { alloc, composite };
             shape.shaped(&definition.ty, value)
         }

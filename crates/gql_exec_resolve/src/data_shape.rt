@@ -14,7 +14,6 @@ use crate::resolve_error::{FieldError, ResolveError};
 use crate::resolved_value::ResolvedValue;
 use gql_ast_base::{Copying, Name};
 use gql_ast_values::TypeRef;
-use gql_exec_complete::item_type;
 use jb_text::{Listed, Memory, Text};
 use jb_tree::{Map, Value};
 use std::alloc::{AllocError, Global};
@@ -58,7 +57,7 @@ impl<'t> DataShape<'t> {
     ) -> Result<ResolvedValue<DataObject<'d>>, ResolveError>
         ensures { Answers itself result (spec.unfailed (composite_of self.now) ty.now value.now) }
     {
-        match item_type(ty) {
+        match ty.item_type() {
             Some(item) => self.list_or_leaf(item, value),
             None => self.object_or_leaf(value),
         }

@@ -2,12 +2,12 @@
 
 ghost use Rattle.std.specs.Prelude.{◌≡◌, Some};
 ghost use Rattle.std.specs.Option.{ForSome, option_copied};
-ghost use Rattle.gql_schema_types.specs.Schemas.{field_of};
-ghost use Rattle.gql_exec_resolve.specs.NamedTypes.{type_named, type_named_by};
+ghost use Rattle.gql_schema_types.specs.Schemas.{field_of, type_named};
+ghost use Rattle.gql_exec_resolve.specs.NamedTypes.{type_named_by};
 
 use gql_ast_definitions::FieldDefinition;
 use gql_diag::{JsonMap, Valid};
-use gql_document_types::{ExecutableDocument, Field, innermost};
+use gql_document_types::{ExecutableDocument, Field};
 use gql_schema_types::{ExtendedType, ImplementersMap, ObjectType, Schema};
 use jb_text::Listed;
 
@@ -180,7 +180,7 @@ impl<'a> ResolveInfo<'a> {
         match schema.type_field(self.object_type.name.as_str(), self.field_name()) {
             Some(definition) => FieldOnType {
                 definition: Some(definition),
-                named: schema.types.get(innermost(&definition.ty).as_str()),
+                named: schema.type_named_by(&definition.ty),
             },
             None => FieldOnType {
                 definition: None,

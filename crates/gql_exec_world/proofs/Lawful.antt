@@ -8,7 +8,7 @@ use Rattle.jb_tree.specs.declared.value.Value.{Value, the_lemmas}
 use Rattle.jb_tree.specs.declared.value.Value.TheVariants as json
 use Rattle.jb_tree.specs.Value.{is_null}
 use Rattle.gql_ast_values.specs.declared.type_ref.TypeRef.{TypeRef}
-use Rattle.gql_document_types.specs.NamedType.{named_type}
+use Rattle.gql_ast_values.specs.TypeParts.{named_type}
 use Rattle.gql_document_types.specs.declared.selection.Field.{Field}
 use Rattle.gql_document_types.specs.declared.selection.Selection.{Selection}
 use Rattle.gql_schema_types.specs.Schemas.{object_of}
@@ -24,7 +24,7 @@ use Rattle.gql_exec_groups.specs.Flat.{flat_sets}
 use Rattle.gql_exec_groups.specs.Groups.{response_key, has_key, keys, FieldGroup, group_at, groups_of, is_defined, applying}
 use Rattle.gql_exec_groups.proofs.Keys.{Text, has, text-same, text-itself, AreDistinct, are-distinct}
 use Rattle.gql_exec_places.specs.Resolved.{Misfit, gives_leaf, gives_object, fails_with}
-use Rattle.gql_exec_places.specs.Types.{is_strict}
+use Rattle.gql_ast_values.specs.TypeParts.{is_non_null}
 use Rattle.gql_exec_places.specs.World.{World, key_of, DistinctKeys, IsLawful}
 use Rattle.gql_exec_world.specs.Group.{Group, started, groups_from}
 use Rattle.gql_exec_world.specs.Request.{Request}
@@ -62,7 +62,7 @@ module _ (schema : Schema) where
   null-is : is_null json.Null ≡ true
   null-is = search (rules, the_lemmas)
 
-  strict_null : (ty : TypeRef) → is_strict ty ≡ true → leaf_misfit schema ty json.Null ≡ None → ⊥
+  strict_null : (ty : TypeRef) → is_non_null ty ≡ true → leaf_misfit schema ty json.Null ≡ None → ⊥
   strict_null ty strict fits =
       let rest = (if is_list ty then Some (wrong (message.other_at_list ty)) else leaf_at (type_called (named_type ty).text schema.types) (named_type ty).text json.Null) in
       let e : Some (wrong (message.null_at_non_null ty)) ≡ None =

@@ -16,5 +16,5 @@ pub use by_name::ByName;
 pub use fault::{list_fault, list_long_chain, list_name};
 pub use known::{Defined, is_built_in_scalar, is_defined, is_known};
 pub use seconds::{Counted, EachCounts, Placed, list_seconds};
-pub use type_shape::{is_non_null, is_required, item_type, named_type, single_type};
+pub use type_shape::{is_required, single_type};
 pub use written::is_written;

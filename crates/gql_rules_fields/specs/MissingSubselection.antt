@@ -8,7 +8,7 @@ use Rattle.gql_diag_messages.specs.declared.rule.Rule.TheVariants.{MissingSubsel
 use Rattle.gql_diag_messages.specs.declared.diagnostic_data.DiagnosticData.{DiagnosticData}
 use Rattle.gql_document_types.specs.declared.selection.Field.{Field}
 use Rattle.gql_rules_base.specs.Faults.{fault, only_if}
-use Rattle.gql_rules_base.specs.TypeShape.{named_type}
+use Rattle.gql_ast_values.specs.TypeParts.{named_type}
 use Rattle.gql_rules_nodes.specs.Nodes.{FieldNode, is_nonempty}
 use Rattle.gql_schema_types.specs.declared.types.ExtendedType.{ExtendedType}
 use Rattle.gql_rules_fields.specs.Composite.{is_composite_name}

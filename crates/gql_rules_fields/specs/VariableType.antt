@@ -6,7 +6,7 @@ use Rattle.gql_diag_messages.specs.declared.rule.Rule.TheVariants.{UndefinedDefi
 use Rattle.gql_diag_messages.specs.declared.diagnostic_data.DiagnosticData.{DiagnosticData}
 use Rattle.gql_rules_base.specs.Faults.{name_fault, only_if}
 use Rattle.gql_rules_base.specs.Known.{is_defined}
-use Rattle.gql_rules_base.specs.TypeShape.{named_type}
+use Rattle.gql_ast_values.specs.TypeParts.{named_type}
 use Rattle.gql_rules_base.specs.declared.known.Defined.TheVariants.{Types}
 use Rattle.gql_schema_types.specs.declared.types.ExtendedType.{ExtendedType}
 

@@ -11,7 +11,7 @@ use gql_ast_print::print_type;
 use gql_ast_values::TypeRef;
 use gql_diag_messages::{DiagnosticData, Rule};
 use gql_document_types::Field;
-use gql_rules_base::{list_fault, named_type};
+use gql_rules_base::list_fault;
 use gql_schema_types::{ExtendedType, Table};
 use gql_source::SourceSpan;
 use jb_text::{Listed, Memory};
@@ -27,7 +27,7 @@ pub(crate) fn list_missing_subselection(
     ensures { OnOk result (faults.new ≡ faults.old ++ spec.missing_at types.now field.now) }
 {
     if field.selection_set.selections.is_empty()
-        && is_composite(types, named_type(&field.definition.ty).as_str())
+        && is_composite(types, field.definition.ty.inner_named_type().as_str())
     {
         list_lacking(
             alloc,

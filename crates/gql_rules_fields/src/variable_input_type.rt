@@ -10,7 +10,7 @@ use crate::composite::is_composite;
 use gql_ast_operations::VariableDefinition;
 use gql_ast_print::print_type;
 use gql_diag_messages::{DiagnosticData, Rule};
-use gql_rules_base::{list_fault, named_type};
+use gql_rules_base::list_fault;
 use gql_schema_types::{ExtendedType, Table};
 use jb_text::{Listed, Memory};
 use std::alloc::Global;
@@ -24,7 +24,7 @@ pub(crate) fn list_variable_input_type(
 ) -> Result<(), Memory>
     ensures { OnOk result (faults.new ≡ faults.old ++ spec.variable_input_type types.now variable.now) }
 {
-    if is_composite(types, named_type(&variable.ty).as_str()) {
+    if is_composite(types, variable.ty.inner_named_type().as_str()) {
         list_output_type(alloc, variable, faults)
     } else {
         Ok(())

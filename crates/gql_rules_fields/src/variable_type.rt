@@ -7,7 +7,7 @@ ghost use Rattle.gql_rules_fields.specs.VariableType as spec;
 use gql_ast_base::Name;
 use gql_ast_operations::VariableDefinition;
 use gql_diag_messages::{DiagnosticData, Rule};
-use gql_rules_base::{Defined, is_defined, list_name, named_type};
+use gql_rules_base::{Defined, is_defined, list_name};
 use gql_schema_types::{ExtendedType, Table};
 use jb_text::{Listed, Memory};
 use std::alloc::Global;
@@ -21,7 +21,7 @@ pub(crate) fn list_undefined_variable_type(
 ) -> Result<(), Memory>
     ensures { OnOk result (faults.new ≡ faults.old ++ spec.undefined_variable_type types.now variable.now) }
 {
-    list_unless_defined(alloc, types, named_type(&variable.ty), faults)
+    list_unless_defined(alloc, types, variable.ty.inner_named_type(), faults)
 }
 
 /// Lists a name, if no type of the name is defined.

@@ -11,7 +11,6 @@ use crate::conflicting_field_argument::have_same_arguments;
 use crate::conflicting_field_type::same_levels;
 use crate::description::write_head;
 use crate::numbering::Selected;
-use gql_rules_base::named_type;
 use itoa::Buffer;
 use jb_map::Pairs;
 use jb_text::{ByteString, Memory};
@@ -159,8 +158,8 @@ fn same_type(one: &Selected<'_>, other: &Selected<'_>) -> bool
     ensures { result ≡ step.same_type (selected_of one.now) (selected_of other.now) }
 {
     same_levels(&one.field.definition.ty, &other.field.definition.ty)
-        && named_type(&one.field.definition.ty).as_str()
-            == named_type(&other.field.definition.ty).as_str()
+        && one.field.definition.ty.inner_named_type().as_str()
+            == other.field.definition.ty.inner_named_type().as_str()
 }
 
 /// Whether sets select one fragment or fields of one class, item by item.

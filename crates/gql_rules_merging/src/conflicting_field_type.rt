@@ -8,7 +8,7 @@ use crate::numbering::Selected;
 use gql_ast_print::print_type;
 use gql_ast_values::TypeRef;
 use gql_diag_messages::{DiagnosticData, Rule};
-use gql_rules_base::{list_fault, named_type};
+use gql_rules_base::list_fault;
 use gql_schema_types::{ExtendedType, Table};
 use jb_text::{Listed, Memory};
 use std::alloc::Global;
@@ -29,7 +29,11 @@ fn same_shape(types: &Table<ExtendedType>, one: &TypeRef, other: &TypeRef) -> bo
     ensures { result ≡ spec.same_shape types.now one.now other.now }
 {
     same_levels(one, other)
-        && same_named(types, named_type(one).as_str(), named_type(other).as_str())
+        && same_named(
+            types,
+            one.inner_named_type().as_str(),
+            other.inner_named_type().as_str(),
+        )
 }
 
 /// Whether two types have lists and non-nulls at the same levels.

@@ -10,7 +10,7 @@ use Rattle.gql_ast_values.specs.declared.value.ValueKind.{ValueKind, out-ValueKi
 use Rattle.gql_ast_values.specs.declared.value.ValueKind.TheOpen.{ValueKind-F}
 use Rattle.gql_ast_values.specs.declared.value.ValueKind.TheVariants as kind
 use Rattle.gql_diag_messages.specs.declared.diagnostic_data.DiagnosticData.{DiagnosticData}
-use Rattle.gql_rules_base.specs.TypeShape.{item_type}
+use Rattle.gql_ast_values.specs.TypeParts.{item_type}
 use Rattle.gql_rules_base.specs.declared.known.Defined.{Defined}
 use Rattle.gql_rules_values.specs.Literals.{node_faults, literal_faults}
 use Rattle.gql_rules_values.specs.Typed.{Typed, Nodes, typed, inside, items_level, members_level, items_of, members_of, of_items, of_members, member_type}

@@ -13,7 +13,7 @@ use Rattle.gql_ast_values.specs.declared.value.ValueKind.TheOpen.{ValueKind-F}
 use Rattle.gql_diag_messages.specs.declared.rule.Rule.TheVariants.{IntCoercionError}
 use Rattle.gql_diag_messages.specs.declared.diagnostic_data.DiagnosticData.{DiagnosticData}
 use Rattle.gql_rules_base.specs.Faults.{fault, only_if}
-use Rattle.gql_rules_base.specs.TypeShape.{named_type}
+use Rattle.gql_ast_values.specs.TypeParts.{named_type}
 use Rattle.gql_schema_types.specs.Types.{type_called}
 use Rattle.gql_schema_types.specs.declared.types.ExtendedType.{ExtendedType}
 use Rattle.gql_schema_types.specs.declared.types.ExtendedType.TheVariants as type

@@ -8,7 +8,7 @@ use Rattle.gql_ast_values.specs.declared.value.ValueKind.{ValueKind, out-ValueKi
 use Rattle.gql_ast_values.specs.declared.value.ValueKind.TheOpen.{ValueKind-F}
 use Rattle.gql_diag_messages.specs.declared.diagnostic_data.DiagnosticData.{DiagnosticData}
 use Rattle.gql_rules_base.specs.Known.{is_defined}
-use Rattle.gql_rules_base.specs.TypeShape.{named_type}
+use Rattle.gql_ast_values.specs.TypeParts.{named_type}
 use Rattle.gql_rules_base.specs.declared.known.Defined.{Defined}
 use Rattle.gql_rules_values.specs.IntCoercionError.{int_coercion_error}
 use Rattle.gql_rules_values.specs.RequiredField.{required_fields}

@@ -9,7 +9,7 @@ use Rattle.gql_ast_values.specs.declared.value.ValueKind.TheOpen.{ValueKind-F}
 use Rattle.gql_schema_types.specs.Types.{type_called}
 use Rattle.gql_schema_types.specs.declared.types.ExtendedType.{ExtendedType}
 use Rattle.gql_schema_types.specs.declared.types.ExtendedType.TheVariants as type
-use Rattle.gql_rules_base.specs.TypeShape.{named_type, item_type, is_non_null}
+use Rattle.gql_ast_values.specs.TypeParts.{named_type, item_type, is_non_null}
 use Rattle.gql_rules_values.specs.declared.value_types.ValueForm.{ValueForm}
 use Rattle.gql_rules_values.specs.declared.value_types.ValueForm.TheVariants as form
 

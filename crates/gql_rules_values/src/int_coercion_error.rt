@@ -7,7 +7,7 @@ ghost use Rattle.gql_rules_values.specs.IntCoercionError as spec;
 
 use gql_ast_values::{TypeRef, Value, ValueKind};
 use gql_diag_messages::{DiagnosticData, Rule};
-use gql_rules_base::{list_fault, named_type};
+use gql_rules_base::list_fault;
 use gql_schema_types::{ExtendedType, Table};
 use jb_text::{Listed, Memory};
 use std::alloc::Global;
@@ -24,7 +24,7 @@ pub(crate) fn list_int_coercion_error(
 {
     match &literal.kind {
         ValueKind::Int(text) => {
-            if is_int_type(types, named_type(ty).as_str()) && !is_32_bits(text.as_str()) {
+            if is_int_type(types, ty.inner_named_type().as_str()) && !is_32_bits(text.as_str()) {
                 list_fault(
                     alloc,
                     Rule::IntCoercionError,

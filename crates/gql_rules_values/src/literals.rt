@@ -16,7 +16,7 @@ use crate::unsupported_value_type::list_unsupported_value_type;
 use gql_ast_base::Name;
 use gql_ast_values::{TypeRef, Value, ValueKind};
 use gql_diag_messages::DiagnosticData;
-use gql_rules_base::{Defined, is_defined, item_type, named_type};
+use gql_rules_base::{Defined, is_defined};
 use gql_schema_types::{ExtendedType, Table};
 use jb_text::{Listed, Memory};
 use std::alloc::Global;
@@ -35,7 +35,7 @@ pub fn list_literal(
 {
     list_node(alloc, defined, types, ty, literal, faults)?;
     match &literal.kind {
-        ValueKind::List(items) => match item_type(ty) {
+        ValueKind::List(items) => match ty.item_type() {
             Some(item) => list_items(alloc, defined, types, items, item, faults),
             None => list_untyped_items(alloc, defined, types, items, faults),
         },
@@ -153,7 +153,7 @@ fn list_untyped_members(
 fn member_type<'s>(types: &'s Table<ExtendedType>, key: &str, ty: &TypeRef) -> Option<&'s TypeRef>
     ensures { option_copied result ≡ nodes.member_type types.now key.now ty.now }
 {
-    match types.get(named_type(ty).as_str()) {
+    match types.get(ty.inner_named_type().as_str()) {
         Some(found) => field_type(key, found),
         None => None,
     }
@@ -188,7 +188,7 @@ fn list_node(
     ensures { OnOk result (faults.new ≡ faults.old ++ spec.node_faults defined types.now (record { ty = Some ty.now; literal = literal.now })) }
 {
     list_unique_keys(alloc, literal, faults)?;
-    if is_defined(defined, types, named_type(ty).as_str()) {
+    if is_defined(defined, types, ty.inner_named_type().as_str()) {
         list_at_type(alloc, types, ty, literal, faults)
     } else {
         Ok(())
@@ -222,7 +222,7 @@ fn list_keys(
     ensures { OnOk result (faults.new ≡ faults.old ++ spec.keys types.now ty.now literal.now) }
 {
     match &literal.kind {
-        ValueKind::Object(members) => match types.get(named_type(ty).as_str()) {
+        ValueKind::Object(members) => match types.get(ty.inner_named_type().as_str()) {
             Some(found) => list_keys_at(alloc, literal, members, found, faults),
             None => Ok(()),
         },

@@ -7,7 +7,7 @@ ghost use Rattle.gql_rules_values.specs.UndefinedEnumValue as spec;
 use gql_ast_base::Name;
 use gql_ast_values::{TypeRef, Value, ValueKind};
 use gql_diag_messages::{DiagnosticData, Rule};
-use gql_rules_base::{list_fault, named_type};
+use gql_rules_base::list_fault;
 use gql_schema_types::{EnumType, ExtendedType, Table};
 use jb_text::{Listed, Memory};
 use std::alloc::Global;
@@ -23,7 +23,7 @@ pub(crate) fn list_undefined_enum_value(
     ensures { OnOk result (faults.new ≡ faults.old ++ spec.undefined_enum_value types.now ty.now literal.now) }
 {
     match &literal.kind {
-        ValueKind::Enum(name) => match types.get(named_type(ty).as_str()) {
+        ValueKind::Enum(name) => match types.get(ty.inner_named_type().as_str()) {
             Some(found) => list_not_among(alloc, literal, name, found, faults),
             None => Ok(()),
         },

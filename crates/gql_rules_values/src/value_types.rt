@@ -4,7 +4,6 @@ ghost use Rattle.std.specs.Prelude.{◌≡◌};
 ghost use Rattle.gql_rules_values.specs.ValueTypes as spec;
 
 use gql_ast_values::{TypeRef, Value, ValueKind};
-use gql_rules_base::{is_non_null, item_type, named_type};
 use gql_schema_types::{ExtendedType, Table};
 
 /// How a value is written.
@@ -42,11 +41,11 @@ pub(crate) fn form_of(literal: &Value) -> ValueForm
 pub(crate) fn fits(types: &Table<ExtendedType>, ty: &TypeRef, form: ValueForm) -> bool
     ensures { result ≡ spec.fits types.now ty.now form }
 {
-    let name = named_type(ty).as_str();
+    let name = ty.inner_named_type().as_str();
     match form {
-        ValueForm::Null => !is_non_null(ty),
+        ValueForm::Null => !ty.is_non_null(),
         ValueForm::Variable => true,
-        ValueForm::List => item_type(ty).is_some() || accepts(types, name, ValueForm::List),
+        ValueForm::List => ty.item_type().is_some() || accepts(types, name, ValueForm::List),
         form => accepts(types, name, form),
     }
 }

@@ -9,7 +9,7 @@ use Rattle.gql_ast_values.specs.declared.type_ref.TypeRef.TheVariants as type
 use Rattle.gql_ast_values.specs.declared.value.Value.{Value}
 use Rattle.gql_ast_values.specs.declared.value.ValueKind.{ValueKind, out-ValueKind}
 use Rattle.gql_ast_values.specs.declared.value.ValueKind.TheOpen.{ValueKind-F}
-use Rattle.gql_rules_base.specs.TypeShape.{is_non_null}
+use Rattle.gql_ast_values.specs.TypeParts.{is_non_null}
 
 -- for the type of a place, a type goes into it
 abbrev pub Into : Type 0

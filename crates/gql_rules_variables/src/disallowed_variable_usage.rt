@@ -11,7 +11,7 @@ use gql_ast_operations::VariableDefinition;
 use gql_ast_print::print_type;
 use gql_ast_values::TypeRef;
 use gql_diag_messages::{DiagnosticData, Rule};
-use gql_rules_base::{Defined, is_defined, list_fault, named_type};
+use gql_rules_base::{Defined, is_defined, list_fault};
 use gql_schema_types::{ExtendedType, Table};
 use jb_text::{Listed, Memory};
 use std::alloc::Global;
@@ -61,8 +61,8 @@ fn breaks(
 fn are_defined(types: &Table<ExtendedType>, variable: &TypeRef, place: &TypeRef) -> bool
     ensures { result ≡ spec.are_defined types.now variable.now place.now }
 {
-    is_defined(Defined::Types, types, named_type(variable).as_str())
-        && is_defined(Defined::Types, types, named_type(place).as_str())
+    is_defined(Defined::Types, types, variable.inner_named_type().as_str())
+        && is_defined(Defined::Types, types, place.inner_named_type().as_str())
 }
 
 /// Lists a use, if it is not allowed: then this is the type of the variable.

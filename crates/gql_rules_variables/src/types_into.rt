@@ -5,7 +5,6 @@ ghost use Rattle.gql_rules_variables.specs.TypesInto as spec;
 
 use gql_ast_operations::VariableDefinition;
 use gql_ast_values::{TypeRef, Value, ValueKind};
-use gql_rules_base::is_non_null;
 
 /// Whether a use of the variable is allowed where this type is wanted and the argument or input field may have a default.
 pub(crate) fn is_allowed(variable: &VariableDefinition, has_default: bool, ty: &TypeRef) -> bool
@@ -19,7 +18,7 @@ fn is_allowed_by_default(variable: &VariableDefinition, has_default: bool, ty: &
     ensures { result ≡ spec.is_allowed_by_default variable.now has_default ty.now }
 {
     (has_default || has_value(&variable.default_value))
-        && (is_non_null(ty) && !is_non_null(&variable.ty))
+        && (ty.is_non_null() && !variable.ty.is_non_null())
         && goes_into_nullable(&variable.ty, ty)
 }
 

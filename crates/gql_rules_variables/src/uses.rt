@@ -8,7 +8,6 @@ ghost use Rattle.gql_rules_variables.specs.Views as seen;
 use gql_ast_base::Name;
 use gql_ast_definitions::InputValueDefinition;
 use gql_ast_values::TypeRef;
-use gql_rules_base::{item_type, named_type};
 use gql_schema_types::{ExtendedType, Table};
 use gql_source::SourceSpan;
 
@@ -59,7 +58,7 @@ impl<'d> Place<'d> {
         ensures { option_copied result ≡ (spec.item_place (seen.place_of self.now)).ty }
     {
         match self.ty {
-            Some(ty) => item_type(ty),
+            Some(ty) => ty.item_type(),
             None => None,
         }
     }
@@ -83,7 +82,7 @@ fn member_definition<'d>(
 ) -> Option<&'d InputValueDefinition>
     ensures { option_copied result ≡ spec.member_definition types.now key.now ty.now }
 {
-    match types.get(named_type(ty).as_str()) {
+    match types.get(ty.inner_named_type().as_str()) {
         Some(found) => field_of(key, found),
         None => None,
     }

@@ -8,7 +8,7 @@ ghost use Rattle.gql_schema_rules.specs.Scalars as spec;
 
 use gql_ast_base::Name;
 use gql_ast_definitions::{DirectiveDefinition, FieldDefinition, InputValueDefinition};
-use gql_rules_base::{is_written, named_type};
+use gql_rules_base::is_written;
 use gql_schema_types::{ExtendedType, ScalarType, Shared, Table};
 use jb_text::{Listed, Memory, Refused};
 use std::alloc::{AllocError, Global};
@@ -191,7 +191,8 @@ fn field_names(field: &FieldDefinition, name: &str) -> bool
     ensures { result ≡ spec.field_names name.now field.now }
 {
     is_written(field.location)
-        && (name == named_type(&field.ty).as_str() || any_names(field.arguments.as_slice(), name))
+        && (name == field.ty.inner_named_type().as_str()
+            || any_names(field.arguments.as_slice(), name))
 }
 
 fn any_input_names(values: &[InputValueDefinition], name: &str) -> bool
@@ -215,5 +216,5 @@ fn any_names(values: &[InputValueDefinition], name: &str) -> bool
 fn names(value: &InputValueDefinition, name: &str) -> bool
     ensures { result ≡ spec.names name.now value.now }
 {
-    name == named_type(&value.ty).as_str()
+    name == value.ty.inner_named_type().as_str()
 }

@@ -8,7 +8,7 @@ use Rattle.gql_ast_definitions.specs.declared.schema_definition.DirectiveDefinit
 use Rattle.gql_ast_values.specs.declared.directive.Directive.{Directive}
 use Rattle.gql_diag_messages.specs.declared.rule.Rule.TheVariants.{RecursiveDirectiveDefinition}
 use Rattle.gql_diag_messages.specs.declared.diagnostic_data.DiagnosticData.{DiagnosticData}
-use Rattle.gql_rules_base.specs.TypeShape.{named_type}
+use Rattle.gql_ast_values.specs.TypeParts.{named_type}
 use Rattle.gql_rules_graph.specs.Graph.{Graph}
 use Rattle.gql_schema_rules_cycles.specs.CycleFaults.{IsTold}
 use Rattle.gql_schema_types.specs.Entries.{is_called}

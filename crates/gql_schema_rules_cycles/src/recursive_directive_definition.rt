@@ -10,7 +10,6 @@ use gql_ast_base::Name;
 use gql_ast_definitions::{DirectiveDefinition, InputValueDefinition};
 use gql_ast_values::Directive;
 use gql_diag_messages::{DiagnosticData, Rule};
-use gql_rules_base::named_type;
 use gql_schema_types::{ExtendedType, Table};
 use jb_text::{Listed, Memory};
 use std::alloc::Global;
@@ -136,7 +135,7 @@ fn push_argument(
     push_type(
         definitions.as_slice(),
         types,
-        named_type(&argument.ty),
+        argument.ty.inner_named_type(),
         nodes,
     )
 }

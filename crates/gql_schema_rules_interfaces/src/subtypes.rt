@@ -10,7 +10,7 @@ ghost use Rattle.gql_schema_rules_interfaces.specs.Subtypes as spec;
 
 use gql_ast_base::Name;
 use gql_ast_values::TypeRef;
-use gql_rules_base::{is_known, is_non_null, item_type, named_type};
+use gql_rules_base::is_known;
 use gql_schema_types::{ExtendedType, Table};
 
 /// Whether a type is a subtype of the one that is wanted: the same type, its non-null form, a list of subtypes, a member of the
@@ -21,14 +21,14 @@ pub(crate) fn is_subtype(types: &Table<ExtendedType>, wanted: &TypeRef, ty: &Typ
     match wanted {
         TypeRef::Named(other) => names_subtype(types, ty, other.as_str()),
         TypeRef::NonNullNamed(other) => {
-            is_non_null(ty) && names_subtype(types, ty, other.as_str())
+            ty.is_non_null() && names_subtype(types, ty, other.as_str())
         }
-        TypeRef::List(item) => match item_type(ty) {
+        TypeRef::List(item) => match ty.item_type() {
             Some(found) => is_subtype(types, item.get(), found),
             None => false,
         },
-        TypeRef::NonNullList(item) => match item_type(ty) {
-            Some(found) => is_non_null(ty) && is_subtype(types, item.get(), found),
+        TypeRef::NonNullList(item) => match ty.item_type() {
+            Some(found) => ty.is_non_null() && is_subtype(types, item.get(), found),
             None => false,
         },
     }
@@ -105,7 +105,8 @@ fn bare_name(ty: &TypeRef) -> Option<&Name>
 pub(crate) fn are_known(types: &Table<ExtendedType>, one: &TypeRef, other: &TypeRef) -> bool
     ensures { result ≡ spec.are_known types.now one.now other.now }
 {
-    is_known(types, named_type(one).as_str()) && is_known(types, named_type(other).as_str())
+    is_known(types, one.inner_named_type().as_str())
+        && is_known(types, other.inner_named_type().as_str())
 }
 
 /// Whether two types are the same.
@@ -113,14 +114,14 @@ pub(crate) fn is_same_type(wanted: &TypeRef, ty: &TypeRef) -> bool
     ensures { result ≡ spec.is_same_type wanted.now ty.now }
 {
     match wanted {
-        TypeRef::Named(other) => !is_non_null(ty) && is_named(ty, other.as_str()),
-        TypeRef::NonNullNamed(other) => is_non_null(ty) && is_named(ty, other.as_str()),
-        TypeRef::List(item) => match item_type(ty) {
-            Some(found) => !is_non_null(ty) && is_same_type(item.get(), found),
+        TypeRef::Named(other) => !ty.is_non_null() && is_named(ty, other.as_str()),
+        TypeRef::NonNullNamed(other) => ty.is_non_null() && is_named(ty, other.as_str()),
+        TypeRef::List(item) => match ty.item_type() {
+            Some(found) => !ty.is_non_null() && is_same_type(item.get(), found),
             None => false,
         },
-        TypeRef::NonNullList(item) => match item_type(ty) {
-            Some(found) => is_non_null(ty) && is_same_type(item.get(), found),
+        TypeRef::NonNullList(item) => match ty.item_type() {
+            Some(found) => ty.is_non_null() && is_same_type(item.get(), found),
             None => false,
         },
     }

@@ -10,7 +10,7 @@ use crate::reserved_name::list_reserved_name;
 use crate::undefined_definition::list_undefined_definition;
 use gql_ast_definitions::{DirectiveLocation, EnumValueDefinition, FieldDefinition};
 use gql_diag_messages::DiagnosticData;
-use gql_rules_base::{Defined, is_written, named_type};
+use gql_rules_base::{Defined, is_written};
 use gql_rules_values::list_directives;
 use gql_schema_types::{Schema, Shared};
 use jb_text::{Listed, Memory};
@@ -70,7 +70,7 @@ fn list_type(
 ) -> Result<(), Memory>
     ensures { OnOk result (faults.new ≡ faults.old ++ spec.type_faults schema.now field.now) }
 {
-    list_undefined_definition(alloc, &schema.types, named_type(&field.ty), faults)?;
+    list_undefined_definition(alloc, &schema.types, field.ty.inner_named_type(), faults)?;
     list_output_type(alloc, &schema.types, field, faults)
 }
 

@@ -7,7 +7,7 @@ ghost use Rattle.gql_schema_rules_types.specs.InputType as spec;
 
 use gql_ast_definitions::InputValueDefinition;
 use gql_diag_messages::{DiagnosticData, Rule};
-use gql_rules_base::{list_fault, named_type};
+use gql_rules_base::list_fault;
 use gql_schema_types::{ExtendedType, Table};
 use jb_text::{Listed, Memory};
 use std::alloc::Global;
@@ -21,7 +21,7 @@ pub(crate) fn list_input_type(
 ) -> Result<(), Memory>
     ensures { OnOk result (faults.new ≡ faults.old ++ spec.input_type types.now value.now) }
 {
-    if names_composite(types, named_type(&value.ty).as_str()) {
+    if names_composite(types, value.ty.inner_named_type().as_str()) {
         list_fault(
             alloc,
             Rule::InputType,

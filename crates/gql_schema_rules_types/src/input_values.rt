@@ -10,7 +10,7 @@ use crate::reserved_name::list_reserved_name;
 use crate::undefined_definition::list_undefined_definition;
 use gql_ast_definitions::{DirectiveLocation, InputValueDefinition};
 use gql_diag_messages::DiagnosticData;
-use gql_rules_base::{Defined, is_written, named_type};
+use gql_rules_base::{Defined, is_written};
 use gql_rules_values::{list_directives, list_literal, list_unique_definitions};
 use gql_schema_types::Schema;
 use jb_text::{Listed, Memory};
@@ -119,7 +119,7 @@ fn list_type(
 ) -> Result<(), Memory>
     ensures { OnOk result (faults.new ≡ faults.old ++ spec.type_faults schema.now value.now) }
 {
-    list_undefined_definition(alloc, &schema.types, named_type(&value.ty), faults)?;
+    list_undefined_definition(alloc, &schema.types, value.ty.inner_named_type(), faults)?;
     list_input_type(alloc, &schema.types, value, faults)
 }
 

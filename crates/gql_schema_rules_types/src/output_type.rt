@@ -7,7 +7,7 @@ ghost use Rattle.gql_schema_rules_types.specs.OutputType as spec;
 
 use gql_ast_definitions::FieldDefinition;
 use gql_diag_messages::{DiagnosticData, Rule};
-use gql_rules_base::{list_fault, named_type};
+use gql_rules_base::list_fault;
 use gql_schema_types::{ExtendedType, Table};
 use jb_text::{Listed, Memory};
 use std::alloc::Global;
@@ -21,7 +21,7 @@ pub(crate) fn list_output_type(
 ) -> Result<(), Memory>
     ensures { OnOk result (faults.new ≡ faults.old ++ spec.output_type types.now field.now) }
 {
-    if names_input_object(types, named_type(&field.ty).as_str()) {
+    if names_input_object(types, field.ty.inner_named_type().as_str()) {
         list_fault(
             alloc,
             Rule::OutputType,

@@ -25,8 +25,8 @@ use gql_diag_messages::DiagnosticData;
 use gql_rules_base::{Defined, is_written};
 use gql_rules_values::list_directives;
 use gql_schema_types::{
-    EnumType, ExtendedType, InputObjectType, InterfaceType, ObjectType, ScalarType, Schema,
-    Shared, UnionType,
+    EnumType, ExtendedType, InputObjectType, InterfaceType, ObjectType, ScalarType, Schema, Shared,
+    UnionType,
 };
 use gql_source::SourceSpan;
 use jb_text::{Listed, Memory};

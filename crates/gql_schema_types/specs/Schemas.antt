@@ -6,6 +6,8 @@ use Rattle.gql_ast_base.specs.Names.{Named}
 use Rattle.gql_ast_base.specs.declared.operation_type.OperationType.{OperationType}
 use Rattle.gql_ast_base.specs.declared.operation_type.OperationType.TheVariants.{Query, Mutation, Subscription}
 use Rattle.gql_ast_definitions.specs.declared.field_definition.FieldDefinition.{FieldDefinition}
+use Rattle.gql_ast_values.specs.TypeParts.{named_type}
+use Rattle.gql_ast_values.specs.declared.type_ref.TypeRef.{TypeRef}
 use Rattle.gql_schema_types.specs.Entries.{entry}
 use Rattle.gql_schema_types.specs.MetaFields.{type_name_field, schema_field, type_field}
 use Rattle.gql_schema_types.specs.Types.{type_called, as_object, is_composite, fields_of, field_name}
@@ -44,3 +46,7 @@ field_of schema type_name name = option_and_then (λ ty. field_on schema.schema_
 -- the object type of a name
 abbrev pub object_of : Schema → List ℕ → Option ObjectType
 object_of schema name = option_and_then as_object (type_called name schema.types)
+
+-- the type that a reference names, within all lists
+abbrev pub type_named : Schema → TypeRef → Option ExtendedType
+type_named schema ty = type_called (named_type ty).text schema.types

@@ -9,7 +9,7 @@ use crate::table::Table;
 use crate::types::{ExtendedType, ObjectType};
 use gql_ast_base::{Name, OperationType};
 use gql_ast_definitions::{DirectiveDefinition, FieldDefinition};
-use gql_ast_values::Directive;
+use gql_ast_values::{Directive, TypeRef};
 use gql_source::{SourceMap, SourceSpan};
 use jb_text::{Listed, Text};
 
@@ -96,6 +96,15 @@ impl Schema {
             Some(ty) => ty.as_object(),
             None => None,
         }
+    }
+
+    /// The type that the reference names, within all lists (section 2.11); `None` exactly where the schema has no type of that
+    /// name. It takes no memory.
+    #[must_use]
+    pub fn type_named_by(&self, reference: &TypeRef) -> Option<&ExtendedType>
+        ensures { option_copied result ≡ spec.type_named self.now reference.now }
+    {
+        self.types.get(reference.inner_named_type().as_str())
     }
 
     /// The field of a type, both by name: a type's own field, or else `__typename` of a composite type, or `__schema` or

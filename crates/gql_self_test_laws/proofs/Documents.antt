@@ -19,7 +19,7 @@ use Rattle.gql_document_build.specs.Nodes.{is_leaf}
 use Rattle.gql_document_text.specs.DocumentText.{DocumentText}
 use Rattle.gql_document_text_laws.proofs.Made.{made_field}
 use Rattle.gql_document_types.specs.ChosenOperation.{chosen}
-use Rattle.gql_document_types.specs.NamedType.{named_type}
+use Rattle.gql_ast_values.specs.TypeParts.{named_type}
 use Rattle.gql_document_types.specs.declared.document.ExecutableDocument.{ExecutableDocument}
 use Rattle.gql_document_types.specs.declared.operation.Operation.{Operation}
 use Rattle.gql_document_types.specs.declared.selection.Field.{Field}

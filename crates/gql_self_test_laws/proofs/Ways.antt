@@ -8,7 +8,7 @@ use Rattle.std.proofs.lemmas.Slice.Eq.{bytes_eq-Decides}
 use Rattle.gql_ast_values.specs.declared.type_ref.TypeRef.{TypeRef, roll-TypeRef, out-TypeRef, the_lemmas as type_lemmas}
 use Rattle.gql_ast_values.specs.declared.type_ref.TypeRef.TheOpen.{TypeRef-F}
 use Rattle.gql_ast_definitions.specs.declared.field_definition.FieldDefinition.{FieldDefinition}
-use Rattle.gql_document_types.specs.NamedType.{named_type}
+use Rattle.gql_ast_values.specs.TypeParts.{named_type}
 use Rattle.gql_document_types.specs.declared.document.ExecutableDocument.{ExecutableDocument}
 use Rattle.gql_document_types.specs.declared.fragment.Fragment.{Fragment}
 use Rattle.gql_document_types.specs.declared.operation.Operation.{Operation}

@@ -7,7 +7,7 @@ use Rattle.jb_tree.specs.declared.value.Value.{Object, size-Value, the_lemmas}
 use Rattle.gql_ast_base.specs.Names.{Named}
 use Rattle.gql_schema_types.specs.Types.{type_called}
 use Rattle.gql_coerce.specs.Subject.{subject_text, field_words}
-use Rattle.gql_coerce.specs.TypeShape.{innermost}
+use Rattle.gql_ast_values.specs.TypeParts.{named_type}
 use Rattle.gql_coerce.specs.InputTypes.{field_name}
 use Rattle.gql_coerce.specs.InputValue.{coerced, object, field_value}
 use Rattle.gql_coerce.specs.Filled.{filled, with_value}
@@ -41,7 +41,7 @@ pub coerce_value-coerce_items-requires : goal.coerce_value-coerce_items-requires
 coerce_value-coerce_items-requires t c =
     let types = c.args.self.now.types.now in
     let item = c.in-Some.item in
-    let found : option_copied item.found ≡ type_called (innermost item.ty.now).text types =
+    let found : option_copied item.found ≡ type_called (named_type item.ty.now).text types =
     ap option_copied c.in-Some.ensures.found ∙ c.requires
     ∙ ap (λ (name : Named). type_called name.text types) (sym (innermost-item c.args.wanted.now.ty.now item.ty.now (sym c.in-Some.ensures.ty))) in
     search (rules, the_lemmas, found)
@@ -55,7 +55,7 @@ coerce_value-returns-in-Object t c =
     let types = c.args.self.now.types.now in
     let d = subject_text c.args.subject.now in
     answered _ _ _ (at-Object types c.args.value.now c.in-Object.members d c.args.wanted.now.ty.now c.in-Object.is)
-    (c.wrapped.ensures (object types (coerced types) c.in-Object.members d (innermost c.args.wanted.now.ty.now) c.args.value.now) c.coerce_object-made.ensures)
+    (c.wrapped.ensures (object types (coerced types) c.in-Object.members d (named_type c.args.wanted.now.ty.now) c.args.value.now) c.coerce_object-made.ensures)
 
 pub coerce_field-coerce_value-requires : goal.coerce_field-coerce_value-requires
 coerce_field-coerce_value-requires t c =

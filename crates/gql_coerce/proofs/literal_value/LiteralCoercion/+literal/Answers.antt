@@ -1,7 +1,7 @@
 use Rattle.std.proofs.Common.{◌≡◌, ◌≤◌, ◌<◌, ◌*◌, Some, None, rules, ap, sym, ◌∙◌, drop, map, arith, ◌+◌}
 use Rattle.jb_tree.specs.declared.value.Value.{Object}
 use Rattle.gql_coerce.specs.Subject.{subject_text, field_words}
-use Rattle.gql_coerce.specs.TypeShape.{innermost}
+use Rattle.gql_ast_values.specs.TypeParts.{named_type}
 use Rattle.gql_coerce.specs.Outcome.{mapped}
 use Rattle.gql_coerce.specs.Filled.{filled, with_value}
 use Rattle.gql_coerce.specs.InputTypes.{field_name}
@@ -44,12 +44,12 @@ coerce_literal-returns-in-Some t c =
 
 pub coerce_literal-returns-in-None : goal.coerce_literal-returns-in-None
 coerce_literal-returns-in-None t c =
-    answered _ _ _ (at-List c.args.self.now.coercion.types.now c.args.self.now.env.now c.args.literal.now c.in-List.items (subject_text c.args.subject.now) c.args.ty.now None c.in-List.is (sym c.in-None.ensures)) (rw c.innermost.ensures at c.leaf.ensures)
+    answered _ _ _ (at-List c.args.self.now.coercion.types.now c.args.self.now.env.now c.args.literal.now c.in-List.items (subject_text c.args.subject.now) c.args.ty.now None c.in-List.is (sym c.in-None.ensures)) (rw c.inner_named_type.ensures at c.leaf.ensures)
 
 pub coerce_literal-returns-in-Object : goal.coerce_literal-returns-in-Object
 coerce_literal-returns-in-Object t c =
     answered _ _ _ (at-Object c.args.self.now.coercion.types.now c.args.self.now.env.now c.args.literal.now c.in-Object.members (subject_text c.args.subject.now) c.args.ty.now c.in-Object.is)
-    (c.wrapped.ensures (literal_members c.args.self.now.coercion.types.now c.args.self.now.env.now (coerced_literal c.args.self.now.coercion.types.now c.args.self.now.env.now) c.in-Object.members (subject_text c.args.subject.now) (innermost c.args.ty.now) c.args.literal.now) (rw c.innermost-in-Object.ensures at c.coerce_object-made.ensures))
+    (c.wrapped.ensures (literal_members c.args.self.now.coercion.types.now c.args.self.now.env.now (coerced_literal c.args.self.now.coercion.types.now c.args.self.now.env.now) c.in-Object.members (subject_text c.args.subject.now) (named_type c.args.ty.now) c.args.literal.now) (rw c.inner_named_type-in-Object.ensures at c.coerce_object-made.ensures))
 
 pub coerce_field-coerce_literal-requires : goal.coerce_field-coerce_literal-requires
 coerce_field-coerce_literal-requires t c =

@@ -2,7 +2,7 @@ use Rattle.std.proofs.Common.{rules, arith, ◌≡◌, ◌+◌, ◌*◌, ◌<◌
 use Rattle.std.proofs.lemmas.List.{append-nil, length-map}
 use Rattle.gql_ast_definitions.specs.declared.field_definition.FieldDefinition.{FieldDefinition}
 use Rattle.gql_schema_types.specs.declared.schema.Schema.{Schema}
-use Rattle.gql_exec_complete.specs.Fit.{type_of_name}
+use Rattle.gql_schema_types.specs.Schemas.{type_named}
 use Rattle.gql_exec_complete.specs.Seen.{seen, misfit_seen, IsFitOfObject}
 use Rattle.jb_tree.specs.declared.value.Value.TheVariants as json
 use Rattle.gql_exec_places.specs.Execute.{completed, items_made, one_array, one_object, settled}
@@ -106,7 +106,7 @@ complete_value-returns-in-SkipForPartialExecution g t c =
 
 pub complete_object-fitting_object-requires : goal.complete_object-fitting_object-requires
 complete_object-fitting_object-requires g t c =
-    c.requires.named ∙ ap (λ (schema : Schema). type_of_name schema c.args.place.now.ty.now) (sym c.schema.ensures)
+    c.requires.named ∙ ap (λ (schema : Schema). type_named schema c.args.place.now.ty.now) (sym c.schema.ensures)
 
 pub complete_object-execute_object-requires : goal.complete_object-execute_object-requires
 complete_object-execute_object-requires g t c =
