@@ -4,7 +4,7 @@ definitions that the clauses of the engine's public calls reach, by imports, sta
 import re
 import sys
 
-from shared.sources import ROOT, files_of, shown
+from shared.sources import ROOT, files_of, shown, tell
 
 PAGE = ROOT / "docs" / "DEFINITIONS.md"
 
@@ -51,13 +51,5 @@ def reached(files):
     return found
 
 
-def main():
-    found = list(faults())
-    for fault in found:
-        print(f"definitions: {fault}")
-    print(f"definitions: {len(found)} faults")
-    return 1 if found else 0
-
-
 if __name__ == "__main__":
-    sys.exit(main())
+    sys.exit(tell("definitions", list(faults())))

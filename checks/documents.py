@@ -5,7 +5,7 @@ of crates.txt, and each file that a page names is there."""
 import re
 import sys
 
-from shared.sources import ROOT, crates, shown
+from shared.sources import ROOT, crates, shown, tell
 
 MOST_WORDS = 1200
 
@@ -62,13 +62,5 @@ def arrows(page):
                 yield f"{shown(page)}: an arrow from {crate} to {other}, on which it does not stand by crates.txt"
 
 
-def main():
-    found = list(faults())
-    for fault in found:
-        print(f"documents: {fault}")
-    print(f"documents: {len(found)} faults")
-    return 1 if found else 0
-
-
 if __name__ == "__main__":
-    sys.exit(main())
+    sys.exit(tell("documents", list(faults())))

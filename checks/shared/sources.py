@@ -1,4 +1,4 @@
-"""The crates and their files, and the functions of a file, as the layout checks look at them."""
+"""The crates and their files, and the functions of a file, as checks look at them; and how a check tells what it found."""
 import dataclasses
 import pathlib
 import re
@@ -27,6 +27,14 @@ class Function:
 def crates():
     """The folders of all crates, in order."""
     return sorted(folder for folder in (ROOT / "crates").iterdir() if (folder / "src").is_dir())
+
+
+def tell(check, faults):
+    """Prints the faults that a check found, a line each, and how many they are. Gives the status that the check ends with."""
+    for fault in faults:
+        print(f"{check}: {fault}")
+    print(f"{check}: {len(faults)} faults")
+    return 1 if faults else 0
 
 
 def files_of(crate, part, suffix):

@@ -1,9 +1,9 @@
 """Wrong bodies: edits of a crate's sources, each of which the prover must refuse."""
 import dataclasses
-import pathlib
 import re
 
-ROOT = pathlib.Path(__file__).resolve().parents[2]
+from shared.sources import ROOT, files_of
+
 EDITS = ROOT / "wrong-bodies"
 FUNCTION = re.compile(r"\bfn (\w+)")
 IMPL = re.compile(r"^(?:unsafe )?impl\b(.*)", re.M)
@@ -81,7 +81,7 @@ def owner_of(head):
 
 def texts_of(folder):
     """The sources of a crate, by their path in it."""
-    return {str(file.relative_to(folder)): file.read_text() for file in sorted((folder / "src").rglob("*.rt"))}
+    return {str(file.relative_to(folder)): file.read_text() for file in files_of(folder, "src", ".rt")}
 
 
 def known_crates():
