@@ -51,13 +51,19 @@ impl ExecutionResponse {
 
     /// The bytes of a response with these errors whose data are written already, as JSON without white space. `Err` only when
     /// out of memory.
-    pub fn bytes_with(alloc: Global, errors: &[GraphQLError], data: &str) -> Result<Bytes, Memory>
-        ensures { IfOk result (λ bytes. (root : Option (List Member)) → data.now ≡ compact (data_value root)
+    pub fn bytes_with(
+        alloc: Global,
+        errors: &[GraphQLError],
+        written: &str,
+    ) -> Result<Bytes, Memory>
+        ensures { IfOk result (λ bytes. (root : Option (List Member)) → written.now ≡ compact (data_value root)
             → bytes ≡ compact (response_value (record { errors = errors.now; root = root }))) }
     {
-        let room = FIRST_ROOM.saturating_add(data.len());
+        let room = FIRST_ROOM.saturating_add(written.len());
         let mut out = String::with_capacity(alloc, room)?;
-        append_with(&mut out, errors, data)?;
+        append_before_data(&mut out, errors)?;
+        out.push_str(written)?;
+        out.push_str("}")?;
         Ok(Bytes::from_vec(out.into_bytes())?)
     }
 
@@ -105,13 +111,22 @@ impl Printed for ExecutionResponse {
     ghost value_of = { response_value };
 
     fn append(&self, out: &mut String) -> Result<(), Memory> {
-        out.push_str("{")?;
-        append_errors(out, self.errors.as_slice())?;
-        append_key(out, false, "data")?;
+        append_before_data(out, self.errors.as_slice())?;
         append_data(out, &self.root)?;
         out.push_str("}")?;
         Ok(())
     }
+}
+
+/// Appends all that a response with these errors has before its data.
+fn append_before_data(out: &mut String, errors: &[GraphQLError]) -> Result<(), Memory>
+    ensures { OnOk result ((root : Option (List Member)) → (string_bytes out.new ++ compact (data_value root)) ++ codes "}"
+        ≡ string_bytes out.old ++ compact (response_value (record { errors = errors.now; root = root }))) }
+{
+    out.push_str("{")?;
+    append_errors(out, errors)?;
+    append_key(out, false, "data")?;
+    Ok(())
 }
 
 /// Appends the errors where there are any, and the comma that then stands before another member.
@@ -125,19 +140,6 @@ fn append_errors(out: &mut String, errors: &[GraphQLError]) -> Result<(), Memory
     append_key(out, false, "errors")?;
     append_list(out, errors)?;
     out.push_str(",")?;
-    Ok(())
-}
-
-/// Appends a response with these errors whose data are written already.
-fn append_with(out: &mut String, errors: &[GraphQLError], data: &str) -> Result<(), Memory>
-    ensures { OnOk result ((root : Option (List Member)) → data.now ≡ compact (data_value root)
-        → string_bytes out.new ≡ string_bytes out.old ++ compact (response_value (record { errors = errors.now; root = root }))) }
-{
-    out.push_str("{")?;
-    append_errors(out, errors)?;
-    append_key(out, false, "data")?;
-    out.push_str(data)?;
-    out.push_str("}")?;
     Ok(())
 }
 
