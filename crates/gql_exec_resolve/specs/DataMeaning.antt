@@ -20,7 +20,7 @@ use Rattle.gql_exec_places.specs.Resolved.{Meaning, Meanings, gives_leaf, gives_
 use Rattle.gql_ast_values.specs.TypeParts.{item_type}
 use Rattle.gql_exec_resolve.specs.Data.{Data}
 use Rattle.gql_exec_resolve.specs.Meaning.{Members}
-use Rattle.gql_exec_resolve.specs.NamedTypes.{type_named_by}
+use Rattle.gql_exec_resolve.specs.NamedTypes.{type_named_by_field}
 
 -- the text of a member, where it is one
 abbrev pub text_member : List ℕ → Members → Option (List ℕ)
@@ -93,7 +93,7 @@ value_at (Some definition) named value = shaped (composite_name named (named_typ
 value_at None named value = untyped value
 
 abbrev pub value_of : Schema → Option FieldDefinition → Value → Meaning Data
-value_of schema definition value = value_at definition (type_named_by schema definition) value
+value_of schema definition value = value_at definition (type_named_by_field schema definition) value
 
 abbrev pub value_or_null : Schema → Option FieldDefinition → Option Value → Meaning Data
 value_or_null schema definition (Some value) = value_of schema definition value

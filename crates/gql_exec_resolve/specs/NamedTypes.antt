@@ -6,6 +6,6 @@ use Rattle.gql_schema_types.specs.declared.schema.Schema.{Schema}
 use Rattle.gql_schema_types.specs.declared.types.ExtendedType.{ExtendedType}
 
 -- the type of the schema that the type of a field names, where there is a field
-abbrev pub type_named_by : Schema → Option FieldDefinition → Option ExtendedType
-type_named_by schema (Some definition) = type_named schema definition.ty
-type_named_by schema None = None
+abbrev pub type_named_by_field : Schema → Option FieldDefinition → Option ExtendedType
+type_named_by_field schema (Some definition) = type_named schema definition.ty
+type_named_by_field schema None = None

@@ -3,7 +3,7 @@
 ghost use Rattle.std.specs.Prelude.{◌≡◌, Some};
 ghost use Rattle.std.specs.Option.{ForSome, option_copied};
 ghost use Rattle.gql_schema_types.specs.Schemas.{field_of, type_named};
-ghost use Rattle.gql_exec_resolve.specs.NamedTypes.{type_named_by};
+ghost use Rattle.gql_exec_resolve.specs.NamedTypes.{type_named_by_field};
 
 use gql_ast_definitions::FieldDefinition;
 use gql_diag::{JsonMap, Valid};
@@ -160,7 +160,7 @@ impl<'a> ResolveInfo<'a> {
     /// The field as the object type has it, which is looked up where it is not kept.
     pub(crate) fn on_object_type(&self) -> FieldOnType<'a>
         ensures definition { option_copied result.definition ≡ spec.definition_on_type self.now }
-        ensures named { option_copied result.named ≡ type_named_by (spec.schema_of self.now) (option_copied result.definition) }
+        ensures named { option_copied result.named ≡ type_named_by_field (spec.schema_of self.now) (option_copied result.definition) }
     {
         match self.definition {
             Some(definition) => FieldOnType {
@@ -174,7 +174,7 @@ impl<'a> ResolveInfo<'a> {
     /// The same, looked up.
     fn looked_up(&self) -> FieldOnType<'a>
         ensures definition { option_copied result.definition ≡ spec.definition_on_type self.now }
-        ensures named { option_copied result.named ≡ type_named_by (spec.schema_of self.now) (option_copied result.definition) }
+        ensures named { option_copied result.named ≡ type_named_by_field (spec.schema_of self.now) (option_copied result.definition) }
     {
         let schema = self.schema().as_ref();
         match schema.type_field(self.object_type.name.as_str(), self.field_name()) {
