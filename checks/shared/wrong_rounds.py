@@ -36,7 +36,7 @@ def check_sites(sites, folder):
 
 def is_by_its_own(why):
     """Whether what is said of a function tells that its own body is refused: one that calls a refused function may be right."""
-    return why.startswith(("no proof: ", "not proved")) and "it calls `" not in why
+    return "` did not prove `" in why or why.startswith(("no proof: ", "not proved")) and "it calls `" not in why
 
 
 def why_refused(sites, said):
