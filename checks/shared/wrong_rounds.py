@@ -4,7 +4,7 @@ import subprocess
 
 from shared.wrong_edits import texts_of
 
-SAID = re.compile(r"^fn \S*?(\w+|\+\w+): (.+)$", re.M)
+SAID = re.compile(r"^fn \w+::(\S+): (.+)$", re.M)
 
 
 def run(words, folder):
@@ -25,7 +25,7 @@ def next_round(edits, texts):
 
 
 def check_sites(sites, folder):
-    """What a check says of these functions, by their names; of all in their files where one is not found by its name."""
+    """What a check says of functions, by their paths: of these, or of all in their files where one is not found by its path."""
     for paths in ([site.path for site in sites], [site.module for site in sites]):
         only = [word for path in dict.fromkeys(paths) for word in ("--only", path)]
         ran = run(["rt", "check", "--jobs", "1", *only], folder)
@@ -39,10 +39,16 @@ def is_by_its_own(why):
     return "` did not prove `" in why or why.startswith(("no proof: ", "not proved")) and "it calls `" not in why
 
 
+def said_of(site, said):
+    """What is said of a function: of that of its path, else of the one in its file that has its name, if there is one alone."""
+    at_path = [why for path, why in said if f"::{path}".endswith(f"::{site.path}")]
+    in_file = [why for path, why in said if path.startswith(f"{site.module}::") and path.endswith(f"::{site.name}")]
+    return at_path or (in_file if len(in_file) == 1 else [])
+
+
 def why_refused(sites, said):
     """Why one of these functions is not proved, by its own body, or None."""
-    names = {name for site in sites for name in (site.name, "+" + (site.cycle or "").rpartition("::")[2])}
-    return next((why for name, why in said if name in names and is_by_its_own(why)), None)
+    return next((why for site in sites for why in said_of(site, said) if is_by_its_own(why)), None)
 
 
 def try_round(edits, texts, folder):
