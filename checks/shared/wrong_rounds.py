@@ -5,10 +5,19 @@ import subprocess
 from shared.wrong_edits import texts_of
 
 SAID = re.compile(r"^fn \w+::(\S+): (.+)$", re.M)
+VERDICT = re.compile(r"^logic=((?:not-)?proved)\b", re.M)
 
 
-def run(words, folder):
-    return subprocess.run(words, cwd=folder, stdin=subprocess.DEVNULL, stdout=subprocess.PIPE, stderr=subprocess.STDOUT, text=True, errors="replace")
+def check(folder, texts, changed, only=()):
+    """Runs `rt check` in a crate's folder with changed texts in place of its own, of these functions or files alone if any are named."""
+    words = ["rt", "check", "--jobs", "1", *(word for path in dict.fromkeys(only) for word in ("--only", path))]
+    files = [file for file in texts if changed[file] != texts[file]]
+    for file in files:
+        (folder / file).write_text(changed[file])
+    ran = subprocess.run(words, cwd=folder, stdin=subprocess.DEVNULL, stdout=subprocess.PIPE, stderr=subprocess.STDOUT, text=True, errors="replace")
+    for file in files:
+        (folder / file).write_text(texts[file])
+    return ran.returncode, ran.stdout
 
 
 def next_round(edits, texts):
@@ -24,14 +33,12 @@ def next_round(edits, texts):
     return chosen, now
 
 
-def check_sites(sites, folder):
+def check_sites(sites, folder, texts, changed):
     """What a check says of functions, by their paths: of these, or of all in their files where one is not found by its path."""
-    for paths in ([site.path for site in sites], [site.module for site in sites]):
-        only = [word for path in dict.fromkeys(paths) for word in ("--only", path)]
-        ran = run(["rt", "check", "--jobs", "1", *only], folder)
-        if ran.returncode != 2:
-            return SAID.findall(ran.stdout)
-    return []
+    status, said = check(folder, texts, changed, [site.path for site in sites])
+    if status == 2:
+        _, said = check(folder, texts, changed, [site.module for site in sites])
+    return SAID.findall(said)
 
 
 def is_by_its_own(why):
@@ -54,32 +61,22 @@ def why_refused(sites, said):
 def try_round(edits, texts, folder):
     """Tries edits together. Gives why each that is refused is, by the edit."""
     chosen, changed = next_round(edits, texts)
-    for file, text in changed.items():
-        if text != texts[file]:
-            (folder / file).write_text(text)
-    said = check_sites([site for _, sites in chosen for site in sites], folder) if chosen else []
-    for file, text in texts.items():
-        if text != changed[file]:
-            (folder / file).write_text(text)
+    said = check_sites([site for _, sites in chosen for site in sites], folder, texts, changed) if chosen else []
     whys = {edit: why_refused(sites, said) for edit, sites in chosen}
     return {edit: why for edit, why in whys.items() if why}
 
 
-def try_alone(edit, folder):
-    """Tries an edit as the merge gate does, over a check of the whole crate. Gives whether it is refused, and what is said."""
-    place = folder / "must-fail"
-    held = {file: file.read_bytes() for file in place.glob("*.edit")} if place.is_dir() else {}
-    for file in held:
-        file.unlink()
-    place.mkdir(exist_ok=True)
-    (place / edit.path.name).write_bytes(edit.path.read_bytes())
-    said = run(["rt", "must-fail", edit.crate], folder.parents[1]).stdout
-    (place / edit.path.name).unlink()
-    for file, content in held.items():
-        file.write_bytes(content)
-    line = re.search(rf"must-fail {edit.crate}/{re.escape(edit.path.name)}: (.*)", said)
-    told = line[1] if line else said.strip().rpartition("\n")[2]
-    return told.startswith("refused, as it must be"), told
+def try_alone(edit, texts, folder):
+    """Tries an edit over a check of the whole crate. Gives whether it is refused, and why or what else is said."""
+    changed, misfit = edit.applied(texts)
+    if misfit:
+        return False, misfit
+    _, said = check(folder, texts, changed)
+    why = next((f"{path}: {why}" for path, why in SAID.findall(said) if is_by_its_own(why)), None)
+    verdict = VERDICT.search(said)
+    if verdict and verdict[1] == "proved":
+        return False, "NOT REFUSED: the crate is still proved with this edit"
+    return (True, why) if verdict and why else (False, "there is no verdict: " + said.strip().rpartition("\n")[2])
 
 
 def try_edits(edits, folder):
@@ -92,5 +89,4 @@ def try_edits(edits, folder):
         if not refused:
             break
     for edit in left:
-        refused = try_round([edit], texts, folder) if len(left) > 1 else {}
-        yield (edit, True, refused[edit]) if refused else (edit, *try_alone(edit, folder))
+        yield (edit, *try_alone(edit, texts, folder))
