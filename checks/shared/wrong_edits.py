@@ -7,7 +7,8 @@ from shared.sources import ROOT, files_of
 EDITS = ROOT / "wrong-bodies"
 FUNCTION = re.compile(r"\bfn (\w+)")
 IMPL = re.compile(r"^(?:unsafe )?impl\b(.*)", re.M)
-CYCLE = re.compile(r"#\[cycle\((\w+)\)\]\s*(?:pub(?:\(crate\))? )?\Z")
+# What stands between a function's cycle of calls and its `fn`: other attributes, and who sees it.
+CYCLE = re.compile(r"#\[cycle\((\w+)\)\]\s*(?:#\[[^\n]*\]\s*)*(?:pub(?:\(\w+\))? )?\Z")
 
 
 @dataclasses.dataclass(frozen=True)
