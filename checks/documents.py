@@ -55,7 +55,7 @@ def crates_named(page):
 
 def arrows(page):
     """A fault for each arrow of the diagram whose crate does not stand on the other."""
-    stands_on = dict(re.findall(r"(?m)^(\w+):(.*)$", (ROOT / "crates.txt").read_text()))
+    stands_on = dict(re.findall(r"(?m)^(\w+)[^:#\n]*:(.*)$", (ROOT / "crates.txt").read_text()))
     for crate, others in re.findall(r"(?m)^ +(\w+) --> (.+)$", page.read_text()):
         for other in others.split(" & "):
             if other not in stands_on.get(crate, "").split():

@@ -1,35 +1,15 @@
-"""The form of the repository: the HANDLES line, the groups of crates.txt, and the wrong bodies of each crate."""
+"""The form of the repository: the HANDLES line, and the wrong bodies of each crate."""
 import re
 
 from shared.sources import ROOT, crates, shown
 
 MOST_EDITS = 3
-CRATE_LINE = re.compile(r"(\w+)(?: staticlib)?:")
 
 
 def faults():
     if (ROOT / "HANDLES").read_text() != "Handles allowed: none.\n":
         yield "HANDLES does not hold its one line"
-    yield from crate_list()
     yield from wrong_bodies()
-
-
-def crate_list():
-    """Each crate stands in crates.txt, in a group: behind a comment, with no empty line between."""
-    listed, in_group = [], False
-    for line in (ROOT / "crates.txt").read_text().splitlines():
-        found = CRATE_LINE.match(line)
-        if found:
-            listed.append(found.group(1))
-            if not in_group:
-                yield f"crates.txt: {found.group(1)} stands under no group's comment"
-        elif line.startswith("#"):
-            in_group = True
-        else:
-            in_group = False
-    differing = sorted(set(listed) ^ {crate.name for crate in crates()})
-    if differing:
-        yield f"crates.txt and crates/ differ: {', '.join(differing)}"
 
 
 def wrong_bodies():

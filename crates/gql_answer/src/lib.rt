@@ -3,7 +3,8 @@
 //! [`answer`] gives the bytes of the response. Its contract says that they are a response to what the two texts mean, whose data
 //! and errors are explained, that each refusal has its cause, and that a valid request is answered, unless memory fails.
 //! [`respond`] is the same for callers that hold the values of the variables, and tells the number of errors too. [`read_texts`]
-//! gives what both texts mean, or what is wrong with the first that means nothing; [`check_texts`] gives the latter alone.
+//! gives what both texts mean, or what is wrong with the first that means nothing; [`check_texts`] gives the latter alone. What
+//! stands below and belongs to a user's hand is passed on: [`Execution`], [`schema_of_text`], [`document_of_text`] and their laws.
 #![tactic(auto)]
 
 mod answer_error;
@@ -19,6 +20,9 @@ mod wanted;
 
 pub use answer_error::{AnswerError, RequestKind, VariablesFault};
 pub use answering::answer;
+pub use gql_document_text_laws::{document_laws, document_of_text};
+pub use gql_exec_request::{Execution, WrittenResponse, partial_execute};
+pub use gql_schema_text_laws::{schema_laws, schema_of_text};
 pub use meaning::{TextFaults, Texts, check_texts, read_texts};
 pub use refusal::Refusal;
 pub use responding::respond;

@@ -3,7 +3,7 @@ use Rattle.std.proofs.Common.{◌≡◌, ℕ, ◌<◌, ◌≤◌, Bool, true, fa
 use Rattle.std.specs.Prelude.{◌&&◌, ◌||◌, nat_le, slice_range, option_and_then}
 use Rattle.std.proofs.lemmas.Bool.{eqb-true, leb-true, ltb-true}
 use Rattle.gql_cst.specs.Forest.{Plain}
-use Rattle.gql_cst_grammar.specs.declared.syntax_kind.SyntaxKind.TheVariants.{Token}
+use Rattle.gql_cst.specs.SyntaxKind.TheVariants.{Token}
 use Rattle.gql_ast_base.specs.Kinds.{is_kind}
 use Rattle.gql_ast_base.specs.Names.{is_name}
 use Rattle.gql_ast_base.specs.Parts.{Text, is_boundary, piece, token_text, word}

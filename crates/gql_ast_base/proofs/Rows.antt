@@ -3,7 +3,7 @@ use Rattle.std.proofs.Common.{◌≡◌, ℕ, zero, suc, ◌+◌, ◌-◌, ◌<�
 use Rattle.std.proofs.lemmas.List.{take_more}
 use Rattle.gql_cst.specs.declared.tree.Tree.{Tree}
 use Rattle.gql_cst.specs.Forest.{Forest, nothing, tree_then, plain, forest}
-use Rattle.gql_cst_grammar.specs.declared.syntax_kind.SyntaxKind.{SyntaxKind}
+use Rattle.gql_cst.specs.SyntaxKind.{SyntaxKind}
 use Rattle.gql_ast_base.specs.Kinds.{is_kind}
 use Rattle.gql_ast_base.specs.Parts.{or_else, head, gather, of_kind, children_of, inside, size, end_of, tree_end}
 

@@ -1,3 +1,6 @@
+pub use Rattle.gql_cst.specs.Forest
+pub use Rattle.gql_cst.specs.SyntaxKind
+pub use Rattle.gql_cst.specs.declared.tree.Tree
 pub mod Names
 pub mod Kinds
 pub mod Parts

@@ -4,7 +4,7 @@ use Rattle.gql_cst.specs.Class.{is_digit}
 use Rattle.gql_cst.specs.BlockString.{is_block_string, block_string_value}
 use Rattle.gql_cst.specs.Value.{string_value}
 use Rattle.gql_cst.specs.Forest.{Forest, Plain}
-use Rattle.gql_cst_grammar.specs.declared.syntax_kind.SyntaxKind.TheVariants.{Description}
+use Rattle.gql_cst.specs.SyntaxKind.TheVariants.{Description}
 use Rattle.gql_ast_base.specs.Parts.{Text, token_text, first, inside}
 
 -- the token is a string

@@ -2,7 +2,7 @@
 use Rattle.std.specs.Prelude.{◌≡◌, ℕ, Bool, true, false, ◌&&◌, List, [], ◌∷◌, Option, None, Result, Ok, Err}
 use Rattle.std.specs.List.{list_all}
 use Rattle.gql_source.specs.Span.{Span}
-use Rattle.gql_cst_lexer.specs.Class.{is_name_start, is_name_continue}
+use Rattle.gql_cst.specs.Class.{is_name_start, is_name_continue}
 use Rattle.jb_text.specs.declared.refused.Refused.{Refused}
 use Rattle.jb_text.specs.declared.refused.Refused.TheVariants.{Fault, Memory}
 use Rattle.gql_ast_base.specs.declared.name.NameFault.{NameFault}

@@ -8,8 +8,8 @@ use Rattle.gql_source.specs.declared.file_id.FileId.{FileId}
 use Rattle.gql_source.specs.Span.{Span}
 use Rattle.gql_ast_base.specs.Names.{Named, is_name}
 use Rattle.gql_cst.specs.Forest.{Forest, Plain, nothing, tree_then}
-use Rattle.gql_cst_grammar.specs.declared.syntax_kind.SyntaxKind.{SyntaxKind}
-use Rattle.gql_cst_grammar.specs.declared.syntax_kind.SyntaxKind.TheVariants.{Token}
+use Rattle.gql_cst.specs.SyntaxKind.{SyntaxKind}
+use Rattle.gql_cst.specs.SyntaxKind.TheVariants.{Token}
 use Rattle.gql_ast_base.specs.Kinds.{is_kind}
 
 abbrev pub Text : Type 0

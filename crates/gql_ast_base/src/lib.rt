@@ -4,7 +4,8 @@
 //! [`Source`] is what trees are read by: their text, the number of its file, and where memory comes from.
 //! [`gather`] and [`first`] convert the trees of a row, [`child`] and [`inside`] find one by its kind, [`nth_name`] and its
 //! like find one by its place among the names. [`location`] runs from the first to the last token that is not ignored.
-//! [`both`] and its like bring together the parts of a tree. [`Copying`] gives an equal tree, locations included.
+//! [`both`] and its like bring together the parts of a tree. [`Copying`] gives an equal tree, locations included. The kinds of nodes
+//! and the concrete trees themselves are passed on.
 #![tactic(auto)]
 
 mod convert;
@@ -20,6 +21,7 @@ mod token;
 
 pub use convert::{Convert, first, gather, push_found};
 pub use copying::Copying;
+pub use gql_cst::{SyntaxKind, Tree};
 pub use literal::{description, has_part, opens_number, opens_string, string_text};
 pub use name::{Name, NameFault};
 pub use named_type::{named_type_in, named_types};

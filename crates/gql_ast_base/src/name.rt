@@ -2,7 +2,7 @@
 
 ghost use Rattle.std.specs.Prelude.{◌≡◌, true, Some, nat_eq};
 ghost use Rattle.std.specs.List.{list_all};
-ghost use Rattle.gql_cst_lexer.specs.Class.{is_name_start, is_name_continue};
+ghost use Rattle.gql_cst.specs.Class.{is_name_start, is_name_continue};
 ghost use Rattle.gql_ast_base.specs.Names.{is_name, IsNamed};
 ghost use Rattle.gql_ast_base.specs.Parts as parts;
 

@@ -3,8 +3,8 @@
 use Rattle.std.specs.Prelude.{if◌then◌else◌, List, Option, None}
 use Rattle.std.specs.Option.{option_map}
 use Rattle.gql_source.specs.declared.file_id.FileId.{FileId}
-use Rattle.gql_cst.specs.Forest.{Forest, Plain}
-use Rattle.gql_cst_grammar.specs.declared.syntax_kind.SyntaxKind.TheVariants as kind
+use Rattle.gql_ast_base.specs.Forest.{Forest, Plain}
+use Rattle.gql_ast_base.specs.SyntaxKind.TheVariants as kind
 use Rattle.gql_ast_base.specs.Names.{Named}
 use Rattle.gql_ast_definitions.specs.declared.type_definition.ScalarTypeDefinition.{ScalarTypeDefinition}
 use Rattle.gql_ast_definitions.specs.declared.type_definition.ObjectTypeDefinition.{ObjectTypeDefinition}

@@ -3,8 +3,8 @@
 use Rattle.std.specs.Prelude.{Bool, ◌&&◌, if◌then◌else◌, Option, Some, None, codes}
 use Rattle.std.specs.Option.{option_map}
 use Rattle.gql_source.specs.declared.file_id.FileId.{FileId}
-use Rattle.gql_cst.specs.Forest.{Plain}
-use Rattle.gql_cst_grammar.specs.declared.syntax_kind.SyntaxKind.TheVariants as kind
+use Rattle.gql_ast_base.specs.Forest.{Plain}
+use Rattle.gql_ast_base.specs.SyntaxKind.TheVariants as kind
 use Rattle.gql_ast_definitions.specs.declared.extension.SchemaExtension.{SchemaExtension}
 use Rattle.gql_ast_definitions.specs.declared.extension.ScalarTypeExtension.{ScalarTypeExtension}
 use Rattle.gql_ast_definitions.specs.declared.extension.ObjectTypeExtension.{ObjectTypeExtension}

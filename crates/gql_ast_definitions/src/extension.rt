@@ -1,7 +1,7 @@
 //! Extensions of a schema and of types: the fields of their definitions without the description.
 
 ghost use Rattle.std.specs.Prelude.{◌≡◌};
-ghost use Rattle.gql_cst.specs.Forest.{plain};
+ghost use Rattle.gql_ast_base.specs.Forest.{plain};
 ghost use Rattle.gql_ast_definitions.specs.Extensions as spec;
 
 use crate::field_definition::{
@@ -10,10 +10,10 @@ use crate::field_definition::{
 use crate::schema_definition::root_operations;
 use crate::type_definition::{interfaces, members};
 use gql_ast_base::{
-    Convert, Name, OperationType, Source, all_three, both, is_of, is_word, location, nth_name,
+    Convert, Name, OperationType, Source, SyntaxKind, Tree, all_three, both, is_of, is_word,
+    location, nth_name,
 };
 use gql_ast_values::{Directive, directives};
-use gql_cst::{SyntaxKind, Tree};
 use gql_source::SourceSpan;
 use jb_text::{Listed, Memory};
 

@@ -1,15 +1,14 @@
 //! Definitions of fields, arguments and enum values.
 
 ghost use Rattle.std.specs.Prelude.{◌≡◌, IfOk};
-ghost use Rattle.gql_cst.specs.Forest.{forest};
+ghost use Rattle.gql_ast_base.specs.Forest.{forest};
 ghost use Rattle.gql_ast_definitions.specs.Fields as spec;
 
 use gql_ast_base::{
-    Convert, Copying, Name, Source, all_three, both, description, first, gather, inside, is_of,
-    location, nth_name,
+    Convert, Copying, Name, Source, SyntaxKind, Tree, all_three, both, description, first, gather,
+    inside, is_of, location, nth_name,
 };
 use gql_ast_values::{Directive, TypeRef, Value, default_value, directives};
-use gql_cst::{SyntaxKind, Tree};
 use gql_source::SourceSpan;
 use jb_text::{Listed, Memory, Text};
 use std::alloc::Global;

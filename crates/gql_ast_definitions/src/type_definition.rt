@@ -1,18 +1,17 @@
 //! Definitions of types.
 
 ghost use Rattle.std.specs.Prelude.{◌≡◌, IfOk};
-ghost use Rattle.gql_cst.specs.Forest.{forest};
+ghost use Rattle.gql_ast_base.specs.Forest.{forest};
 ghost use Rattle.gql_ast_definitions.specs.Definitions as spec;
 
 use crate::field_definition::{
     EnumValueDefinition, FieldDefinition, InputValueDefinition, enum_values, fields, input_fields,
 };
 use gql_ast_base::{
-    Convert, Name, Source, all_four, all_three, both, description, inside, is_of, location,
-    named_types, nth_name,
+    Convert, Name, Source, SyntaxKind, Tree, all_four, all_three, both, description, inside, is_of,
+    location, named_types, nth_name,
 };
 use gql_ast_values::{Directive, directives};
-use gql_cst::{SyntaxKind, Tree};
 use gql_source::SourceSpan;
 use jb_text::{Listed, Memory, Text};
 

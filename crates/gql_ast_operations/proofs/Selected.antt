@@ -2,9 +2,9 @@
 use Rattle.std.proofs.Common.{◌≡◌, ℕ, zero, suc, ◌+◌, ◌<◌, true, false, if◌then◌else◌, List, [], ◌∷◌, ◌++◌, length, get_or, drop, is_some, option_to_list, Option, Some, None, refl, sym, ap, ◌∙◌, arith}
 use Rattle.std.proofs.lemmas.List.{append-nil}
 use Rattle.gql_source.specs.declared.file_id.FileId.{FileId}
-use Rattle.gql_cst.specs.declared.tree.Tree.{Tree}
-use Rattle.gql_cst.specs.Forest.{Forest, Plain, nothing, tree_then, plain, forest}
-use Rattle.gql_cst_grammar.specs.declared.syntax_kind.SyntaxKind.TheVariants.{Selection, SelectionSet}
+use Rattle.gql_ast_base.specs.Tree.{Tree}
+use Rattle.gql_ast_base.specs.Forest.{Forest, Plain, nothing, tree_then, plain, forest}
+use Rattle.gql_ast_base.specs.SyntaxKind.TheVariants.{Selection, SelectionSet}
 use Rattle.gql_ast_operations.specs.declared.selection.Selection.{Selection as Selected}
 use Rattle.gql_ast_base.specs.Kinds.{is_kind}
 use Rattle.gql_ast_base.specs.Parts.{Text, head, gather, of_kind, children_of, inside}

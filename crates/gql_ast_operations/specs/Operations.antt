@@ -2,8 +2,8 @@
 use Rattle.std.specs.Prelude.{if◌then◌else◌, List, Option, None, option_and_then, unwrap_or}
 use Rattle.std.specs.Option.{option_map}
 use Rattle.gql_source.specs.declared.file_id.FileId.{FileId}
-use Rattle.gql_cst.specs.Forest.{Forest, Plain}
-use Rattle.gql_cst_grammar.specs.declared.syntax_kind.SyntaxKind.TheVariants as kind
+use Rattle.gql_ast_base.specs.Forest.{Forest, Plain}
+use Rattle.gql_ast_base.specs.SyntaxKind.TheVariants as kind
 use Rattle.gql_ast_base.specs.declared.operation_type.OperationType.TheVariants.{Query}
 use Rattle.gql_ast_operations.specs.declared.operation.OperationDefinition.{OperationDefinition}
 use Rattle.gql_ast_operations.specs.declared.operation.VariableDefinition.{VariableDefinition}

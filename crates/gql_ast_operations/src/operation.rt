@@ -1,16 +1,15 @@
 //! Operations and fragments.
 
 ghost use Rattle.std.specs.Prelude.{◌≡◌, IfOk};
-ghost use Rattle.gql_cst.specs.Forest.{forest};
+ghost use Rattle.gql_ast_base.specs.Forest.{forest};
 ghost use Rattle.gql_ast_operations.specs.Operations as spec;
 
 use crate::selection::{Selection, selection_set, type_condition};
 use gql_ast_base::{
-    Convert, Copying, Name, OperationType, Source, all_four, child, first, gather, inside, is_of,
-    location, nth_name, operation_type_in,
+    Convert, Copying, Name, OperationType, Source, SyntaxKind, Tree, all_four, child, first,
+    gather, inside, is_of, location, nth_name, operation_type_in,
 };
 use gql_ast_values::{Directive, TypeRef, Value, default_value, directives};
-use gql_cst::{SyntaxKind, Tree};
 use gql_source::SourceSpan;
 use jb_text::{Listed, Memory};
 use std::alloc::Global;

@@ -3,8 +3,8 @@ use Rattle.std.proofs.Common.{◌≡◌, Bool, true, false, if◌then◌else◌,
 use Rattle.std.specs.Option.{option_map}
 use Rattle.gql_source.specs.declared.file_id.FileId.{FileId}
 use Rattle.gql_source.specs.Span.{Span}
-use Rattle.gql_cst.specs.Forest.{Plain}
-use Rattle.gql_cst_grammar.specs.declared.syntax_kind.SyntaxKind.TheVariants as kind
+use Rattle.gql_ast_base.specs.Forest.{Plain}
+use Rattle.gql_ast_base.specs.SyntaxKind.TheVariants as kind
 use Rattle.gql_ast_base.specs.Kinds.{is_kind}
 use Rattle.gql_ast_base.specs.Parts.{Text, head, location}
 use Rattle.gql_ast_values.specs.declared.value.Value.{Value}

@@ -4,8 +4,8 @@ use Rattle.std.specs.Option.{option_map}
 use Rattle.std.specs.List.{list_any}
 use Rattle.std.specs.Str.{bytes_eq}
 use Rattle.gql_source.specs.declared.file_id.FileId.{FileId}
-use Rattle.gql_cst.specs.Forest.{Forest, Plain, nothing, tree_then}
-use Rattle.gql_cst_grammar.specs.declared.syntax_kind.SyntaxKind.TheVariants as kind
+use Rattle.gql_ast_base.specs.Forest.{Forest, Plain, nothing, tree_then}
+use Rattle.gql_ast_base.specs.SyntaxKind.TheVariants as kind
 use Rattle.gql_ast_base.specs.Names.{Named}
 use Rattle.gql_ast_values.specs.declared.value.Value.{Value}
 use Rattle.gql_ast_values.specs.declared.value.ValueKind.{ValueKind, List as ListKind, Object as ObjectKind}

@@ -1,14 +1,14 @@
 //! Directives and arguments where they are used.
 
 ghost use Rattle.std.specs.Prelude.{◌≡◌, IfOk};
-ghost use Rattle.gql_cst.specs.Forest.{forest};
+ghost use Rattle.gql_ast_base.specs.Forest.{forest};
 ghost use Rattle.gql_ast_values.specs.Directives as spec;
 
 use crate::value::Value;
 use gql_ast_base::{
-    Convert, Copying, Name, Source, both, first, gather, inside, is_of, location, nth_name,
+    Convert, Copying, Name, Source, SyntaxKind, Tree, both, first, gather, inside, is_of, location,
+    nth_name,
 };
-use gql_cst::{SyntaxKind, Tree};
 use gql_source::SourceSpan;
 use jb_text::{Listed, Memory};
 use std::alloc::Global;

@@ -2,14 +2,13 @@
 
 ghost use Rattle.std.specs.Prelude.{◌≡◌, IfOk};
 ghost use Rattle.std.specs.Option.{option_map};
-ghost use Rattle.gql_cst.specs.Forest.{plain, forest};
+ghost use Rattle.gql_ast_base.specs.Forest.{plain, forest};
 ghost use Rattle.gql_ast_base.specs.Parts as parts;
 ghost use Rattle.gql_ast_values.specs.declared.type_ref.TypeRef.{List as ListOf};
 ghost use Rattle.gql_ast_values.specs.Types as spec;
 
 use crate::boxed::Boxed;
-use gql_ast_base::{Convert, Copying, Name, Source, is_of, nth_name};
-use gql_cst::{SyntaxKind, Tree};
+use gql_ast_base::{Convert, Copying, Name, Source, SyntaxKind, Tree, is_of, nth_name};
 use jb_text::Memory;
 use std::alloc::Global;
 

@@ -1,3 +1,5 @@
+pub use Rattle.gql_cst_grammar.specs.declared.syntax_kind.SyntaxKind
+pub use Rattle.gql_cst_grammar.specs.contracts.syntax_kind.SyntaxKind as SyntaxKindContract
 pub use Rattle.gql_cst_lexer.specs.BlockString
 pub use Rattle.gql_cst_lexer.specs.Class
 pub use Rattle.gql_cst_lexer.specs.Lex

@@ -11,22 +11,21 @@ pub mod program;
 mod reply;
 mod task;
 
-pub use gql_answer::{AnswerError, RequestKind, VariablesFault, answer, answer_uncounted};
+pub use gql_answer::document_laws::valid_documents_run;
+pub use gql_answer::{
+    AnswerError, Execution, RequestKind, VariablesFault, WrittenResponse, answer, answer_uncounted,
+    document_of_text, partial_execute, schema_of_text,
+};
 pub use gql_ast::Document;
 pub use gql_diag::{DiagnosticList, ExecutionResponse, GraphQLError, RequestError, Valid};
-pub use gql_document_text::document_of_text;
-pub use gql_document_text::laws::valid_documents_run;
 pub use gql_document_types::ExecutableDocument;
-pub use gql_exec_request::{Execution, WrittenResponse, partial_execute};
 pub use gql_exec_resolve::{
     DataObject, FieldError, ObjectValue, ResolveError, ResolveInfo, ResolvedValue,
 };
 pub use gql_exec_steps::Steps;
-pub use gql_parser::Parser;
-pub use gql_parser_mixed::ParseMixed;
+pub use gql_parser_mixed::{ParseMixed, Parser};
 pub use gql_refusal::{refusal_of_diagnostics, refusal_of_request};
 pub use gql_rules_untyped::validate_standalone;
-pub use gql_schema_text::schema_of_text;
 pub use gql_schema_types::Schema;
 pub use gql_source::{FileIds, SourceMap};
 pub use jb_read::from_bytes_whole;

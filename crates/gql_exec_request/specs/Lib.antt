@@ -10,3 +10,7 @@ pub mod Executed
 pub mod Execution
 pub mod Running
 pub mod Partial
+pub use Rattle.gql_exec_introspected.specs.Thing
+pub use Rattle.gql_exec_introspected.specs.ThingMeaning
+pub use Rattle.gql_exec_world.specs.Response
+pub use Rattle.gql_exec_plan.specs.Room

@@ -21,4 +21,5 @@ mod file;
 mod parse_mixed;
 mod ruled;
 
+pub use gql_parser::Parser;
 pub use parse_mixed::ParseMixed;

@@ -1,16 +1,16 @@
 //! What concrete trees stand for as selections.
 
 ghost use Rattle.std.specs.Prelude.{◌≡◌, ◌++◌, IfOk, OnOk, is_some, option_to_list};
-ghost use Rattle.gql_cst.specs.Forest.{plain, forest};
+ghost use Rattle.gql_ast_base.specs.Forest.{plain, forest};
 ghost use Rattle.gql_ast_base.specs.Parts as parts;
 ghost use Rattle.gql_ast_operations.specs.Selections as spec;
 
 use crate::selection::{Field, FragmentSpread, InlineFragment, Selection};
 use gql_ast_base::{
-    Convert, Name, Source, all_three, both, child, inside, is_of, location, named_type_in, nth_name,
+    Convert, Name, Source, SyntaxKind, Tree, all_three, both, child, inside, is_of, location,
+    named_type_in, nth_name,
 };
 use gql_ast_values::{arguments, directives};
-use gql_cst::{SyntaxKind, Tree};
 use jb_text::{Listed, Memory};
 
 impl Convert for Selection {

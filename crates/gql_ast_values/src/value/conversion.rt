@@ -2,16 +2,15 @@
 
 ghost use Rattle.std.specs.Prelude.{◌≡◌, ◌++◌, IfOk, OnOk, Option, List, is_some, option_to_list};
 ghost use Rattle.std.specs.Option.{option_map};
-ghost use Rattle.gql_cst.specs.Forest.{plain, forest};
+ghost use Rattle.gql_ast_base.specs.Forest.{plain, forest};
 ghost use Rattle.gql_ast_values.specs.Values as spec;
 
 use crate::literal::literal;
 use crate::value::{Value, ValueKind};
 use gql_ast_base::{
-    Convert, Name, Source, first, inside, is_of, location, nth_name, nth_text, push_found,
-    token_text,
+    Convert, Name, Source, SyntaxKind, Tree, first, inside, is_of, location, nth_name, nth_text,
+    push_found, token_text,
 };
-use gql_cst::{SyntaxKind, Tree};
 use gql_source::SourceSpan;
 use jb_text::{Listed, Memory};
 

@@ -1,6 +1,6 @@
 use Rattle.std.proofs.Common.{◌≡◌, ◌++◌, true, option_to_list, sym, ap, ◌∙◌, arith, rules}
-use Rattle.gql_cst.specs.Forest.{plain, forest}
-use Rattle.gql_cst_grammar.specs.declared.syntax_kind.SyntaxKind.TheVariants.{Selection, SelectionSet}
+use Rattle.gql_ast_base.specs.Forest.{plain, forest}
+use Rattle.gql_ast_base.specs.SyntaxKind.TheVariants.{Selection, SelectionSet}
 use Rattle.gql_ast_base.specs.Kinds.{is_kind}
 use Rattle.gql_ast_base.specs.Parts.{size}
 use Rattle.gql_ast_operations.specs.Selections.{selections, selected, choice_step}

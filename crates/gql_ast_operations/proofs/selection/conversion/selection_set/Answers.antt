@@ -1,5 +1,5 @@
 use Rattle.std.proofs.Common.{◌∙◌}
-use Rattle.gql_cst.specs.Forest.{forest}
+use Rattle.gql_ast_base.specs.Forest.{forest}
 use Rattle.gql_ast_operations.proofs.Selected.{selections-gathered}
 use Rattle.gql_ast_operations.proofs.selection.conversion.selection_set.Goals as goal
 

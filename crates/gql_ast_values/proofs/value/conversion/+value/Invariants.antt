@@ -1,5 +1,5 @@
 use Rattle.std.proofs.Common.{◌≡◌, ◌++◌, drop}
-use Rattle.gql_cst.specs.Forest.{plain, forest}
+use Rattle.gql_ast_base.specs.Forest.{plain, forest}
 use Rattle.gql_ast_base.specs.Parts.{size, head}
 use Rattle.gql_ast_values.specs.Values.{contents, values, members}
 use Rattle.gql_ast_values.proofs.value.conversion.+value.Given as goal

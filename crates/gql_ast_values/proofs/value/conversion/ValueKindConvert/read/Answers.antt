@@ -1,6 +1,6 @@
 use Rattle.std.proofs.Common.{Option, sym, ap, ◌∙◌}
 use Rattle.std.specs.Option.{option_map}
-use Rattle.gql_cst.specs.Forest.{plain}
+use Rattle.gql_ast_base.specs.Forest.{plain}
 use Rattle.gql_ast_values.specs.declared.value.Value.{Value}
 use Rattle.gql_ast_values.proofs.Found.{kind-is}
 use Rattle.gql_ast_values.proofs.value.conversion.ValueKindConvert.read.Goals as goal

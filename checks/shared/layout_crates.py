@@ -1,0 +1,52 @@
+"""The form of crates.txt: each crate stands in a group, and has few ways down to those below it."""
+import re
+
+from shared.sources import ROOT, crates
+
+CRATE_LINE = re.compile(r"(\w+)(?: staticlib)?:(.*)")
+
+# `rt ci` reads the files below a library once for each way down to them by crates.txt.
+MOST_WAYS = 150_000
+
+
+def faults():
+    yield from groups()
+    lists = {found[1]: found[2].split() for found in map(CRATE_LINE.match, lines()) if found}
+    stands_on = {crate: [other for other in others if other in lists] for crate, others in lists.items()}
+    yield from many_ways(stands_on)
+
+
+def lines():
+    return (ROOT / "crates.txt").read_text().splitlines()
+
+
+def groups():
+    """Each crate stands in crates.txt, in a group: behind a comment, with no empty line between."""
+    listed, in_group = [], False
+    for line in lines():
+        found = CRATE_LINE.match(line)
+        if found:
+            listed.append(found.group(1))
+            if not in_group:
+                yield f"crates.txt: {found.group(1)} stands under no group's comment"
+        elif line.startswith("#"):
+            in_group = True
+        else:
+            in_group = False
+    differing = sorted(set(listed) ^ {crate.name for crate in crates()})
+    if differing:
+        yield f"crates.txt and crates/ differ: {', '.join(differing)}"
+
+
+def many_ways(stands_on):
+    """The crates with too many ways down to those below them."""
+    ways = {}
+
+    def ways_of(crate):
+        if crate not in ways:
+            ways[crate] = 1 + sum(map(ways_of, stands_on[crate]))
+        return ways[crate]
+
+    for crate in stands_on:
+        if ways_of(crate) > MOST_WAYS:
+            yield f"crates.txt: {ways[crate]} ways lead down from {crate}, at most {MOST_WAYS}: name what it needs through fewer crates"
