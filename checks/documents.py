@@ -5,7 +5,7 @@ of crates.txt, and each file that a page names is there."""
 import re
 import sys
 
-from shared.sources import ROOT, crates, shown, tell
+from shared.sources import ROOT, crates, shown, stands_on, tell
 
 MOST_WORDS = 1200
 
@@ -55,10 +55,10 @@ def crates_named(page):
 
 def arrows(page):
     """A fault for each arrow of the diagram whose crate does not stand on the other."""
-    stands_on = dict(re.findall(r"(?m)^(\w+)[^:#\n]*:(.*)$", (ROOT / "crates.txt").read_text()))
+    lists = stands_on()
     for crate, others in re.findall(r"(?m)^ +(\w+) --> (.+)$", page.read_text()):
         for other in others.split(" & "):
-            if other not in stands_on.get(crate, "").split():
+            if other not in lists.get(crate, []):
                 yield f"{shown(page)}: an arrow from {crate} to {other}, on which it does not stand by crates.txt"
 
 

@@ -1,9 +1,5 @@
 """The form of crates.txt: each crate stands in a group, and has few ways down to those below it."""
-import re
-
-from shared.sources import ROOT, crates
-
-CRATE_LINE = re.compile(r"(\w+)(?: staticlib)?:(.*)")
+from shared.sources import CRATE_LINE, ROOT, crates, stands_on
 
 # `rt ci` reads the files below a library once for each way down to them by crates.txt.
 MOST_WAYS = 150_000
@@ -11,19 +7,13 @@ MOST_WAYS = 150_000
 
 def faults():
     yield from groups()
-    lists = {found[1]: found[2].split() for found in map(CRATE_LINE.match, lines()) if found}
-    stands_on = {crate: [other for other in others if other in lists] for crate, others in lists.items()}
-    yield from many_ways(stands_on)
-
-
-def lines():
-    return (ROOT / "crates.txt").read_text().splitlines()
+    yield from many_ways()
 
 
 def groups():
     """Each crate stands in crates.txt, in a group: behind a comment, with no empty line between."""
     listed, in_group = [], False
-    for line in lines():
+    for line in (ROOT / "crates.txt").read_text().splitlines():
         found = CRATE_LINE.match(line)
         if found:
             listed.append(found.group(1))
@@ -38,15 +28,15 @@ def groups():
         yield f"crates.txt and crates/ differ: {', '.join(differing)}"
 
 
-def many_ways(stands_on):
+def many_ways():
     """The crates with too many ways down to those below them."""
-    ways = {}
+    lists, ways = stands_on(), {}
 
     def ways_of(crate):
         if crate not in ways:
-            ways[crate] = 1 + sum(map(ways_of, stands_on[crate]))
+            ways[crate] = 1 + sum(ways_of(other) for other in lists[crate] if other in lists)
         return ways[crate]
 
-    for crate in stands_on:
+    for crate in lists:
         if ways_of(crate) > MOST_WAYS:
             yield f"crates.txt: {ways[crate]} ways lead down from {crate}, at most {MOST_WAYS}: name what it needs through fewer crates"

@@ -15,6 +15,10 @@ NO_CODE = re.compile(f"{RAW_TEXT.pattern}|{COMMENT.pattern}|{TEXT.pattern}", re.
 CLAUSE = re.compile(r"\b(?:requires|ensures|ghost)\b[*]?[ \w-]*:?\s*$")
 
 
+# A crate's line in crates.txt: its name, and what it stands on.
+CRATE_LINE = re.compile(r"(?m)^(\w+)(?: staticlib)?:(.*)$")
+
+
 @dataclasses.dataclass
 class Function:
     """A function of a file: its name, the number of its first line, and its body, or None where it has none."""
@@ -27,6 +31,11 @@ class Function:
 def crates():
     """The folders of all crates, in order."""
     return sorted(folder for folder in (ROOT / "crates").iterdir() if (folder / "src").is_dir())
+
+
+def stands_on():
+    """What each crate stands on by crates.txt, libraries of the toolchain included."""
+    return {name: others.split() for name, others in CRATE_LINE.findall((ROOT / "crates.txt").read_text())}
 
 
 def tell(check, faults):
