@@ -10,7 +10,7 @@ use jb_text::{ByteString, Listed, Memory};
 use jb_tree::{Map, Value};
 use std::alloc::{AllocError, Global};
 
-/// How many members the call answered for, of an object of so many. `Err` only for want of memory.
+/// How many members the call answered for, of an object of so many. `Err` only when out of memory.
 ///
 /// No clause says that it is all of them, since none says that the keys are distinct: the stored output shows it.
 pub fn answered(alloc: Global, call: Call, members: usize) -> Result<usize, Memory> {
@@ -37,7 +37,7 @@ fn answered_of(
     }
 }
 
-/// The texts of 0, 1 and so on. `Err` only for want of memory.
+/// The texts of 0, 1 and so on. `Err` only when out of memory.
 fn keys(alloc: Global, count: usize) -> Result<Listed<ByteString>, Memory>
     ensures { IfOk result (λ keys. length keys ≡ count) }
 {
@@ -48,7 +48,7 @@ fn keys(alloc: Global, count: usize) -> Result<Listed<ByteString>, Memory>
     Ok(keys)
 }
 
-/// The object with these keys and nulls. `Err` only for want of memory.
+/// The object with these keys and nulls. `Err` only when out of memory.
 fn built(alloc: Global, keys: &[ByteString]) -> Result<Map, Memory> {
     let mut members = Map::new(alloc);
     for key in keys {
@@ -69,7 +69,7 @@ fn found(members: &Map, keys: &[ByteString]) -> usize
         .count()
 }
 
-/// How many members a copy of the object has. `Err` only for want of memory.
+/// How many members a copy of the object has. `Err` only when out of memory.
 fn copied(alloc: Global, members: Map) -> Result<usize, Memory>
     ensures { IfOk result (λ count. count ≡ length members) }
 {
@@ -79,7 +79,7 @@ fn copied(alloc: Global, members: Map) -> Result<usize, Memory>
     }
 }
 
-/// How many members the object has, where it equals its copy, or none. `Err` only for want of memory.
+/// How many members the object has, where it equals its copy, or none. `Err` only when out of memory.
 fn equal(alloc: Global, members: Map) -> Result<usize, Memory>
     ensures { IfOk result (λ count. count ≡ length members) }
 {
@@ -91,7 +91,7 @@ fn equal(alloc: Global, members: Map) -> Result<usize, Memory>
     }
 }
 
-/// Always: a value equals its copy. `Err` only for want of memory.
+/// Always: a value equals its copy. `Err` only when out of memory.
 fn equals_its_copy(alloc: Global, value: &Value) -> Result<bool, Memory>
     ensures { IfOk result (λ same. same ≡ true) }
 {

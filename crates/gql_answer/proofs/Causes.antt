@@ -258,7 +258,7 @@ module _ (laws : Laws) (call : Call) where
   steps (error.Request kind.Variable x) told h = inr (h.members, h.object, of_uncoerced (wanted_with call h.members) laws x h.holds)
   steps error.Memory told h = absurd (told refl)
 
-  -- two causes are one, and none is want of memory
+  -- two causes are one, and none is that of memory
   comes : (e f : AnswerError) → e ≢ error.Memory → HasCause call e → HasCause call f → ComesFor e f
   comes e (error.Variables x) told h k = same_steps e (error.Variables x) (steps e told h) (steps (error.Variables x) (λ m. cc m) k)
   comes e (error.Schema x) told h k = same_steps e (error.Schema x) (steps e told h) (steps (error.Schema x) (λ m. cc m) k)

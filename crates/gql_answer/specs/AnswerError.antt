@@ -66,7 +66,7 @@ pub record Asks (call : Call) (Holds : Wanted → Type 0) : Type 0 where
   pub object : IsObjectText call.variables members
   pub holds : Holds (wanted_with call members)
 
--- the cause of each refusal but want of memory, in the order of the steps; each later cause says that what comes before it passed
+-- the cause of each refusal but that for memory, in the order of the steps; each later cause says that what comes before it passed
 abbrev pub HasCause : Call → AnswerError → Type 0
 HasCause call (Variables (Read fault)) = JsonFault call.variables fault
 HasCause call (Variables NotObject) = IsNoObject call.variables
@@ -77,7 +77,7 @@ HasCause call (Request Depth error) = Asks call (λ wanted. IsTooDeep wanted err
 HasCause call (Request Variable error) = Asks call (λ wanted. IsUncoerced wanted error)
 HasCause call Memory = Unit {0}
 
--- the refusal that comes where the first one has its cause: that one, or want of memory. Of a document, what is wrong is told in
+-- the refusal that comes where the first one has its cause: that one, or out of memory. Of a document, what is wrong is told in
 -- this or in that list of the same diagnostics
 abbrev pub ComesFor : AnswerError → AnswerError → Type 0
 ComesFor error Memory = Unit {0}
@@ -88,7 +88,7 @@ ComesFor error told = error ≡ told
 abbrev pub IsValid : Call → Type 0
 IsValid call = Asks call Ready
 
--- the variables' text is refused as no JSON text, or for want of memory
+-- the variables' text is refused as no JSON text, or when out of memory
 abbrev pub IsUnread : List ℕ → AnswerError → Type 0
 IsUnread variables (Variables (Read fault)) = JsonFault variables fault
 IsUnread variables Memory = Unit {0}

@@ -50,7 +50,7 @@ use std::sync::ledger::Ledger;
 /// - [`AnswerError::Request`] of kind [`Variable`](crate::RequestKind::Variable) where a variable is not coerced, with the
 ///   fault of the first (section 6.1.2).
 ///
-/// [`AnswerError::Memory`] comes for want of memory, also told by the resolver.
+/// [`AnswerError::Memory`] comes when out of memory, also where the resolver says so.
 pub fn answer<O: ObjectValue, L: Ledger>(
     alloc: Global,
     schema: &str,

@@ -46,7 +46,7 @@ impl TextFaults {
 /// - [`TextFaults::Schema`] exactly where the schema's text means no schema (GraphQL October 2021, sections 2 and 3).
 /// - [`TextFaults::Document`] exactly where it means one, and the query's text no document against it (sections 2 and 5).
 ///
-/// Else want of memory alone.
+/// Otherwise only when out of memory.
 pub fn read_texts(alloc: Global, schema: &str, query: &str) -> Result<Texts, Refused<TextFaults>>
     ensures { AreTextsRead schema.now query.now result }
 {
@@ -75,7 +75,8 @@ fn read_query(
     }
 }
 
-/// What is wrong with the first of both texts that means nothing, if one does. `Err` only for want of memory.
+/// What is wrong with the first of both texts that means nothing, if one does (GraphQL October 2021, sections 2, 3 and 5). Each is
+/// nested at most 500 deep. `Err` only when out of memory.
 pub fn check_texts(
     alloc: Global,
     schema: &str,

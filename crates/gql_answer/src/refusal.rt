@@ -30,7 +30,7 @@ pub enum Refusal {
 }
 
 impl Refusal {
-    /// The refusal as JSON. `Err` only for want of memory.
+    /// The refusal as JSON: an object with `errors` alone (GraphQL October 2021, section 7.1.2). `Err` only when out of memory.
     pub fn into_text(self, alloc: Global) -> Result<Bytes, Memory>
         ensures { IfOk result (λ text. text ≡ compact (refusal_value (told self))) }
     {
@@ -40,7 +40,7 @@ impl Refusal {
         }
     }
 
-    /// The refusal as callers are told it. `Err` only for want of memory.
+    /// The refusal as callers are told it. `Err` only when out of memory.
     pub fn into_error(self, alloc: Global) -> Result<AnswerError, Memory>
         ensures { IfOk result (λ error. error ≡ told_as self) }
     {

@@ -25,11 +25,16 @@ use std::alloc::{AllocError, Global};
 use std::sync::ledger::Ledger;
 
 /// The response to what is wanted, whose root is resolved by `root`. `steps` counts the looks at selections: those of the depth
-/// check, which is made where introspection is on, and those of the execution.
+/// check, which is made where introspection is on, and those of the execution. Both texts may be nested 500 deep.
 ///
 /// # Errors
 ///
-/// The first step that fails, exactly where one does. Else want of memory alone.
+/// The first of these that applies, and otherwise only when out of memory:
+///
+/// - [`Refusal::Schema`] where the schema's text means no schema (GraphQL October 2021, sections 2 and 3);
+/// - [`Refusal::Document`] where the query's text means no document against it (sections 2 and 5);
+/// - [`Refusal::Request`] where there is no such operation (section 6.1), where introspection is on and the operation goes too deep
+///   into the schema's types, or where a variable is not coerced (section 6.1.2), each with a kind of its own.
 pub fn respond<O: ObjectValue, L: Ledger>(
     alloc: Global,
     wanted: &Wanted<'_>,
@@ -103,7 +108,7 @@ fn perform<O: ObjectValue, L: Ledger>(
     }
 }
 
-/// The response to an operation with these variables. `Err` only for want of memory.
+/// The response to an operation with these variables. `Err` only when out of memory.
 fn execute<O: ObjectValue, L: Ledger>(
     alloc: Global,
     wanted: &Wanted<'_>,

@@ -11,14 +11,14 @@ use gql_exec_request::WrittenResponse;
 use jb_tree::Memory;
 use std::alloc::Global;
 
-/// The bytes of a response, and the number of its errors.
+/// The bytes of a response, as JSON without white space (GraphQL October 2021, section 7), and the number of its errors.
 #[derive(Drop)]
 pub struct Written {
     pub bytes: Bytes,
     pub errors: usize,
 }
 
-/// A response as its bytes. `Err` only for want of memory.
+/// A response as its bytes. `Err` only when out of memory.
 pub(crate) fn write_response(alloc: Global, written: WrittenResponse) -> Result<Written, Memory>
     ensures { IfOk result (λ made. (response : Response) → IsPrintedIn response written → IsPrint response made) }
 {

@@ -7,7 +7,7 @@ use std::alloc::Global;
 
 /// What can be copied into memory of its own.
 pub trait Copying: Sized + Drop {
-    /// An equal value. `Err` only for want of memory.
+    /// An equal value. `Err` only when out of memory.
     fn copy(&self, alloc: Global) -> Result<Self, Memory>
         ensures { IfOk result (λ copy. copy ≡ self.now) };
 }

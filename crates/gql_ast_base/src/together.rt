@@ -1,13 +1,13 @@
-//! Things made side by side: all of them, or want of memory where one of them wants it.
+//! Things made side by side: all of them, or out of memory where one of them is.
 //!
-//! A function that asks for the parts of a tree together has one way out for want of memory, in place of one for each
+//! A function that asks for the parts of a tree together has one way out when out of memory, in place of one for each
 //! part. Each way out lets go of what was made before it, and each is proved.
 
 ghost use Rattle.std.specs.Prelude.{◌≡◌, IfOk, Ok};
 
 use jb_text::Memory;
 
-/// Both of them. `Err` only for want of memory.
+/// Both of them. `Err` only when out of memory.
 pub fn both<A: Drop, B: Drop>(
     one: Result<A, Memory>,
     two: Result<B, Memory>,
@@ -18,7 +18,7 @@ pub fn both<A: Drop, B: Drop>(
     Ok((one?, two?))
 }
 
-/// All three of them. `Err` only for want of memory.
+/// All three of them. `Err` only when out of memory.
 pub fn all_three<A: Drop, B: Drop, C: Drop>(
     one: Result<A, Memory>,
     two: Result<B, Memory>,
@@ -31,7 +31,7 @@ pub fn all_three<A: Drop, B: Drop, C: Drop>(
     Ok((one?, two?, three?))
 }
 
-/// All four of them. `Err` only for want of memory.
+/// All four of them. `Err` only when out of memory.
 pub fn all_four<A: Drop, B: Drop, C: Drop, D: Drop>(
     one: Result<A, Memory>,
     two: Result<B, Memory>,

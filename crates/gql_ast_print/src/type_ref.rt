@@ -7,7 +7,7 @@ use gql_ast_values::TypeRef;
 use jb_text::{Memory, Text};
 use std::alloc::Global;
 
-/// The text of a reference to a type, as `[Int!]!` (GraphQL October 2021, section 2.11). `Err` only for want of memory.
+/// The text of a reference to a type, as `[Int!]!` (GraphQL October 2021, section 2.11). `Err` only when out of memory.
 pub fn print_type(alloc: Global, ty: &TypeRef) -> Result<Text, Memory>
     ensures { IfOk result (λ text. text ≡ type_text ty.now) }
 {

@@ -11,7 +11,7 @@ use jb_text::{Listed, Memory, Text};
 use std::alloc::Global;
 
 /// The text of a value (GraphQL October 2021, section 2.9): names, numbers and `$v` as they were written, strings
-/// quoted and escaped as in compact JSON, `[1, 2]`, `{b: 4, a: 2}`, `[]` and `{}`. `Err` only for want of memory.
+/// quoted and escaped as in compact JSON, `[1, 2]`, `{b: 4, a: 2}`, `[]` and `{}`. `Err` only when out of memory.
 pub fn print_value(alloc: Global, value: &Value) -> Result<Text, Memory>
     ensures { IfOk result (λ text. text ≡ spec.value_text value.now) }
 {

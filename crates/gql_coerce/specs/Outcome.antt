@@ -7,7 +7,7 @@ use Rattle.gql_coerce.specs.declared.fault.CoercionFault.{CoercionFault}
 abbrev pub Outcome : Type 0 → Type 0
 Outcome A = Result A CoercionFault
 
--- the thing or the fault that is wanted; want of memory is free
+-- the thing or the fault that is wanted; out of memory is free
 abbrev pub Answers : {A E : Type 0} → Result A E → Result A (Refused E) → Type 0
 Answers wanted (Ok found) = wanted ≡ Ok found
 Answers wanted (Err (Fault fault)) = wanted ≡ Err fault

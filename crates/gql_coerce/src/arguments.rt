@@ -23,12 +23,15 @@ use jb_text::{Listed, Refused};
 use jb_tree::{Map, Value};
 use std::alloc::Global;
 
-/// The arguments of a field by its definition, in order of definition, where variables have these values. A variable that
-/// has no value is no argument, and what is not given has its default.
+/// The arguments of a field by its definition, in order of definition, where variables have these values (GraphQL October 2021,
+/// section 6.4.1). A variable that has no value is no argument, and what is not given has its default. Of several arguments of one
+/// name the first counts.
+///
+/// # Errors
 ///
 /// `Fault` exactly where an argument fails, with the message of the first in order of definition, and its place: a value
-/// inside a literal, or the argument's definition. `Memory` only for want of memory. Of several arguments of one name the
-/// first counts.
+/// inside a literal, or the argument's definition. It is `suspected` where no schema and document that passed validation lead to
+/// it. `Memory` only when out of memory.
 pub fn coerce_arguments(
     alloc: Global,
     schema: &Valid<Schema>,

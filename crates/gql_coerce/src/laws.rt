@@ -13,21 +13,22 @@ ghost use Rattle.gql_coerce.specs.InputValue as values;
 ghost use Rattle.gql_coerce.specs.LiteralValue as literals;
 ghost use Rattle.gql_coerce.specs.Inputs.{InputOf, NoInput, LiteralOf, NoLiteral, Coerced, NotCoerced, ArgumentsOf, NoArguments, HasOne};
 
-/// Coercion of JSON values follows its rule at each level of a value, and no other function does.
+/// Coercion of JSON values follows its rule at each level of a value, and no other function does (GraphQL October 2021, section 3).
 pub fn values_follow_the_rule()
     ensures follows { (types : List ExtendedType) (value : Value) → values.coerced types value ≡ values.rule types (values.coerced types) value }
     ensures only { (types : List ExtendedType) (other : Value → values.Coercion) → ((value : Value) → other value ≡ values.rule types other value)
         → (value : Value) → other value ≡ values.coerced types value }
 {}
 
-/// Coercion of literals follows its rule at each level of a literal, and no other function does.
+/// Coercion of literals follows its rule at each level of a literal, and no other function does (GraphQL October 2021, section 3).
 pub fn literals_follow_the_rule()
     ensures follows { (types : List ExtendedType) (env : Members) (it : Literal) → literals.coerced_literal types env it ≡ literals.literal_rule types env (literals.coerced_literal types env) it }
     ensures only { (types : List ExtendedType) (env : Members) (other : Literal → literals.Coercion) → ((it : Literal) → other it ≡ literals.literal_rule types env other it)
         → (it : Literal) → other it ≡ literals.coerced_literal types env it }
 {}
 
-/// Each input has exactly one outcome: one value and no fault, or one fault and no value.
+/// Each input has exactly one outcome: one value and no fault, or one fault and no value (GraphQL October 2021, sections 3, 6.1.2
+/// and 6.4.1).
 pub fn each_input_has_one_outcome()
     ensures values { (types : List ExtendedType) (subject : List ℕ) (ty : TypeRef) (value : Value) → HasOne (InputOf types subject ty value) (NoInput types subject ty value) }
     ensures literals { (types : List ExtendedType) (env : Members) (subject : List ℕ) (ty : TypeRef) (it : Literal)

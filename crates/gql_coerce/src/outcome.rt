@@ -42,7 +42,7 @@ pub(crate) fn put(
     }
 }
 
-/// Inserts the pair; what it replaces, or the pair itself for want of memory, is dropped.
+/// Inserts the pair; what it replaces, or the pair itself when out of memory, is dropped.
 pub(crate) fn insert<V: Drop>(
     members: &mut Pairs<V>,
     key: ByteString,

@@ -19,11 +19,14 @@ use jb_tree::{Map, Value};
 use std::alloc::Global;
 
 /// The variables that these definitions make of the given values, in order of definition: a given value is coerced to its
-/// variable's type, a variable that is not given has its default. Values that no definition names are left out.
+/// variable's type, a variable that is not given has its default (GraphQL October 2021, section 6.1.2). Values that no definition
+/// names are left out. The values are copied once.
+///
+/// # Errors
 ///
 /// `Fault` exactly where some variable fails, with the message of the first in order of definition: its value is none of
 /// its type, or is missing; `SuspectedValidationBug` where the type is undefined or no input type, or a default holds a
-/// variable. `Memory` only for want of memory. The values are copied once.
+/// variable. `Memory` only when out of memory.
 pub fn coerce_variables(
     alloc: Global,
     schema: &Valid<Schema>,

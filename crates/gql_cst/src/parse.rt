@@ -70,7 +70,7 @@ fn parse(
 /// - `BadToken` at the first token with which no document goes on, and `EndOfText` at the end of a text that begins a
 ///   document and is none.
 ///
-/// `Err` only for want of memory.
+/// `Err` only when out of memory.
 pub fn parse_document(alloc: Global, text: &str, limits: &Limits) -> Result<Parsed, Memory>
     ensures parse { IfOk result (IsParse Rule.Document text.now limits.now) }
     ensures accepts { IfOk result (Accepts Rule.Document text.now limits.now) }

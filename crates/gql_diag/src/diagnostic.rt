@@ -34,7 +34,7 @@ impl<'s, T: ToCliReport> Diagnostic<'s, T> {
     }
 
     /// The error of a response: the message, and the start of the place where that is found, without a path and
-    /// extensions. `Err` only for want of memory.
+    /// extensions. `Err` only when out of memory.
     pub fn to_json(&self, alloc: Global) -> Result<GraphQLError, Memory>
         ensures { IfOk result (λ error. error ≡ error_at (T.text self.now.error.now) (T.place self.now.error.now) self.now.sources.now) }
     {
@@ -42,7 +42,7 @@ impl<'s, T: ToCliReport> Diagnostic<'s, T> {
         GraphQLError::new(alloc, message.as_str(), self.error.location(), self.sources)
     }
 
-    /// A report of it: its message, and what it adds. `Err` only for want of memory.
+    /// A report of it: its message, and what it adds. `Err` only when out of memory.
     pub fn to_report(&self, alloc: Global) -> Result<CliReport<'s>, Memory>
         ensures { IfOk result (λ report. report ≡ T.reported self.now.error.now (message_alone self.now.sources.now (T.text self.now.error.now))) }
     {
@@ -52,7 +52,7 @@ impl<'s, T: ToCliReport> Diagnostic<'s, T> {
 
 impl<'s> Diagnostic<'s, DiagnosticData> {
     /// The error of a response, with what the reference implementation says of it in place of the message where it has
-    /// words for that. `Err` only for want of memory.
+    /// words for that. `Err` only when out of memory.
     pub fn unstable_to_json_compat(&self, alloc: Global) -> Result<GraphQLError, Memory>
         ensures { IfOk result (λ error. error ≡ error_at (compat_or_message self.now.error.now) self.now.error.now.location self.now.sources.now) }
     {

@@ -52,7 +52,7 @@ impl DiagnosticList {
         }
     }
 
-    /// Adds a diagnostic at the end. Refused for want of memory, the list is as it was.
+    /// Adds a diagnostic at the end. Where memory has run out, the list is as it was.
     pub fn push(&mut self, item: DiagnosticData) -> Result<(), Memory>
         ensures pushed { OnOk result (self.new ≡ record self.old { items = self.old.items ++ item ∷ [] }) }
         ensures unchanged { OnErr result (self.new ≡ self.old) }
@@ -61,7 +61,7 @@ impl DiagnosticList {
         Ok(())
     }
 
-    /// Adds these diagnostics at the end, in their order. Refused for want of memory, the list is as it was.
+    /// Adds these diagnostics at the end, in their order. Where memory has run out, the list is as it was.
     pub fn append(&mut self, mut items: Vec<DiagnosticData>) -> Result<(), Memory>
         ensures appended { OnOk result (self.new ≡ record self.old { items = self.old.items ++ items.items }) }
         ensures unchanged { OnErr result (self.new ≡ self.old) }
@@ -73,7 +73,7 @@ impl DiagnosticList {
     /// Sorts the diagnostics by their places: by file and offset, those without a place first. At one place they go
     /// by the rows of the tables of rules, then by their names as bytes, then by the place of the other definition or
     /// field. A text that is no sentence, and a limit of the parser, come before all rows, and a chain that is too
-    /// long behind them. Ties stay as they stand. Refused for want of memory, nothing is moved.
+    /// long behind them. Ties stay as they stand. Where memory has run out, nothing is moved.
     pub fn sort(&mut self) -> Result<(), Memory>
         ensures sorted { OnOk result (IsStableSort list_order self.old.items self.new.items) }
         ensures sources { self.new.sources ≡ self.old.sources }
@@ -129,7 +129,7 @@ impl DiagnosticList {
 
     /// Takes the diagnostics and the files of another list too. All diagnostics are then sorted by their places, by
     /// file and offset, those without a place first, where at one place they stay as they stand, its own before the
-    /// others. Where both have a file of one number, its own stays. Refused for want of memory, the list is as it was.
+    /// others. Where both have a file of one number, its own stays. Where memory has run out, the list is as it was.
     pub fn merge(&mut self, other: DiagnosticList) -> Result<(), Memory>
         ensures items { OnOk result (IsStableSort by_place (self.old.items ++ other.items) self.new.items) }
         ensures sources { OnOk result (self.new.sources ≡ joined self.old.sources other.sources) }
@@ -148,7 +148,7 @@ impl DiagnosticList {
     }
 }
 
-/// Puts the others behind the items, and sorts all by place. Refused for want of memory, the items are as they were.
+/// Puts the others behind the items, and sorts all by place. Where memory has run out, the items are as they were.
 fn join(items: &mut Vec<DiagnosticData>, mut others: Vec<DiagnosticData>) -> Result<(), Memory>
     ensures sorted { OnOk result (IsStableSort by_place (items.old.items ++ others.items) items.new.items) }
     ensures unchanged { OnErr result (items.new.items ≡ items.old.items) }

@@ -14,7 +14,7 @@ use std::cmp::Ordering;
 /// The row of what is not a broken rule but a chain that is too long, behind all rows of rules.
 const LAST_ROW: usize = 67;
 
-/// Sorts by place; what is at one place stays as it stands. Refused for want of memory, nothing is moved.
+/// Sorts by place; what is at one place stays as it stands. Where memory has run out, nothing is moved.
 pub(crate) fn sort_by_place(items: &mut Vec<DiagnosticData>) -> Result<(), Memory>
     ensures sorted { OnOk result (IsStableSort by_place items.old.items items.new.items) }
     ensures unchanged { OnErr result (items.new.items ≡ items.old.items) }
@@ -23,7 +23,7 @@ pub(crate) fn sort_by_place(items: &mut Vec<DiagnosticData>) -> Result<(), Memor
     Ok(())
 }
 
-/// Sorts by place, row, names and other place; ties stay as they stand. Refused for want of memory, nothing is moved.
+/// Sorts by place, row, names and other place; ties stay as they stand. Where memory has run out, nothing is moved.
 pub(crate) fn sort_in_order(items: &mut Vec<DiagnosticData>) -> Result<(), Memory>
     ensures sorted { OnOk result (IsStableSort list_order items.old.items items.new.items) }
     ensures unchanged { OnErr result (items.new.items ≡ items.old.items) }

@@ -35,7 +35,7 @@ impl RequestError {
     }
 
     /// The error of a response: the message, the start of the location where that is found in the files, and the
-    /// extension `APOLLO_SUSPECTED_VALIDATION_BUG` where it is one. `Err` only for want of memory.
+    /// extension `APOLLO_SUSPECTED_VALIDATION_BUG` where it is one. `Err` only when out of memory.
     pub fn to_graphql_error(
         &self,
         alloc: Global,
@@ -52,7 +52,7 @@ impl RequestError {
     }
 }
 
-/// The extensions of an error that points to a fault of validation. `Err` only for want of memory.
+/// The extensions of an error that points to a fault of validation. `Err` only when out of memory.
 fn suspected_bug(alloc: Global) -> Result<JsonMap, Memory>
     ensures { IfOk result (λ extensions. extensions ≡ suspected_bug) }
 {

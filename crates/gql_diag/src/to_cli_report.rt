@@ -26,16 +26,16 @@ pub trait ToCliReport {
     fn location(&self) -> Option<SourceSpan>
         ensures { result ≡ place self.now };
 
-    /// What is said to people. `Err` only for want of memory.
+    /// What is said to people. `Err` only when out of memory.
     fn message(&self, alloc: Global) -> Result<Text, Memory>
         ensures { IfOk result (λ message. message ≡ text self.now) };
 
-    /// Adds its labels, its help and its note to a report. `Err` only for want of memory, now or in an earlier call.
+    /// Adds its labels, its help and its note to a report. `Err` only when out of memory, now or in an earlier call.
     fn report(&self, report: &mut CliReport<'_>) -> Result<(), Memory>
         ensures added { OnOk result (report.new ≡ reported self.now report.old) }
         ensures refused { OnErr result (report.new.refused ≡ true) };
 
-    /// A report of it: its message, and what it adds. `Err` only for want of memory.
+    /// A report of it: its message, and what it adds. `Err` only when out of memory.
     final fn to_report<'s>(
         &self,
         alloc: Global,

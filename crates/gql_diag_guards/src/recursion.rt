@@ -50,7 +50,7 @@ impl RecursionStack {
         }
     }
 
-    /// The root alone, which counts as a name, and a limit of 32. `Err` only for want of memory.
+    /// The root alone, which counts as a name, and a limit of 32. `Err` only when out of memory.
     pub fn with_root(alloc: Global, root: Name) -> Result<RecursionStack, Memory>
         ensures { IfOk result (λ stack. stack ≡ record { names = root ∷ []; limit = 32 }) }
     {
@@ -145,7 +145,7 @@ impl<'a> RecursionGuard<'a> {
     /// # Errors
     ///
     /// - [`RecursionLimitError`] exactly where the stack stands at its limit or past it, which is left so.
-    /// - [`Refused::Memory`] for want of memory; the stack is as it was.
+    /// - [`Refused::Memory`] when out of memory; the stack is as it was.
     pub fn push(&mut self, name: &Name) -> Result<RecursionGuard<'_>, Refused<RecursionLimitError>>
         ensures refused { IsLimited result ↔ ((stacked self.old).limit ≤ length (stacked self.old).names) }
         ensures pushed { IfOk result (IsPushed (stacked self.old) name.now) }

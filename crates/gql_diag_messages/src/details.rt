@@ -26,7 +26,7 @@ pub struct RuleFault {
 }
 
 impl RuleFault {
-    /// The message of the rule with the names in their places. `Err` only for want of memory.
+    /// The message of the rule with the names in their places. `Err` only when out of memory.
     pub fn message(&self, alloc: Global) -> Result<Text, Memory>
         ensures { IfOk result (λ message. message ≡ fault_message self.now) }
     {
@@ -34,7 +34,7 @@ impl RuleFault {
     }
 
     /// The same in the words of the reference implementation, where it has any. A literal of a wrong kind is told with
-    /// the named type alone: `Int` where the whole type is `[Int!]`. `Err` only for want of memory.
+    /// the named type alone: `Int` where the whole type is `[Int!]`. `Err` only when out of memory.
     pub fn compat_message(&self, alloc: Global) -> Result<Option<Text>, Memory>
         ensures { IfOk result (λ message. message ≡ fault_compat self.now) }
     {
@@ -58,7 +58,7 @@ impl RuleFault {
         }
     }
 
-    /// What a report says at the place. `Err` only for want of memory.
+    /// What a report says at the place. `Err` only when out of memory.
     pub fn label(&self, alloc: Global) -> Result<Text, Memory>
         ensures { IfOk result (λ label. label ≡ fault_label self.now) }
     {
@@ -107,7 +107,7 @@ pub enum Details {
 }
 
 impl Details {
-    /// What is said to people. `Err` only for want of memory.
+    /// What is said to people. `Err` only when out of memory.
     pub fn message(&self, alloc: Global) -> Result<Text, Memory>
         ensures { IfOk result (λ message. message ≡ message_of self.now) }
     {
@@ -121,7 +121,7 @@ impl Details {
         }
     }
 
-    /// The same in the words of the reference implementation, where it has any. `Err` only for want of memory.
+    /// The same in the words of the reference implementation, where it has any. `Err` only when out of memory.
     pub fn compat_message(&self, alloc: Global) -> Result<Option<Text>, Memory>
         ensures { IfOk result (λ message. message ≡ compat_of self.now) }
     {
@@ -146,7 +146,7 @@ impl Details {
         }
     }
 
-    /// What a report says at the place. `Err` only for want of memory.
+    /// What a report says at the place. `Err` only when out of memory.
     pub fn label(&self, alloc: Global) -> Result<Text, Memory>
         ensures { IfOk result (λ label. label ≡ label_of (fault_of self.now)) }
     {

@@ -26,7 +26,7 @@ impl Drop for DiagnosticData {
 }
 
 impl DiagnosticData {
-    /// What is said to people. `Err` only for want of memory.
+    /// What is said to people. `Err` only when out of memory.
     pub fn message(&self, alloc: Global) -> Result<Text, Memory>
         ensures { IfOk result (λ message. message ≡ message_of self.now.details) }
     {
@@ -42,7 +42,7 @@ impl DiagnosticData {
         self.details.error_name()
     }
 
-    /// What the reference implementation of GraphQL says of it, where it has words for that. `Err` only for want of
+    /// What the reference implementation of GraphQL says of it, where it has words for that. `Err` only when out of
     /// memory.
     pub fn unstable_compat_message(&self, alloc: Global) -> Result<Option<Text>, Memory>
         ensures { IfOk result (λ message. message ≡ compat_of self.now.details) }

@@ -7,7 +7,7 @@ use jb_text::{Memory, Text};
 use std::alloc::Global;
 
 /// The pattern with the names in their places: `{0}` stands for the first name, `{1}` for the second, and so on. A
-/// name that is not there is the empty text. `Err` only for want of memory.
+/// name that is not there is the empty text. `Err` only when out of memory.
 pub(crate) fn filled(alloc: Global, pattern: &str, names: &[Text]) -> Result<Text, Memory>
     ensures { IfOk result (λ text. text ≡ filled pattern.now names.now) }
 {

@@ -7,7 +7,7 @@ use jb_text::{Memory, Text};
 use std::alloc::Global;
 
 /// A type without the marks of lists and of non-null types around it: `Int` of `[Int!]!` (GraphQL October 2021,
-/// section 3.4.1). `Err` only for want of memory.
+/// section 3.4.1). `Err` only when out of memory.
 pub(crate) fn named_type(alloc: Global, type_text: &str) -> Result<Text, Memory>
     ensures { IfOk result (λ text. text ≡ named_type type_text.now) }
 {

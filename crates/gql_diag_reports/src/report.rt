@@ -16,7 +16,7 @@ use std::marker::Model;
 /// of adding, and then the lines `Help: ` and `Note: ` where these are set.
 ///
 /// A contract sees a record with `sources`, `message`, `labels`, `help`, `note` and `refused`. A report that was refused
-/// for want of memory answers that from then on.
+/// when out of memory answers that from then on.
 #[derive(Drop)]
 pub struct CliReport<'s> {
     alloc: Global,
@@ -64,14 +64,14 @@ impl<'s> CliReport<'s> {
         self.alloc
     }
 
-    /// Says that memory for a part of the report was not found: from now on the report answers want of memory.
+    /// Says that memory for a part of the report was not found: from now on the report answers out of memory.
     pub fn refuse(&mut self)
         ensures { self.new ≡ record self.old { refused = true } }
     {
         self.refused = true;
     }
 
-    /// Sets the message, in place of an earlier one. `Err` only for want of memory, now or in an earlier call.
+    /// Sets the message, in place of an earlier one. `Err` only when out of memory, now or in an earlier call.
     pub fn with_message(&mut self, message: &str) -> Result<(), Memory>
         ensures set { OnOk result (self.new ≡ record self.old { message = message.now }) }
         ensures refused { OnErr result (self.new ≡ record self.old { refused = true }) }
@@ -82,7 +82,7 @@ impl<'s> CliReport<'s> {
         Ok(())
     }
 
-    /// Sets the help, in place of an earlier one. `Err` only for want of memory, now or in an earlier call.
+    /// Sets the help, in place of an earlier one. `Err` only when out of memory, now or in an earlier call.
     pub fn with_help(&mut self, help: &str) -> Result<(), Memory>
         ensures set { OnOk result (self.new ≡ record self.old { help = Some help.now }) }
         ensures refused { OnErr result (self.new ≡ record self.old { refused = true }) }
@@ -93,7 +93,7 @@ impl<'s> CliReport<'s> {
         Ok(())
     }
 
-    /// Sets the note, in place of an earlier one. `Err` only for want of memory, now or in an earlier call.
+    /// Sets the note, in place of an earlier one. `Err` only when out of memory, now or in an earlier call.
     pub fn with_note(&mut self, note: &str) -> Result<(), Memory>
         ensures set { OnOk result (self.new ≡ record self.old { note = Some note.now }) }
         ensures refused { OnErr result (self.new ≡ record self.old { refused = true }) }
@@ -104,7 +104,7 @@ impl<'s> CliReport<'s> {
         Ok(())
     }
 
-    /// Adds a label, which is dropped where it has no place. `Err` only for want of memory, now or in an earlier call.
+    /// Adds a label, which is dropped where it has no place. `Err` only when out of memory, now or in an earlier call.
     pub fn with_label_opt(
         &mut self,
         location: Option<SourceSpan>,
@@ -157,7 +157,7 @@ impl<'s> CliReport<'s> {
         }
     }
 
-    /// The lines of the report. `Err` only for want of memory, now or in an earlier call.
+    /// The lines of the report. `Err` only when out of memory, now or in an earlier call.
     pub fn into_string(self, alloc: Global) -> Result<Text, Memory>
         ensures text { IfOk result (λ text. text ≡ report_text self.entry) }
         ensures stays { self.entry.refused ≡ true → IsErr result }
@@ -187,7 +187,7 @@ impl<'s> CliReport<'s> {
     ///
     /// - [`Refused::Fault`] where a write failed: the sink's count of faults rose in this call. It took only the first
     ///   of the lines' bytes.
-    /// - [`Refused::Memory`] for want of memory, now or in an earlier call, before anything is written.
+    /// - [`Refused::Memory`] when out of memory, now or in an earlier call, before anything is written.
     pub fn write<K: Sink>(self, alloc: Global, sink: &mut K) -> Result<(), Refused<SinkFault>>
         ensures whole { OnOk result (Takes (K.taken sink.old) (K.taken sink.new) (report_text self.entry)) }
         ensures failed { IfErr result (FailsWrite self.entry (K.taken sink.old) (K.taken sink.new) (K.faults sink.old) (K.faults sink.new)) }

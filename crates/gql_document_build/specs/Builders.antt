@@ -46,7 +46,7 @@ built taken = build.built taken.schema taken.sources taken.definitions
 abbrev pub all_faults : Taken → List DiagnosticData
 all_faults taken = taken.faults ++ build.build_faults taken.schema taken.definitions
 
--- The answer judges the document of what was taken by every fault. After a refusal for want of memory it is want of memory.
+-- The answer judges the document of what was taken by every fault. Once a call was out of memory, so is the answer.
 pub record IsAnswer (taken : Taken) (answer : Result ExecutableDocument (Refused (WithErrors ExecutableDocument))) : Type 0 where
   pub judged : IsJudged (built taken) taken.sources (all_faults taken) answer
   pub refused : taken.refused ≡ true → answer ≡ Err Memory

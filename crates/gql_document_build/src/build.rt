@@ -17,7 +17,7 @@ use jb_text::{Listed, Memory};
 use std::alloc::Global;
 
 /// The document of these operations and fragments against a schema, and the faults in them: what a fault lists is left out,
-/// but a subscription stays whole whatever it selects at its root. `Err` only for want of memory.
+/// but a subscription stays whole whatever it selects at its root. `Err` only when out of memory.
 ///
 /// Of definitions of one name the first stays, and what is inside the others is not looked at.
 pub(crate) fn build_document(

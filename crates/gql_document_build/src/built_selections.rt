@@ -14,7 +14,7 @@ use jb_text::{Listed, Memory};
 use std::alloc::Global;
 
 /// The set that selections make on a type: each field with its definition, and without what is not defined and what selects
-/// on a scalar or an enum. `Err` only for want of memory.
+/// on a scalar or an enum. `Err` only when out of memory.
 pub(crate) fn built_set(
     alloc: Global,
     schema: &Schema,

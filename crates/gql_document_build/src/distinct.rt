@@ -21,7 +21,7 @@ use std::alloc::Global;
 /// each definition of a type system, each operation without a name among several, and each operation and each fragment that has
 /// the name of one before it (GraphQL October 2021, sections 5.1.1, 5.2.1.1, 5.2.2.1 and 5.5.1.1).
 ///
-/// `Err` only for want of memory: then the list has some of the faults.
+/// `Err` only when out of memory: then the list has some of the faults.
 pub fn distinct_definitions(
     alloc: Global,
     definitions: &Listed<Definition>,

@@ -28,7 +28,7 @@ impl ExecutableDefinitions {
         }
     }
 
-    /// Takes the operations and fragments of a document too. `Err` only for want of memory: then some of them are taken.
+    /// Takes the operations and fragments of a document too. `Err` only when out of memory: then some of them are taken.
     pub fn take_all(&mut self, definitions: Listed<Definition>) -> Result<(), Memory>
         ensures { OnOk result (self.new ≡ spec.with_definitions self.old definitions) }
     {

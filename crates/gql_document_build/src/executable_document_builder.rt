@@ -57,7 +57,7 @@ impl<'s> ExecutableDocumentBuilder<'s> {
 
     /// Takes copies of a document's operations, fragments and files, and the faults and files of the list. A file whose
     /// number is taken is left out. Where `type_system_definitions_are_errors` is true, all other definitions are faults;
-    /// else they are passed over. `Err` only for want of memory: then each further call of the builder is refused too.
+    /// else they are passed over. `Err` only when out of memory: then each further call of the builder is refused too.
     pub fn add_ast(
         &mut self,
         document: &Document,
@@ -104,8 +104,8 @@ impl<'s> ExecutableDocumentBuilder<'s> {
     /// # Errors
     ///
     /// The faults that were taken and those of the build, sorted as [`DiagnosticList::sort`] does, exactly where there are
-    /// any; beside them the document without what they list, but with each subscription whatever it selects at its root. Else
-    /// want of memory alone, and always after a call that was refused for it.
+    /// any; beside them the document without what they list, but with each subscription whatever it selects at its root. Otherwise
+    /// only when out of memory, and always after a call that was refused for it.
     pub fn build(self) -> Result<ExecutableDocument, Refused<WithErrors<ExecutableDocument>>>
         ensures { spec.IsAnswer (spec.taken self.entry) result }
     {

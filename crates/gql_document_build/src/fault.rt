@@ -90,7 +90,7 @@ fn fault(
     }
 }
 
-/// One text. `Err` only for want of memory.
+/// One text. `Err` only when out of memory.
 fn one_text(alloc: Global, one: &str) -> Result<Listed<Text>, Memory>
     ensures { IfOk result (λ list. list ≡ one.now ∷ []) }
 {
@@ -99,7 +99,7 @@ fn one_text(alloc: Global, one: &str) -> Result<Listed<Text>, Memory>
     Ok(list)
 }
 
-/// Two texts. `Err` only for want of memory.
+/// Two texts. `Err` only when out of memory.
 fn two_texts(alloc: Global, one: &str, two: &str) -> Result<Listed<Text>, Memory>
     ensures { IfOk result (λ list. list ≡ one.now ∷ two.now ∷ []) }
 {

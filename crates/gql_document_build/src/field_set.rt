@@ -22,7 +22,7 @@ use std::alloc::Global;
 /// # Errors
 ///
 /// The faults of the list and those of the selections, sorted as [`DiagnosticList::sort`] does, exactly where there are any;
-/// beside them the set without what they list. Else want of memory alone.
+/// beside them the set without what they list. Otherwise only when out of memory.
 pub fn build_field_set(
     alloc: Global,
     schema: &Schema,

@@ -14,7 +14,7 @@ use jb_text::{Listed, Memory};
 use std::alloc::{AllocError, Global};
 
 /// These selections and those inside their fragments, in order. Each fragment is entered at its first spread; one whose
-/// condition is not defined is not (GraphQL October 2021, section 6.3.2). `Err` only for want of memory.
+/// condition is not defined is not (GraphQL October 2021, section 6.3.2). `Err` only when out of memory.
 pub(crate) fn root_selections<'d>(
     alloc: Global,
     schema: &'d Schema,

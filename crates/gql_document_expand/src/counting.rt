@@ -11,7 +11,7 @@ use gql_schema_types::Table;
 use jb_text::{Listed, Memory};
 use std::alloc::Global;
 
-/// Whether these selections have at most `limit` once each spread is replaced. `Err` only for want of memory. The time is
+/// Whether these selections have at most `limit` once each spread is replaced. `Err` only when out of memory. The time is
 /// linear in the selections and in those of the fragments.
 pub(crate) fn fits(
     alloc: Global,

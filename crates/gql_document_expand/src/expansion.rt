@@ -20,7 +20,7 @@ pub(crate) struct Expansion<'a> {
 }
 
 impl<'a> Expansion<'a> {
-    /// The set with each spread replaced. `Err` only for want of memory, here and below.
+    /// The set with each spread replaced. `Err` only when out of memory, here and below.
     #[cycle(expanding)]
     pub(crate) fn selection_set(&self, set: &SelectionSet) -> Result<SelectionSet, Memory>
         requires contents { HaveContents self.now.fragments.now }

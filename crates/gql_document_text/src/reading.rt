@@ -21,7 +21,7 @@ const FILE_NUMBER: u64 = 4;
 ///
 /// The diagnostics of the first phase that finds something, exactly where one does: the one that ends the reading of the
 /// text, or those of the build, or those of the rules, in the order of lists and with the text's file. Of the rules, those on
-/// spreads that lead nowhere, back or too far come before all others. Else want of memory alone.
+/// spreads that lead nowhere, back or too far come before all others. Otherwise only when out of memory.
 pub fn document_of_text(
     alloc: Global,
     schema: &Valid<Schema>,

@@ -15,7 +15,7 @@ use std::alloc::Global;
 
 impl ExecutableDocument {
     /// Whether no fragment spreads itself, be it through others, at any depth (GraphQL October 2021, section 5.5.2.2). A
-    /// spread of a fragment that is not defined leads nowhere. `Err` only for want of memory. The time is linear in the
+    /// spread of a fragment that is not defined leads nowhere. `Err` only when out of memory. The time is linear in the
     /// selections of the fragments.
     pub fn fragments_acyclic(&self, alloc: Global) -> Result<bool, Memory>
         ensures { IfOk result (λ acyclic. spec.TellsAcyclic self.now.fragments acyclic) }

@@ -16,8 +16,8 @@ impl ExecutableDocument {
     /// # Errors
     ///
     /// ``operation `{name}` is not defined`` exactly where a name is given that no operation has. `document has {count}
-    /// operations and no name was given` exactly where none is given and there is not exactly one operation. Else want of
-    /// memory alone, in which only a refusal ends.
+    /// operations and no name was given` exactly where none is given and there is not exactly one operation. Otherwise only when
+    /// out of memory, and only where there is no such operation.
     pub fn operations_get(
         &self,
         alloc: Global,

@@ -18,7 +18,7 @@ use std::alloc::{AllocError, Global};
 impl Operation {
     /// The fields that the operation asks of its root type, in order, those inside fragments too. Each fragment is entered
     /// at its first spread; directives and type conditions are not looked at, and a fragment that is not defined has no
-    /// fields (GraphQL October 2021, section 6.3.2). `Err` only for want of memory. The time is linear in the selections.
+    /// fields (GraphQL October 2021, section 6.3.2). `Err` only when out of memory. The time is linear in the selections.
     pub fn root_fields<'d>(
         &'d self,
         alloc: Global,

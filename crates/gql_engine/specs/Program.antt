@@ -54,7 +54,7 @@ pub record BreaksOff (Done Refused : Task → List ℕ → List ℕ → Type 0) 
 
 -- ---- on the way
 
--- an output was written whole, and the status is its own; or in part, since the sink failed; or there is none, for want of memory
+-- an output was written whole, and the status is its own; or in part, since the sink failed; or there is none, when out of memory
 abbrev pub WritesOutput : {K E : Type 0} → (K → Option Told) → (K → ℕ) → Result Output E → (sink sink' : K) → ℕ → Type 0
 WritesOutput taken faults (Ok output) sink sink' status =
     ((status ≡ output.status) × Takes (taken sink) (taken sink') output.text)

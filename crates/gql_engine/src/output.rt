@@ -23,7 +23,7 @@ pub(crate) struct Output {
     pub(crate) text: Bytes,
 }
 
-/// The output for the bytes of a request. `Err` for want of memory.
+/// The output for the bytes of a request. `Err` when out of memory.
 pub(crate) fn output_of<L: Ledger>(
     alloc: Global,
     wish: Wish,
@@ -60,8 +60,8 @@ fn output_for(alloc: Global, reply: Reply) -> Result<Output, Memory>
     }
 }
 
-/// How long the response to the self-test's request is, and how many errors it has. That request is answered; if it were not, no
-/// output would be right, and the self-test ends as for want of memory.
+/// How many bytes the response to the self-test's request has, and how many errors. That request is answered; if it were not, no
+/// output would be right, and the self-test would end as when out of memory.
 pub(crate) fn self_test<L: Ledger>(
     alloc: Global,
     items: u32,

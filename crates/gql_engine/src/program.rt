@@ -24,15 +24,24 @@ use std::sync::ledger::Ledger;
 
 const USAGE: &str = "usage: gql_program answer | check | selftest N\n";
 
-/// Runs the program over `words`, its arguments without its own name, and gives its exit status, from [`ANSWERED`]
-/// to [`TOO_LONG`].
+/// Runs the program over `words`, its arguments without its own name, and gives its exit status. A request is a JSON text
+/// (RFC 8259), and its answer is a response (GraphQL October 2021, sections 6 and 7).
 ///
 /// The words are `answer`, `check`, or `selftest` and a number of at most 100000 in decimal. They are looked at first, then
 /// `source` is read to its end, then all is computed, then it is written. `answer` writes the response to the request that was
 /// read; `check` writes `ok`, or the reports of what is wrong with the request's texts; `selftest` reads nothing, answers a
-/// request of its own, and writes how long the response is. Refusals, reports and the usage line go to `sink` too. `steps`
-/// counts the looks at selections, of the depth check and of the execution: those for an answer are one or more, and those for a
-/// self-test at most nine.
+/// request of its own, and writes how many bytes the response has, and how many errors. Refusals, reports and the usage line go to
+/// `sink` too. `steps` counts the looks at selections, of the depth check and of the execution: those for an answer are one or
+/// more, and those for a self-test at most nine.
+///
+/// The status is
+///
+/// - [`ANSWERED`] where the output was written whole;
+/// - [`REFUSED`] where a refusal, or for `check` a list of reports, was written whole in its place;
+/// - [`MISUSED`] exactly where the words are none of these, unless the sink fails: the usage line was written;
+/// - [`NO_MEMORY`] when out of memory, [`SOURCE_FAILED`] where the source failed, and [`TOO_LONG`] exactly where it has more than
+///   16,777,216 bytes: nothing was written;
+/// - [`SINK_FAILED`] where the sink failed, which has then taken a beginning of the output at most.
 pub fn run<S: Source, K: Sink, L: Ledger>(
     alloc: Global,
     words: &[String],
@@ -89,8 +98,8 @@ pub fn run<S: Source, K: Sink, L: Ledger>(
     }
 }
 
-/// [`run`] in memory, where neither reading nor writing fails: the status is never [`SOURCE_FAILED`] or
-/// [`SINK_FAILED`].
+/// [`run`] in memory, where neither reading nor writing fails: the status is never [`SOURCE_FAILED`] or [`SINK_FAILED`], it is
+/// [`MISUSED`] exactly where the words are no command, and [`TOO_LONG`] only where the source has more than 16,777,216 bytes.
 pub fn run_in_memory<L: Ledger>(
     alloc: Global,
     words: &[String],

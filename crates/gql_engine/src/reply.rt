@@ -31,7 +31,7 @@ pub(crate) enum Reply {
     Refusal(Bytes),
 }
 
-/// The reply to the bytes of a request. `Err` only for want of memory.
+/// The reply to the bytes of a request. `Err` only when out of memory.
 pub(crate) fn reply_to<L: Ledger>(
     alloc: Global,
     wish: Wish,

@@ -20,7 +20,7 @@ seen misfit = record { message = misfit.message; marked = misfit.suspected }
 abbrev pub misfit_seen : Option Misfit → Option Wrong
 misfit_seen found = option_map seen found
 
--- a refusal for this, or want of memory
+-- a refusal for this, or out of memory
 abbrev pub Refuses : {A : Type 0} → Wrong → Result A (Refused Misfit) → Type 0
 Refuses wrong (Ok found) = ⊥
 Refuses wrong (Err (Fault misfit)) = seen misfit ≡ wrong

@@ -16,9 +16,9 @@ use jb_text::Memory;
 use jb_tree::Value;
 use std::alloc::Global;
 
-/// What is wrong with a leaf at a type, whose name is that of this type of the schema if it is one's: `None` exactly where it fits (GraphQL October 2021, section 6.4.3): null at a type
-/// that rules it out, another leaf at a list's, an object's, an interface's or a union's type, or one that the scalar or
-/// enum type does not take. `Err` only for want of memory.
+/// What is wrong with a leaf at a type, `None` exactly where it fits (GraphQL October 2021, section 6.4.3): null at a type that
+/// rules it out, another leaf at a list's, an object's, an interface's or a union's type, or one that the scalar or enum type does
+/// not take. `named` is the type of the schema that the type names, if there is one. `Err` only when out of memory.
 pub fn leaf_misfit(
     alloc: Global,
     named: Option<&ExtendedType>,

@@ -10,7 +10,7 @@ use jb_text::{Memory, Text};
 use jb_tree::Value;
 use std::alloc::Global;
 
-/// The message of a resolver's failure with this text. `Err` only for want of memory.
+/// The message of a resolver's failure with this text. `Err` only when out of memory.
 pub fn resolver_error(alloc: Global, text: &str) -> Result<Text, Memory>
     ensures { IfOk result (λ message. message ≡ spec.resolver_error text.now) }
 {

@@ -18,7 +18,7 @@ use jb_text::{Listed, Memory, Refused};
 use std::alloc::Global;
 
 /// What is wrong with a list at a type, its items aside: `None` exactly where the type is a list's (GraphQL October 2021,
-/// section 6.4.3). `Err` only for want of memory.
+/// section 6.4.3). `Err` only when out of memory.
 pub fn list_misfit(alloc: Global, ty: &TypeRef) -> Result<Option<Misfit>, Memory>
     ensures { IfOk result (λ found. misfit_seen found ≡ spec.list_misfit ty.now) }
 {
@@ -31,7 +31,7 @@ pub fn list_misfit(alloc: Global, ty: &TypeRef) -> Result<Option<Misfit>, Memory
 /// The object type of an object by the name of its type, where the object fits the type that is wanted, whose name is that of
 /// this type of the schema if it is one's (section 6.4.3):
 /// that object type itself, an interface that it lists, or a union that has it. `Fault` with what is wrong exactly where it
-/// does not fit, `Memory` only for want of memory.
+/// does not fit, `Memory` only when out of memory.
 pub fn fitting_object<'s>(
     alloc: Global,
     schema: &'s Schema,

@@ -56,7 +56,7 @@ pub fn check_max_depth<L: Ledger>(
     }
 }
 
-/// Where a chain is found to have three counted fields, if one has. `Err` only for want of memory.
+/// Where a chain is found to have three counted fields, if one has. `Err` only when out of memory.
 fn found_deep<L: Ledger>(
     alloc: Global,
     fragments: &Table<Fragment>,

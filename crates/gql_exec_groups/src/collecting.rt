@@ -25,7 +25,7 @@ use std::sync::ledger::Ledger;
 /// The fields that selection sets ask of an object type, in order (GraphQL October 2021, section 6.3.2): those that are kept
 /// by `@skip` and `@include`, those of fragments that apply among them. Each fragment is entered once, so they are the
 /// fields of the sets with each fragment written out, repeats aside. A fragment that is not defined has no fields. `Err`
-/// only for want of memory. Each selection that is looked at counts one step.
+/// only when out of memory. Each selection that is looked at counts one step.
 pub(crate) fn selected_fields<'d, L: Ledger>(
     alloc: Global,
     schema: &Schema,

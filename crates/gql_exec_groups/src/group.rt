@@ -29,7 +29,7 @@ impl<'d> Group<'d> {
         response_name(self.first)
     }
 
-    /// The selection sets of all fields of the group, in order. `Err` only for want of memory.
+    /// The selection sets of all fields of the group, in order. `Err` only when out of memory.
     pub fn sub_selections(&self, alloc: Global) -> Result<Pieces<'d>, Memory>
         ensures { IfOk result (λ pieces. sets_of pieces ≡ map (λ (field : Field). field.selection_set.selections) (fields_of self.now.fields)) }
     {

@@ -35,7 +35,7 @@ use std::sync::ledger::Ledger;
 ///
 /// # Errors
 ///
-/// `Err` only for want of memory.
+/// `Err` only when out of memory.
 pub fn collect_fields<'d, L: Ledger>(
     alloc: Global,
     schema: &Schema,

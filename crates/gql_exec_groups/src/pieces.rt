@@ -40,7 +40,7 @@ impl<'d> Pieces<'d> {
         }
     }
 
-    /// Adds a set at the end. `Err` only for want of memory: the pieces are then as they were.
+    /// Adds a set at the end. `Err` only when out of memory: the pieces are then as they were.
     pub fn add(&mut self, set: &'d SelectionSet) -> Result<(), Memory>
         ensures added { OnOk result (self.new ≡ self.old ++ set.entry ∷ []) }
         ensures unchanged { OnErr result (self.new ≡ self.old) }

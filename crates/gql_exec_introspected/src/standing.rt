@@ -40,7 +40,7 @@ pub(crate) fn answer<O: Drop, P: Drop, K: Standing<O, P>>(
     }
 }
 
-/// A resolved value whose objects stand as others. A list is made anew, and its items are moved. `Err` only for want of
+/// A resolved value whose objects stand as others. A list is made anew, and its items are moved. `Err` only when out of
 /// memory.
 #[cycle(stand)]
 pub(crate) fn value<O: Drop, P: Drop, K: Standing<O, P>>(

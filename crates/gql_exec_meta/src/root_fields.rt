@@ -24,7 +24,7 @@ pub fn schema_field<'a>(schema: &'a Valid<Schema>) -> ResolvedValue<MetaObject<'
 
 /// What `__type` gives: the object of the type that the argument `name` names, or null where the schema has none
 /// (section 4.1). `Field` with ``expected string argument `name` `` exactly where `name` is no text, without the blank at
-/// the end; `Memory` only for want of memory.
+/// the end; `Memory` only when out of memory.
 pub fn type_field<'a>(
     alloc: Global,
     schema: &'a Valid<Schema>,

@@ -28,7 +28,7 @@ pub struct PlannedField<'d> {
 }
 
 impl<'d> Planner<'d> {
-    /// What objects of this type ask by a group. `Err` only for want of memory.
+    /// What objects of this type ask by a group. `Err` only when out of memory.
     pub(crate) fn planned(
         &self,
         object_type: &ObjectType,
@@ -59,7 +59,7 @@ impl<'d> Planner<'d> {
         }
     }
 
-    /// The arguments of a field with this definition, where they are kept. `Err` only for want of memory.
+    /// The arguments of a field with this definition, where they are kept. `Err` only when out of memory.
     fn kept_arguments(
         &self,
         definition: &FieldDefinition,
@@ -77,7 +77,7 @@ impl<'d> Planner<'d> {
     }
 
     /// The arguments of a field with this definition (GraphQL October 2021, section 6.4.1), or the fault of the first that
-    /// fails. `Err` only for want of memory.
+    /// fails. `Err` only when out of memory.
     pub fn arguments(
         &self,
         definition: &FieldDefinition,

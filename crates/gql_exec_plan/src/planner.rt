@@ -32,7 +32,7 @@ pub struct Planner<'d> {
 
 impl<'d> Planner<'d> {
     /// The parts of selection sets on objects of this type, with no nodes below them yet (GraphQL October 2021, section
-    /// 6.3.2, CollectFields). `Err` only for want of memory. No more steps are counted than the operation and all fragments
+    /// 6.3.2, CollectFields). `Err` only when out of memory. No more steps are counted than the operation and all fragments
     /// have selections, at every depth.
     pub fn parts<L: Ledger>(
         &self,
@@ -63,7 +63,7 @@ impl<'d> Planner<'d> {
     }
 
     /// The number of the node for objects of this type among those below a group. It is added where none was there, and only
-    /// then steps are counted. `Err` only for want of memory.
+    /// then steps are counted. `Err` only when out of memory.
     pub fn node_number<L: Ledger>(
         &self,
         object_type: &'d ObjectType,

@@ -29,7 +29,7 @@ use Rattle.gql_exec_request.proofs.Completing.{made-as, completed-fits}
 use Rattle.gql_exec_request.proofs.Places.{made-misfit, made-fitting, field-answered, field-refused, item-answered, item-failed}
 
 module _ {X V E : Type 0} (w : World X ObjectType Group (List (List Selection))) (before after : List GraphQLError) (Are : V → Option (List Value) → Type 0) (result : Result V E) where
-  -- what is made, if memory does not want
+  -- what is made, unless out of memory
   abbrev pub IsDone : Group → (Below w → Made Value) → Type 0
   IsDone g make = IfOk result (λ done. Makes w (Are done) g before after make)
 

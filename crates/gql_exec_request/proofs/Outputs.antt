@@ -28,7 +28,7 @@ pub ok-then : {A E : Type 0} (result : Result A E) (P Q : Type 0) → (P → Q) 
 ok-then (Ok x) P Q more given = more given
 ok-then (Err e) P Q more given = tt
 
--- what is written, where memory did not want
+-- what is written, unless out of memory
 pub ok-text : {A E : Type 0} (result : Result A E) (new some none : List ℕ) → new ≡ (if is_ok result then some else none) → OnOk result (new ≡ some)
 ok-text (Ok x) new some none is = is
 ok-text (Err e) new some none is = tt

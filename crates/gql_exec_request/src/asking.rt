@@ -33,7 +33,7 @@ pub(crate) enum Asked<O> {
 
 impl<'s> Executing<'s> {
     /// What comes of a field on an object of the type that it is planned on (GraphQL October 2021, sections 6.4.1 and 6.4.2).
-    /// `Err` only for want of memory.
+    /// `Err` only when out of memory.
     pub(crate) fn ask<O: ObjectValue>(
         &self,
         object_type: &ObjectType,
@@ -167,7 +167,7 @@ fn is_reserved(name: &str) -> bool
     }
 }
 
-/// A copy of the fault of an argument. `Err` only for want of memory.
+/// A copy of the fault of an argument. `Err` only when out of memory.
 fn copied(alloc: Global, fault: &ArgumentFault) -> Result<ArgumentFault, Memory>
     ensures { IfOk result (λ copy. copy ≡ fault.now) }
 {

@@ -44,7 +44,7 @@ pub struct Execution<'a> {
 
 impl<'a> Execution<'a> {
     /// An execution of the document on the schema that it is valid on. Unless it is told otherwise, it is of the only
-    /// operation, whose variables are given no values.
+    /// operation, whose variables are given no values, with introspection off.
     #[must_use]
     pub fn new(schema: &'a Valid<Schema>, document: &'a Valid<ExecutableDocument>) -> Execution<'a>
         ensures { result ≡ spec.started schema.entry document.entry }
@@ -59,7 +59,7 @@ impl<'a> Execution<'a> {
         }
     }
 
-    /// The execution of this operation of the document.
+    /// The execution of this operation of the document. None may have been set before.
     #[must_use]
     pub fn operation(self, operation: &'a Operation) -> Execution<'a>
         requires { spec.HasNoOperation self }
@@ -71,7 +71,8 @@ impl<'a> Execution<'a> {
         }
     }
 
-    /// The execution of the operation of the name, or of the only one where no name is given (section 6.1).
+    /// The execution of the operation of the name, or of the only one where no name is given (section 6.1). None may have been
+    /// set before.
     ///
     /// # Errors
     ///
@@ -90,7 +91,7 @@ impl<'a> Execution<'a> {
         }
     }
 
-    /// The execution whose resolvers are told these implementers, which are those of its schema.
+    /// The execution whose resolvers are told these implementers, which are those of its schema. None may have been set before.
     #[must_use]
     pub fn implementers_map(self, map: &'a ImplementersMap) -> Execution<'a>
         requires { spec.HasNoImplementers self }
@@ -102,7 +103,8 @@ impl<'a> Execution<'a> {
         }
     }
 
-    /// The execution whose variables have these values, which are coerced already (section 6.1.2).
+    /// The execution whose variables have these values, which are coerced already (section 6.1.2). None may have been given
+    /// before.
     #[must_use]
     pub fn coerced_variable_values(self, values: &'a Valid<JsonMap>) -> Execution<'a>
         requires { spec.HasNoValues self }
@@ -114,7 +116,7 @@ impl<'a> Execution<'a> {
         }
     }
 
-    /// The execution whose variables are given these values, which it coerces (section 6.1.2).
+    /// The execution whose variables are given these values, which it coerces (section 6.1.2). None may have been given before.
     #[must_use]
     pub fn raw_variable_values(self, values: &'a JsonMap) -> Execution<'a>
         requires { spec.HasNoValues self }
@@ -138,14 +140,15 @@ impl<'a> Execution<'a> {
         }
     }
 
-    /// Executes the operation on the initial object, which is taken to be of the root type whatever type it names. Below
-    /// the root an object is executed on the type that it names.
+    /// Executes the operation on the initial object, which is taken to be of the root type whatever type it names (sections 6.2
+    /// to 6.4). Below the root an object is executed on the type that it names. No fragment of the document may lead back to
+    /// itself.
     ///
     /// # Errors
     ///
     /// The first of these: why there is no operation, where none was set; `Undefined root operation type`, marked as a
     /// suspected fault of validation, exactly where the root type is no object type of the schema; the fault of the first
-    /// variable that is not coerced. Else want of memory alone.
+    /// variable that is not coerced. Otherwise only when out of memory.
     pub fn execute_sync<O: ObjectValue>(
         &self,
         alloc: Global,
@@ -178,6 +181,10 @@ impl<'a> Execution<'a> {
     /// at least those of the operation's own set. They are at most as many as the operation and all fragments have selections,
     /// at every depth, for the root and for each way of response keys and object types from it that leads to objects which
     /// fit their places: however long lists are, the fields of their items are collected once for each type.
+    ///
+    /// # Errors
+    ///
+    /// Those of [`Execution::execute_sync`].
     pub fn execute_counted<O: ObjectValue, L: Ledger>(
         &self,
         alloc: Global,
@@ -199,6 +206,10 @@ impl<'a> Execution<'a> {
     }
 
     /// The same as [`Execution::execute_counted`], but the data are written as they are made: no tree of them is held.
+    ///
+    /// # Errors
+    ///
+    /// Those of [`Execution::execute_sync`].
     pub fn execute_written<O: ObjectValue, L: Ledger>(
         &self,
         alloc: Global,

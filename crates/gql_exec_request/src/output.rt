@@ -5,7 +5,7 @@ use jb_text::Memory;
 use jb_tree::Value;
 
 /// What a response is made as, a tree or a text. A list or an object is begun, is given its items or members in turn, and
-/// is then ended, or dropped where a null passes on. Each call gives `Err` only for want of memory.
+/// is then ended, or dropped where a null passes on. Each call gives `Err` only when out of memory.
 pub(crate) trait Output {
     ghost use Rattle.std.specs.Prelude.{◌≡◌, ◌++◌, ◌∷◌, [], ℕ, List, None, IfOk, OnOk};
     ghost use Rattle.std.specs.List.{position};

@@ -43,12 +43,13 @@ impl ObjectValue for NoFields {
 }
 
 /// Executes what an operation asks of the schema: with introspection on, on a root object that leaves out every field of its
-/// own (GraphQL October 2021, section 4). The implementers are those of the schema.
+/// own (GraphQL October 2021, section 4). The implementers are those of the schema, and the values of variables are coerced already.
+/// No fragment of the document may lead back to itself.
 ///
 /// # Errors
 ///
 /// `Undefined root operation type`, marked as a suspected fault of validation, exactly where the root type is no object type
-/// of the schema. Else want of memory alone.
+/// of the schema. Otherwise only when out of memory.
 pub fn partial_execute(
     alloc: Global,
     schema: &Valid<Schema>,

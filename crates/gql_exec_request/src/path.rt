@@ -18,7 +18,7 @@ pub(crate) enum Step<'a> {
 }
 
 impl<'a> Step<'a> {
-    /// The step as errors tell it. `Err` only for want of memory.
+    /// The step as errors tell it. `Err` only when out of memory.
     pub(crate) fn to_segment(&self, alloc: Global) -> Result<ResponseDataPathSegment, Memory>
         ensures { IfOk result (λ made. made ≡ spec.segment_of self.now) }
     {
@@ -37,7 +37,7 @@ pub(crate) enum Path<'a> {
 }
 
 impl<'a> Path<'a> {
-    /// The steps from the root. `Err` only for want of memory.
+    /// The steps from the root. `Err` only when out of memory.
     pub(crate) fn to_segments(
         &self,
         alloc: Global,

@@ -30,7 +30,7 @@ pub(crate) struct Place<'p, 's> {
 }
 
 impl<'p, 's> Place<'p, 's> {
-    /// The steps from the root. `Err` only for want of memory.
+    /// The steps from the root. `Err` only when out of memory.
     fn to_segments(&self, alloc: Global) -> Result<Listed<ResponseDataPathSegment>, Memory>
         ensures { IfOk result (λ segments. segments ≡ spec.place_path self.now) }
     {
@@ -39,7 +39,7 @@ impl<'p, 's> Place<'p, 's> {
         Ok(segments)
     }
 
-    /// Lists the error of a fault at this place. Its line and column are looked up in the files. `Err` only for want of
+    /// Lists the error of a fault at this place. Its line and column are looked up in the files. `Err` only when out of
     /// memory.
     pub(crate) fn list(
         &self,
@@ -55,7 +55,7 @@ impl<'p, 's> Place<'p, 's> {
         errors.push(error)
     }
 
-    /// A null that comes to this place: it is made, or it is passed on where the type rules it out. `Err` only for want of
+    /// A null that comes to this place: it is made, or it is passed on where the type rules it out. `Err` only when out of
     /// memory.
     pub(crate) fn null<M: Output>(&self, out: &mut M) -> Result<Completed<M::Made>, Memory>
         ensures { IfOk result (λ done. IsWritten M.is_made out.old out.new done (spec.null_at self.now.ty.now)) }

@@ -179,7 +179,7 @@ impl<'a> Execution<'a> {
         }
     }
 
-    /// The response. `Err` only for want of memory.
+    /// The response. `Err` only when out of memory.
     fn run<O: ObjectValue, L: Ledger, M: Output>(
         &self,
         alloc: Global,

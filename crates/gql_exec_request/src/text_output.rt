@@ -49,7 +49,7 @@ pub(crate) struct OpenObject {
 }
 
 impl TextOutput {
-    /// Nothing is written. `Err` only for want of memory.
+    /// Nothing is written. `Err` only when out of memory.
     pub(crate) fn new(alloc: Global) -> Result<TextOutput, Memory>
         ensures { IfOk result (λ output. output ≡ []) }
     {

@@ -23,7 +23,7 @@ pub struct WrittenResponse {
     pub data: Text,
 }
 
-/// The response of an execution whose data were written to this output alone. `Err` only for want of memory.
+/// The response of an execution whose data were written to this output alone. `Err` only when out of memory.
 pub(crate) fn written(
     executed: Executed<OpenObject>,
     mut out: TextOutput,

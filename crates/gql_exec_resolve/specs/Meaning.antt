@@ -50,7 +50,7 @@ Answers see (Ok resolved) meaning = meaning ≡ meaning_by see resolved
 Answers see (Err (Field error)) meaning = meaning ≡ fails_with error.message
 Answers see (Err Memory) meaning = Unit {0}
 
--- a failure with this text, or want of memory
+-- a failure with this text, or out of memory
 abbrev pub IsFailure : ResolveError → List ℕ → Type 0
 IsFailure (Field error) text = error.message ≡ text
 IsFailure Memory text = Unit {0}

@@ -19,8 +19,8 @@ use jb_tree::{Map, Value};
 use std::alloc::Global;
 use std::marker::Model;
 
-/// An object of plain JSON data as a resolver: each field is the member of its name, null where it is absent, shaped by the
-/// field's type on the object type.
+/// An object of plain JSON data as a resolver (GraphQL October 2021, section 6.4.2): each field is the member of its name whatever
+/// its arguments, null where it is absent, shaped by the field's type on the object type.
 ///
 /// An object with a text member `__error` is a failure with that text. At the type of a list an array is a list of its
 /// items, shaped in turn. At an object, an interface or a union type an object is an object of the type that its text

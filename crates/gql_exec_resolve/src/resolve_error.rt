@@ -8,7 +8,7 @@ pub struct FieldError {
     pub message: Text,
 }
 
-/// Why a resolver gave nothing: a failure of its own, or want of memory.
+/// Why a resolver gave nothing: a failure of its own, or out of memory.
 #[derive(Drop)]
 pub enum ResolveError {
     Field(FieldError),

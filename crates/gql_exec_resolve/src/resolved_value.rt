@@ -13,7 +13,7 @@ use std::alloc::Global;
 /// What a resolver gives for a field (GraphQL October 2021, section 6.4.2).
 #[derive(Drop)]
 pub enum ResolvedValue<O> {
-    /// A JSON value as it stands, null among them.
+    /// A JSON value as it stands, null among them, which is completed by the field's type (section 6.4.3).
     Leaf(Value),
     /// An object, whose fields are resolved in turn.
     Object(O),
@@ -61,7 +61,7 @@ impl<O> ResolvedValue<O> {
 }
 
 impl<O: Drop> ResolvedValue<O> {
-    /// A list of these values, none of which failed. `Err` only for want of memory.
+    /// A list of these values, none of which failed. `Err` only when out of memory.
     pub fn list(alloc: Global, items: Listed<ResolvedValue<O>>) -> Result<ResolvedValue<O>, Memory>
         ensures { IfOk result (λ made. made ≡ value.List (map Ok items)) }
     {

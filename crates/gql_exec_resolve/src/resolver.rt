@@ -27,12 +27,17 @@ pub trait ObjectValue: Drop {
     // What an object's field is: a matter of schema, object type, object, name and arguments alone.
     ghost resolves: { Schema → ObjectType → Seen → List ℕ → Members → Meaning Seen };
 
-    /// The name of the object type that this object is of.
+    /// The name of the object type that this object is of. The root of an execution is not asked.
     fn type_name(&self) -> &str
         ensures { result.now ≡ type_of (seen self.now) };
 
-    /// The value of the field that `info` tells of. A failure nulls the field and is listed as `resolver error: `
-    /// and its text.
+    /// The value of the field that `info` tells of, which depends on the schema, the object and its type, the field's name and its
+    /// arguments alone.
+    ///
+    /// # Errors
+    ///
+    /// A failure of the resolver's own nulls the field and is listed as `resolver error: ` and its text. The other error is for
+    /// when it is out of memory, and ends the execution so.
     fn resolve_field(
         &self,
         alloc: Global,
@@ -42,7 +47,7 @@ pub trait ObjectValue: Drop {
             (resolves (schema_of info.now) (object_type_of info.now) (seen self.now) (field_name_of info.now) (arguments_of info.now)) };
 
     /// The failure of a field that the object does not know: `unexpected field name: {name} in type {type}`. `Err` only
-    /// for want of memory.
+    /// when out of memory.
     fn unknown_field_error(
         &self,
         alloc: Global,

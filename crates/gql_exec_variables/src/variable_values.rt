@@ -20,7 +20,7 @@ use std::alloc::Global;
 ///
 /// The fault of the first variable in order of definition that fails, exactly where one does: its value is none of its type,
 /// or is missing. It is marked as a suspected fault of validation where the type is undefined or no input type, or a default
-/// holds a variable. Else want of memory alone.
+/// holds a variable. Otherwise only when out of memory.
 pub fn coerce_variable_values(
     alloc: Global,
     schema: &Valid<Schema>,

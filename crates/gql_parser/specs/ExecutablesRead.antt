@@ -25,7 +25,7 @@ pub record IsBuilt (parser : ParserState) (given : Given) (schema : Schema)
   pub takes : Takes parser given (nothing_taken schema) taken
   pub answers : IsAnswer taken answer
 
--- of a document, or of one beside its faults; want of memory tells nothing
+-- of a document, or of one beside its faults; out of memory tells nothing
 abbrev pub IsExecutableAnswer : ParserState → Given → Schema → Result ExecutableDocument (Refused (WithErrors ExecutableDocument)) → Type 0
 IsExecutableAnswer parser given schema (Ok document) = IsBuilt parser given schema (Ok document)
 IsExecutableAnswer parser given schema (Err (Fault refusal)) = IsBuilt parser given schema (Err (Fault refusal))

@@ -54,7 +54,7 @@ pub record IsBuilt (parser : ParserState) (given : Given) (schema : Schema) (ty 
   pub are_read : AreSelectionsRead parser given read errors
   pub judged : IsJudged (built schema ty read errors.sources) errors.sources (all_faults schema ty read errors) answer
 
--- want of memory tells nothing
+-- out of memory tells nothing
 abbrev pub IsFieldSetAnswer : ParserState → Given → Schema → Named → Result FieldSet (Refused (WithErrors FieldSet)) → Type 0
 IsFieldSetAnswer parser given schema ty (Ok set) = IsBuilt parser given schema ty (Ok set)
 IsFieldSetAnswer parser given schema ty (Err (Fault refusal)) = IsBuilt parser given schema ty (Err (Fault refusal))

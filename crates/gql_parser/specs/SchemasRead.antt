@@ -27,7 +27,7 @@ pub record IsBuilt (parser : ParserState) (given : Given) (answer : Result Schem
   pub takes : Takes parser given (nothing_taken built_in_sources built_in) taken
   pub answers : IsAnswer taken answer
 
--- of a schema, or of one beside its faults; want of memory tells nothing
+-- of a schema, or of one beside its faults; out of memory tells nothing
 abbrev pub IsSchemaAnswer : ParserState → Given → Result Schema (Refused (WithErrors Schema)) → Type 0
 IsSchemaAnswer parser given (Ok schema) = IsBuilt parser given (Ok schema)
 IsSchemaAnswer parser given (Err (Fault refusal)) = IsBuilt parser given (Err (Fault refusal))

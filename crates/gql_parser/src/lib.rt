@@ -12,7 +12,7 @@
 //! let mut parser = Parser::new().token_limit(1_000);
 //! let mut ids = FileIds::new();
 //! let schema = parser.parse_schema(alloc, "type Query { name: String }", "schema.graphql", &mut ids)?;
-//! // schema.get_object("Query") is Some, parser.tokens_reached() is 11
+//! // schema.get_object("Query") is Some, parser.tokens_reached() is 12
 //! ```
 #![tactic(auto)]
 

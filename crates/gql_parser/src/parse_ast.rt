@@ -27,7 +27,7 @@ impl Parser {
     ///
     /// One diagnostic, at the first fault of the syntax or the first limit that is passed, exactly where the text is no
     /// document within the limits. Beside it stands the document of the tree that was closed there, whose last definitions
-    /// may lack parts; a definition that lacks a required one is left out. Else want of memory alone.
+    /// may lack parts; a definition that lacks a required one is left out. Otherwise only when out of memory.
     pub fn parse_ast(
         &mut self,
         alloc: Global,

@@ -29,7 +29,7 @@ impl Parser {
     /// Where the text is no document within the limits, one diagnostic at the first fault of the syntax or the first limit
     /// that is passed, beside a document without operations and fragments. Else, exactly where there are faults of the build,
     /// these in the order of lists, beside the document without what they list, but with each subscription whatever it
-    /// selects at its root. A definition of a type system is a fault. Else want of memory alone.
+    /// selects at its root. A definition of a type system is a fault. Otherwise only when out of memory.
     pub fn parse_executable(
         &mut self,
         alloc: Global,
@@ -55,7 +55,7 @@ impl Parser {
     ///
     /// The numbers stand one further afterwards, in any case. There must be one left.
     ///
-    /// `Err` only for want of memory, and always where the builder was refused for it before. The builder then is as it
+    /// `Err` only when out of memory, and always where the builder was refused for it before. The builder then is as it
     /// was, or refuses each further call.
     pub fn parse_into_executable_builder(
         &mut self,

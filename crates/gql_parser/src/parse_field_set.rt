@@ -40,7 +40,7 @@ impl Parser {
     ///
     /// Where the text is no set of selections within the limits, one diagnostic at the first fault of the syntax or the first
     /// limit that is passed, beside a set without selections. Else, exactly where there are faults of the build, these in the
-    /// order of lists, beside the set without what they list. Else want of memory alone.
+    /// order of lists, beside the set without what they list. Otherwise only when out of memory.
     pub fn parse_field_set(
         &mut self,
         alloc: Global,

@@ -27,7 +27,7 @@ impl Parser {
     /// Where the text is no document within the limits, one diagnostic at the first fault of the syntax or the first limit
     /// that is passed, beside a schema with the built-in definitions alone. Else, exactly where there are faults of the
     /// build, these in the order of lists, beside the schema without what they list. An operation or a fragment is a fault.
-    /// Else want of memory alone.
+    /// Otherwise only when out of memory.
     pub fn parse_schema(
         &mut self,
         alloc: Global,
@@ -52,7 +52,7 @@ impl Parser {
     ///
     /// The numbers stand one further afterwards, in any case. There must be one left.
     ///
-    /// `Err` only for want of memory, and always where the builder was refused for it before. The builder then is as it
+    /// `Err` only when out of memory, and always where the builder was refused for it before. The builder then is as it
     /// was, or refuses each further call.
     pub fn parse_into_schema_builder(
         &mut self,

@@ -28,7 +28,7 @@ impl Parser {
     /// # Errors
     ///
     /// One diagnostic, at the first fault of the syntax or the first limit that is passed, exactly where the text is no
-    /// reference to a type within the limits. Else want of memory alone.
+    /// reference to a type within the limits. Otherwise only when out of memory.
     pub fn parse_type(
         &mut self,
         alloc: Global,

@@ -73,7 +73,8 @@ impl Parser {
         parser
     }
 
-    /// The greatest level of nesting in the last text, a level that passes the limit included. 0 before the first text.
+    /// The greatest level of nesting in the last text, a level that passes the limit included. 0 before the first text. After a
+    /// text for which memory ran out it may be that of the text before.
     #[must_use]
     pub fn recursion_reached(&self) -> usize
         ensures { result ≡ self.now.recursion_reached }
@@ -82,6 +83,7 @@ impl Parser {
     }
 
     /// How many tokens of the last text were read, one that was refused included. 0 before the first text.
+    /// After a text for which memory ran out it may be that of the text before.
     #[must_use]
     pub fn tokens_reached(&self) -> usize
         ensures { result ≡ self.now.tokens_reached }

@@ -71,7 +71,7 @@ module _ (P Q : List DiagnosticData → Type 0) (weaker : (faults : List Diagnos
   held_so files (Err Memory) held = tt
 
 module _ (AreFaults : List DiagnosticData → Type 0) (files : Files) where
-  -- want of memory tells nothing of the rules
+  -- out of memory tells nothing of the rules
   pub no_memory : (X : Type 0) (answer : Result X (Refused Diagnostics)) → IsErrAnd answer (λ f. f ≡ Memory) → IsHeld AreFaults files answer
   no_memory X (Ok made) is = absurd is
   no_memory X (Err f) is = subst (λ (g : Refused Diagnostics). IsHeld {X = X} AreFaults files (Err g)) (sym is) tt

@@ -88,7 +88,7 @@ module _ (against : Schema) (file : Document) (taken : document.Taken) (is : tak
 -- ---- the rules behind the builds
 
 module _ (old new : Schema) (file : Document) (firsts : List DiagnosticData) where
-  -- nothing is answered for want of memory
+  -- nothing is answered when out of memory
   pub no_memory_for : (answer : Result ExecutableDocument (Refused Diagnostics)) → IsErrAnd answer (λ f. f ≡ Memory) → IsDocumentRuled old new file firsts answer
   no_memory_for (Ok made) is = absurd is
   no_memory_for (Err f) is = record {

@@ -29,7 +29,7 @@ pub trait ParseMixed {
     ///
     /// The diagnostics of the first phase that finds something, exactly where one does, in the order of lists and with the
     /// schema's files: the first fault of the syntax or the first limit that is passed; or the faults of both builds; or those of
-    /// the rules on schemas; or those of the rules on documents. Else want of memory alone.
+    /// the rules on schemas; or those of the rules on documents. Otherwise only when out of memory.
     fn parse_mixed_validate(
         &mut self,
         alloc: Global,

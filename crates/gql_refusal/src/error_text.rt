@@ -16,7 +16,7 @@ use jb_text::{Memory, Number};
 use jb_tree::Value;
 use std::alloc::Global;
 
-/// Appends the error of a diagnostic. `Err` only for want of memory.
+/// Appends the error of a diagnostic. `Err` only when out of memory.
 pub(crate) fn append_diagnostic(
     alloc: Global,
     out: &mut String,
@@ -30,7 +30,7 @@ pub(crate) fn append_diagnostic(
     append_error(out, message.as_str(), place, false)
 }
 
-/// Appends the error of a refused request. `Err` only for want of memory.
+/// Appends the error of a refused request. `Err` only when out of memory.
 pub(crate) fn append_request(
     out: &mut String,
     sources: &SourceMap,

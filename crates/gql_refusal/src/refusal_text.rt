@@ -16,7 +16,7 @@ use jb_print::append_string;
 use jb_text::Memory;
 use std::alloc::Global;
 
-/// The text of a refusal with this one message. `Err` only for want of memory.
+/// The text of a refusal with this one message. `Err` only when out of memory.
 pub fn refusal_of_message(alloc: Global, message: &str) -> Result<Bytes, Memory>
     ensures { IfOk result (λ text. text ≡ compact (refusal_value (message_error message.now ∷ []))) }
 {
@@ -27,7 +27,7 @@ pub fn refusal_of_message(alloc: Global, message: &str) -> Result<Bytes, Memory>
     Ok(Bytes::from_vec(out.into_bytes())?)
 }
 
-/// The text of a refusal with the one error of a request, whose place is looked up in the files. `Err` only for want of
+/// The text of a refusal with the one error of a request, whose place is looked up in the files. `Err` only when out of
 /// memory.
 pub fn refusal_of_request(
     alloc: Global,
@@ -43,7 +43,7 @@ pub fn refusal_of_request(
     Ok(Bytes::from_vec(out.into_bytes())?)
 }
 
-/// The text of a refusal with an error for each diagnostic of a list, in its order. `Err` only for want of memory.
+/// The text of a refusal with an error for each diagnostic of a list, in its order. `Err` only when out of memory.
 pub fn refusal_of_diagnostics(alloc: Global, list: DiagnosticList) -> Result<Bytes, Memory>
     ensures { IfOk result (λ text. text ≡ compact (refusal_value (errors_of list))) }
 {

@@ -10,7 +10,7 @@ use gql_source::SourceMap;
 use jb_text::Memory;
 use std::alloc::Global;
 
-/// The reports of the diagnostics of a list, one after the other, each with its line feeds. `Err` only for want of memory.
+/// The reports of the diagnostics of a list, one after the other, each with its line feeds. `Err` only when out of memory.
 pub fn reports(alloc: Global, list: DiagnosticList) -> Result<Bytes, Memory>
     ensures { IfOk result (λ text. text ≡ reports_of list) }
 {

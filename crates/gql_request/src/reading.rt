@@ -7,7 +7,7 @@ use jb_read::ReadFault;
 use jb_tree::{Memory, Text};
 use std::alloc::Global;
 
-/// The text of the refusal of bytes that are no JSON text. `Err` only for want of memory.
+/// The text of the refusal of bytes that are no JSON text. `Err` only when out of memory.
 pub fn read_message(alloc: Global, fault: ReadFault) -> Result<Text, Memory>
     ensures { IfOk result (λ text. text ≡ message_of fault) }
 {

@@ -48,7 +48,7 @@ pub enum RequestFault {
 }
 
 impl RequestFault {
-    /// The text of the refusal. `Err` only for want of memory.
+    /// The text of the refusal. `Err` only when out of memory.
     pub fn message(self, alloc: Global) -> Result<Text, Memory>
         ensures { IfOk result (λ text. text ≡ fault_message self) }
     {

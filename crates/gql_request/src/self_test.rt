@@ -15,7 +15,7 @@ const HEAD: &str =
 const TAIL: &str = "]}}";
 
 /// The text of the request whose data has this many items. Each has its number, from 0, and one tag; the tag of every tenth is
-/// an error. `Err` only for want of memory.
+/// an error. `Err` only when out of memory.
 pub fn self_test_text(alloc: Global, count: u32) -> Result<Bytes, Memory>
     ensures { IfOk result (λ text. text ≡ self_test count) }
 {

@@ -18,7 +18,7 @@ in_turn put parts (member ∷ members) = and_then (put parts member) (λ more. i
 abbrev pub parts_of : {P : Type 0} → (P → Member → Result P ShapeError) → P → Value → Result P ShapeError
 parts_of put none value = and_then (of_kind (object_members value)) (in_turn put none)
 
--- a place took what was put, or the cause why it did not; want of memory is free
+-- a place took what was put, or the cause why it did not; out of memory is free
 abbrev pub Puts : {P : Type 0} → Result P ShapeError → Result (Unit {0}) (Refused ShapeError) → P → Type 0
 Puts wanted (Ok _) after = wanted ≡ Ok after
 Puts wanted (Err (refused.Fault cause)) after = wanted ≡ Err cause

@@ -100,7 +100,7 @@ response_of (Err fault) = Err (Read fault)
 abbrev pub response_read : List ℕ → Result ExecutionResponse ResponseFault
 response_read bytes = response_of (text_value bytes)
 
--- the response or the fault that is wanted; want of memory is free
+-- the response or the fault that is wanted; out of memory is free
 abbrev pub Answered : Result ExecutionResponse ResponseFault → Result ExecutionResponse (Refused ResponseFault) → Type 0
 Answered wanted (Ok response) = wanted ≡ Ok response
 Answered wanted (Err (refused.Fault fault)) = wanted ≡ Err fault

@@ -39,8 +39,8 @@ impl Drop for ExecutionResponse {
 }
 
 impl ExecutionResponse {
-    /// The response as JSON without white space: `errors` where there are any, then `data`. `Err` only for want of
-    /// memory.
+    /// The response as JSON without white space: `errors` where there are any, then `data` (GraphQL October 2021, section 7.1).
+    /// `Err` only when out of memory.
     pub fn to_bytes(&self, alloc: Global) -> Result<Bytes, Memory>
         ensures { IfOk result (λ bytes. bytes ≡ compact (response_value self.now)) }
     {
@@ -49,8 +49,8 @@ impl ExecutionResponse {
         Ok(Bytes::from_vec(out.into_bytes())?)
     }
 
-    /// The bytes of a response with these errors whose data are written already, as JSON without white space. `Err` only when
-    /// out of memory.
+    /// The bytes of a response with these errors whose data are written already, as JSON without white space: `written` is the
+    /// text of an object, or `null`. `Err` only when out of memory.
     pub fn bytes_with(
         alloc: Global,
         errors: &[GraphQLError],
@@ -67,8 +67,9 @@ impl ExecutionResponse {
         Ok(Bytes::from_vec(out.into_bytes())?)
     }
 
-    /// The response that the bytes spell, as one whole text, with members in any order. Where there are no `errors`
-    /// there are none, and where there are no `data` they are null. Names in paths come from no place.
+    /// The response that the bytes spell, as one whole text (GraphQL October 2021, section 7.1), with members in any order. Where
+    /// there are no `errors` there are none, and where there are no `data` they are null. Names in paths come from no place. The
+    /// text is nested at most 127 deep, and its numbers are whole.
     ///
     /// # Errors
     ///
@@ -76,7 +77,7 @@ impl ExecutionResponse {
     /// - [`ResponseFault::Shape`] of the first part that does not fit: a member that is unknown or of a wrong kind or a
     ///   number outside its type, at its turn, and a member that is missing after all others of its object. A text
     ///   in a path that is no name is of a wrong kind.
-    /// - [`Refused::Memory`] for want of memory.
+    /// - [`Refused::Memory`] when out of memory.
     pub fn from_bytes(
         alloc: Global,
         bytes: &Bytes,

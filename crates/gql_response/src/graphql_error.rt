@@ -36,7 +36,7 @@ impl Drop for GraphQLError {
 
 impl GraphQLError {
     /// An error with this message, at the start of the location where its line and column are found in the files,
-    /// without a path and extensions. `Err` only for want of memory.
+    /// without a path and extensions. `Err` only when out of memory.
     pub fn new(
         alloc: Global,
         message: &str,
@@ -48,7 +48,7 @@ impl GraphQLError {
         GraphQLError::of_text(alloc, Text::from_str(alloc, message)?, location, sources)
     }
 
-    /// The same of a text that is the message from then on. `Err` only for want of memory.
+    /// The same of a text that is the message from then on. `Err` only when out of memory.
     pub fn of_text(
         alloc: Global,
         message: Text,

@@ -17,12 +17,12 @@ pub(crate) trait Printed {
     // The value that it stands for.
     ghost value_of: { Self → JsonValue };
 
-    /// Appends the compact text of the value. `Err` only for want of memory.
+    /// Appends the compact text of the value. `Err` only when out of memory.
     fn append(&self, out: &mut String) -> Result<(), Memory>
         ensures { OnOk result (string_bytes out.new ≡ string_bytes out.old ++ compact (value_of self.now)) };
 }
 
-/// Appends an array of the items. `Err` only for want of memory.
+/// Appends an array of the items. `Err` only when out of memory.
 pub(crate) fn append_list<T: Printed>(out: &mut String, items: &[T]) -> Result<(), Memory>
     ensures { OnOk result (string_bytes out.new ≡ string_bytes out.old ++ compact (json.Array (map T.value_of items.now))) }
 {
@@ -37,7 +37,7 @@ pub(crate) fn append_list<T: Printed>(out: &mut String, items: &[T]) -> Result<(
     Ok(())
 }
 
-/// Appends a later member whose value is a list, where that has items. `Err` only for want of memory.
+/// Appends a later member whose value is a list, where that has items. `Err` only when out of memory.
 pub(crate) fn append_list_member<T: Printed>(
     out: &mut String,
     key: &str,
@@ -53,7 +53,7 @@ pub(crate) fn append_list_member<T: Printed>(
     append_list(out, items)
 }
 
-/// Appends a later member whose value is an object, where that has members. `Err` only for want of memory.
+/// Appends a later member whose value is an object, where that has members. `Err` only when out of memory.
 pub(crate) fn append_object_member(out: &mut String, key: &str, members: &Map) -> Result<(), Memory>
     ensures { OnOk result (string_bytes out.new ≡ string_bytes out.old
         ++ pieces_text true (map member_piece (object_member key.now members.now))) }
@@ -65,7 +65,7 @@ pub(crate) fn append_object_member(out: &mut String, key: &str, members: &Map) -
     append_object(out, members)
 }
 
-/// Appends the key of a member, behind a comma where it is a later one. `Err` only for want of memory.
+/// Appends the key of a member, behind a comma where it is a later one. `Err` only when out of memory.
 pub(crate) fn append_key(out: &mut String, later: bool, key: &str) -> Result<(), Memory>
     ensures { OnOk result (string_bytes out.new ≡ string_bytes out.old ++ (comma_after later ++ (quoted key.now ++ codes ":"))) }
 {
@@ -80,7 +80,7 @@ fn append_comma(out: &mut String, later: bool) -> Result<(), Memory>
     if later { out.push_str(",") } else { Ok(()) }
 }
 
-/// Appends a count as a JSON number. `Err` only for want of memory.
+/// Appends a count as a JSON number. `Err` only when out of memory.
 pub(crate) fn append_whole(out: &mut String, count: usize) -> Result<(), Memory>
     ensures { OnOk result (string_bytes out.new ≡ string_bytes out.old ++ compact (json.Number (pos count))) }
 {

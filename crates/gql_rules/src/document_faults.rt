@@ -14,7 +14,7 @@ use gql_schema_types::Schema;
 use jb_text::{Listed, Memory};
 use std::alloc::Global;
 
-/// What is wrong with a document: one diagnostic for each fault of each rule. `Err` only for want of memory.
+/// What is wrong with a document: one diagnostic for each fault of each rule. `Err` only when out of memory.
 pub(crate) fn document_faults(
     alloc: Global,
     schema: &Schema,

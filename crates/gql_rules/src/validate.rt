@@ -15,7 +15,7 @@ use std::alloc::Global;
 /// for each fault of each rule, and none else, in the order of lists. Where a spread leads nowhere, back or through more than 32
 /// names, that alone is listed.
 ///
-/// `Err` only for want of memory: then the list has some of the faults.
+/// `Err` only when out of memory: then the list has some of the faults.
 pub fn validate_document(
     alloc: Global,
     schema: &Schema,

@@ -44,7 +44,7 @@ impl<'s, T: Placed> Model for ByName<'s, T> {
 
 impl<'s, T: Placed> ByName<'s, T> {
     /// These things, in which about so many names are to be found. Where there are more than sixteen of both, it takes
-    /// time that grows with the number of things, and memory. `Err` only for want of memory.
+    /// time that grows with the number of things, and memory. `Err` only when out of memory.
     pub fn new(alloc: Global, items: &'s [T], lookups: usize) -> Result<ByName<'s, T>, Memory>
         ensures { IfOk result (λ made. made ≡ items.now) }
     {

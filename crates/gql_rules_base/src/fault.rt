@@ -9,7 +9,7 @@ use gql_source::SourceSpan;
 use jb_text::{Listed, Memory, Text};
 use std::alloc::Global;
 
-/// Lists a broken rule with the names that its messages tell, its place and the other place. `Err` only for want of memory.
+/// Lists a broken rule with the names that its messages tell, its place and the other place. `Err` only when out of memory.
 pub fn list_fault(
     alloc: Global,
     rule: Rule,
@@ -27,7 +27,7 @@ pub fn list_fault(
     })
 }
 
-/// Lists a rule that what has this name breaks, at the name. `Err` only for want of memory.
+/// Lists a rule that what has this name breaks, at the name. `Err` only when out of memory.
 pub fn list_name(
     alloc: Global,
     rule: Rule,
@@ -39,7 +39,7 @@ pub fn list_name(
     list_fault(alloc, rule, &[name.as_str()], name.location(), None, faults)
 }
 
-/// Lists that the chain of names that begins with this one is too long. `Err` only for want of memory.
+/// Lists that the chain of names that begins with this one is too long. `Err` only when out of memory.
 pub fn list_long_chain(name: &Name, faults: &mut Listed<DiagnosticData>) -> Result<(), Memory>
     ensures { OnOk result (faults.new ≡ faults.old ++ spec.long_chain name.now ∷ []) }
 {

@@ -13,7 +13,7 @@ use jb_text::{Listed, Memory};
 use std::alloc::Global;
 
 /// Lists what is wrong with each node of a document by itself (GraphQL October 2021, sections 5.3 to 5.8): one diagnostic for each
-/// fault of each rule, in the order of the nodes. `Err` only for want of memory: then the list has some of the faults.
+/// fault of each rule, in the order of the nodes. `Err` only when out of memory: then the list has some of the faults.
 pub fn list_document_nodes(
     alloc: Global,
     schema: &Schema,

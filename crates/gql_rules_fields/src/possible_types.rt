@@ -28,7 +28,7 @@ pub(crate) struct PossibleTypes<'s> {
 }
 
 impl<'s> PossibleTypes<'s> {
-    /// The schema with its possible types. `Err` only for want of memory.
+    /// The schema with its possible types. `Err` only when out of memory.
     pub(crate) fn new(alloc: Global, schema: &'s Schema) -> Result<PossibleTypes<'s>, Memory>
         ensures { IfOk result (λ made. made.schema.now ≡ schema.now) }
     {

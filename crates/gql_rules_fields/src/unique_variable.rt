@@ -11,8 +11,8 @@ use jb_map::Pairs;
 use jb_text::{ByteString, Listed, Memory};
 use std::alloc::Global;
 
-/// Lists each variable whose name came before, with the first one's place (GraphQL October 2021, section 5.8.1). `Err` only for
-/// want of memory.
+/// Lists each variable whose name came before, with the first one's place (GraphQL October 2021, section 5.8.1). `Err` only when
+/// out of memory.
 pub fn list_unique_variable(
     alloc: Global,
     variables: &[VariableDefinition],

@@ -7,7 +7,7 @@ use gql_rules_graph::{Graph, flood};
 use jb_text::Memory;
 use std::alloc::Global;
 
-/// Marks each node with 1 that one of these nodes reaches, itself included, and the others with 0. `Err` only for want of memory.
+/// Marks each node with 1 that one of these nodes reaches, itself included, and the others with 0. `Err` only when out of memory.
 pub fn reached(alloc: Global, graph: &Graph, starts: &[usize]) -> Result<Vec<usize>, Memory>
     ensures { IfOk result (λ states. spec.AreReached graph.now starts.now states.items) }
 {

@@ -12,7 +12,7 @@ use jb_text::{Listed, Memory};
 use std::alloc::Global;
 
 /// Lists each spread of a fragment that is not defined, each fragment that spreads itself, be it through others, and each from
-/// which a chain of more than 32 names begins though it reaches none of these. `Err` only for want of memory.
+/// which a chain of more than 32 names begins though it reaches none of these. `Err` only when out of memory.
 pub fn list_spread_faults(
     alloc: Global,
     document: &ExecutableDocument,

@@ -11,7 +11,7 @@ use jb_text::{Listed, Memory};
 use std::alloc::Global;
 
 /// At each fragment the fragments that are spread in it, at every depth. A spread of a fragment that is not defined leads
-/// nowhere. `Err` only for want of memory.
+/// nowhere. `Err` only when out of memory.
 pub fn spread_graph(alloc: Global, fragments: &Table<Fragment>) -> Result<Graph, Memory>
     ensures { IfOk result (λ graph. graph ≡ spec.spread_graph fragments.now) }
 {
@@ -35,7 +35,7 @@ fn spreads_in(
     Ok(numbers)
 }
 
-/// Adds the numbers of the fragments that are spread in these selections, at every depth and in order. `Err` only for want of
+/// Adds the numbers of the fragments that are spread in these selections, at every depth and in order. `Err` only when out of
 /// memory.
 #[cycle(spreads)]
 pub fn add_spreads(

@@ -12,7 +12,7 @@ use gql_rules_base::list_fault;
 use jb_text::{Listed, Memory};
 use std::alloc::Global;
 
-/// Lists each fragment that no operation spreads, be it through others. `Err` only for want of memory.
+/// Lists each fragment that no operation spreads, be it through others. `Err` only when out of memory.
 pub fn list_unused_fragments(
     alloc: Global,
     document: &ExecutableDocument,

@@ -28,7 +28,7 @@ pub struct Judged {
 
 /// Tells of each node whether a walk of at least one edge leads back to it, and whether a chain of more than 32 names begins
 /// there though no cycle is reached. Only the nodes before `named` are names: a chain goes on through the others. `Err` only
-/// for want of memory.
+/// when out of memory.
 pub fn judge(alloc: Global, graph: &Listed<Listed<usize>>, named: usize) -> Result<Judged, Memory>
     ensures { IfOk result (λ judged. spec.AreJudged graph.now named judged.recursive.items judged.long.items) }
 {

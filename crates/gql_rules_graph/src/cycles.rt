@@ -14,7 +14,7 @@ use crate::reverse::reverse;
 use jb_text::{Listed, Memory};
 use std::alloc::Global;
 
-/// Tells of each node whether it is on a cycle. `Err` only for want of memory.
+/// Tells of each node whether it is on a cycle. `Err` only when out of memory.
 pub(crate) fn on_cycles(
     alloc: Global,
     graph: &Listed<Listed<usize>>,

@@ -11,7 +11,7 @@ use std::alloc::Global;
 pub type Graph = Listed<Listed<usize>>;
 
 /// Marks each node with `to` that is reached from one of `starts` over nodes marked `from`, and gives them in the order in
-/// which they are found. It looks at each of their edges once. `Err` only for want of memory.
+/// which they are found. It looks at each of their edges once. `Err` only when out of memory.
 pub fn flood(
     alloc: Global,
     graph: &Listed<Listed<usize>>,

@@ -8,7 +8,7 @@ use crate::reach::targets;
 use jb_text::{Listed, Memory};
 use std::alloc::Global;
 
-/// The same nodes with each edge the other way round. `Err` only for want of memory.
+/// The same nodes with each edge the other way round. `Err` only when out of memory.
 pub(crate) fn reverse(
     alloc: Global,
     graph: &Listed<Listed<usize>>,

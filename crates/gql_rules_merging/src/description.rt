@@ -7,7 +7,7 @@ use itoa::Buffer;
 use jb_text::Memory;
 use std::alloc::Global;
 
-/// Writes the type of the set that a field stands in, its response key, its name and its arguments. `Err` only for want of
+/// Writes the type of the set that a field stands in, its response key, its name and its arguments. `Err` only when out of
 /// memory.
 pub(crate) fn write_head(
     alloc: Global,

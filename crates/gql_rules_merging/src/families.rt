@@ -20,7 +20,7 @@ use jb_text::Memory;
 use std::alloc::Global;
 
 /// Whether no pair of fields breaks the rule, as their families tell. It may be false where no pair does: where fields of one
-/// response key differ that no object has both, or that are not compared with each other but with a third. `Err` only for want
+/// response key differ that no object has both, or that are not compared with each other but with a third. `Err` only when out
 /// of memory. The time is linear in what is entered from all sets.
 pub(crate) fn is_sound_by_families(
     alloc: Global,

@@ -12,7 +12,7 @@ use std::alloc::Global;
 /// set and in the fragments that are spread there, and a second time tells so.
 const MOST_ROUNDS: usize = 16;
 
-/// The family of each field, called after its field of the highest number. `Err` only for want of memory. The time is linear in
+/// The family of each field, called after its field of the highest number. `Err` only when out of memory. The time is linear in
 /// what is entered from all sets.
 pub(crate) fn grown_families(
     alloc: Global,

@@ -22,7 +22,7 @@ use std::alloc::Global;
 
 /// Lists the fields of one response key that cannot be merged (GraphQL October 2021, section 5.3.2): one diagnostic for each
 /// pair of fields that breaks the rule itself, at the one that comes later in the text. Each pair is compared at most once in
-/// full and once by type alone. `Err` only for want of memory: then the list has some of the faults.
+/// full and once by type alone. `Err` only when out of memory: then the list has some of the faults.
 pub fn list_conflicting_fields(
     alloc: Global,
     schema: &Schema,

@@ -41,7 +41,7 @@ pub(crate) struct Numbered<'d> {
     pub(crate) fields: Listed<Selected<'d>>,
 }
 
-/// Numbers the fields of a document: each comes after those that are selected in it. `Err` only for want of memory. The time is
+/// Numbers the fields of a document: each comes after those that are selected in it. `Err` only when out of memory. The time is
 /// linear in the document.
 pub(crate) fn number_fields<'d>(
     alloc: Global,

@@ -10,7 +10,7 @@ use jb_map::Pairs;
 use jb_text::{ByteString, Memory};
 use std::alloc::Global;
 
-/// At each field the number of the first one that has its response key. `Err` only for want of memory. Keys are found by hash.
+/// At each field the number of the first one that has its response key. `Err` only when out of memory. Keys are found by hash.
 pub(crate) fn key_numbers(alloc: Global, fields: &[Selected<'_>]) -> Result<Vec<usize>, Memory>
     ensures { IfOk result (λ keys. keys.items ≡ spec.key_numbers (fields_of fields.now)) }
 {

@@ -10,7 +10,7 @@ use jb_text::{Listed, Memory};
 /// What looks at the nodes of a document, one by one, and lists what it finds.
 ///
 /// Each call adds what is found at the node itself, last, and nothing of what is inside it. A selection comes with the type of
-/// the set that it stands in. `Err` only for want of memory.
+/// the set that it stands in. `Err` only when out of memory.
 pub trait Visitor {
     /// What is found.
     type Found;

@@ -11,7 +11,7 @@ use gql_document_types::{
 };
 use jb_text::{Listed, Memory};
 
-/// Adds what the visitor finds at each node of a document, in the order of the nodes. `Err` only for want of memory. The time
+/// Adds what the visitor finds at each node of a document, in the order of the nodes. `Err` only when out of memory. The time
 /// is linear in the number of nodes, apart from the visitor's.
 pub fn walk_document<V: Visitor>(
     visitor: &V,
@@ -72,7 +72,7 @@ fn walk_fragment<V: Visitor>(
     walk_set(visitor, &fragment.selection_set, found)
 }
 
-/// Adds what the visitor finds at each node of a selection set, in the order of the nodes. `Err` only for want of memory.
+/// Adds what the visitor finds at each node of a selection set, in the order of the nodes. `Err` only when out of memory.
 #[cycle(walk)]
 pub fn walk_set<V: Visitor>(
     visitor: &V,

@@ -43,7 +43,7 @@ pub struct DocumentSets<'d> {
 }
 
 /// The pairs that are compared for the rule on merging fields (GraphQL October 2021, section 5.3.2), each once in full and once
-/// by type alone, but of fields of one class one alone. `Err` only for want of memory.
+/// by type alone, but of fields of one class one alone. `Err` only when out of memory.
 pub fn explore<C: Compares>(
     alloc: Global,
     compares: &C,

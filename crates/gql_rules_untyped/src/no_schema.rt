@@ -12,7 +12,7 @@ use gql_source::SourceMap;
 use jb_text::{Listed, Memory, Refused};
 use std::alloc::{AllocError, Global};
 
-/// A schema without types and directives. `Err` only for want of memory.
+/// A schema without types and directives. `Err` only when out of memory.
 pub(crate) fn no_schema(alloc: Global) -> Result<Schema, Memory>
     ensures { IfOk result (λ schema. schema ≡ spec.no_schema) }
 {
@@ -40,7 +40,7 @@ fn no_roots(alloc: Global) -> SchemaDefinition
     }
 }
 
-/// The name of a type that is not known. `Err` only for want of memory.
+/// The name of a type that is not known. `Err` only when out of memory.
 pub(crate) fn unknown_type(alloc: Global) -> Result<Name, Memory>
     ensures { IfOk result (λ name. name ≡ spec.unknown_type) }
 {
@@ -59,7 +59,7 @@ fn named(alloc: Global, text: &str) -> Result<Name, Memory>
     }
 }
 
-/// The definition of a field that is not known: it has no arguments. `Err` only for want of memory.
+/// The definition of a field that is not known: it has no arguments. `Err` only when out of memory.
 pub(crate) fn unknown_field(alloc: Global) -> Result<Shared<FieldDefinition>, Memory>
     ensures { IfOk result (λ definition. definition ≡ spec.unknown_field) }
 {

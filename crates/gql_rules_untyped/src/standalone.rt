@@ -18,7 +18,7 @@ use std::alloc::Global;
 /// these either come fragments that are not used, second variables and second arguments of a name, and variables that are not used
 /// or not defined.
 ///
-/// `Err` only for want of memory: then the list has some of the faults.
+/// `Err` only when out of memory: then the list has some of the faults.
 pub fn validate_standalone(
     alloc: Global,
     document: &Document,

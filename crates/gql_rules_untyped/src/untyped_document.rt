@@ -14,7 +14,7 @@ use gql_source::SourceMap;
 use jb_text::{Listed, Memory};
 use std::alloc::{AllocError, Global};
 
-/// The document of operations and fragments in which no type is known. It has no files. `Err` only for want of memory.
+/// The document of operations and fragments in which no type is known. It has no files. `Err` only when out of memory.
 pub(crate) fn untyped_document(
     alloc: Global,
     definitions: ExecutableDefinitions,

@@ -28,7 +28,7 @@ use std::alloc::Global;
 /// than 32 names (section 5.5.2). Where there are none of these either, fragments that are not used, second variables and second
 /// arguments of a name, and variables that are not used or not defined (sections 5.4.2, 5.5.1.4 and 5.8).
 ///
-/// `Err` only for want of memory.
+/// `Err` only when out of memory.
 pub(crate) fn list_untyped_faults(
     alloc: Global,
     definitions: &Listed<Definition>,

@@ -11,7 +11,7 @@ use jb_text::{Listed, Memory};
 use std::alloc::Global;
 
 /// The set of these selections, on a type that is not known: all of them, each field with a definition that says nothing. `Err`
-/// only for want of memory.
+/// only when out of memory.
 #[cycle(untyped)]
 pub(crate) fn untyped_set(
     alloc: Global,

@@ -25,8 +25,8 @@ pub struct Call<'s> {
     pub location: Option<SourceSpan>,
 }
 
-/// Lists what is wrong with the arguments of a field or a directive that has these definitions of arguments. `Err` only for
-/// want of memory.
+/// Lists what is wrong with the arguments of a field or a directive that has these definitions of arguments. `Err` only when
+/// out of memory.
 pub fn list_arguments(
     alloc: Global,
     counted: Defined,
@@ -53,7 +53,7 @@ pub fn list_arguments(
     list_required_arguments(alloc, call, arguments, &definitions, faults)
 }
 
-/// Lists what is wrong with arguments of which none is known. `Err` only for want of memory.
+/// Lists what is wrong with arguments of which none is known. `Err` only when out of memory.
 pub(crate) fn list_unknown_arguments(
     alloc: Global,
     counted: Defined,

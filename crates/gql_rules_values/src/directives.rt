@@ -16,7 +16,7 @@ use gql_schema_types::{ExtendedType, Schema, Table};
 use jb_text::{Listed, Memory};
 use std::alloc::Global;
 
-/// Lists what is wrong with the directives at one place of this kind, their arguments included. `Err` only for want of
+/// Lists what is wrong with the directives at one place of this kind, their arguments included. `Err` only when out of
 /// memory.
 pub fn list_directives(
     alloc: Global,

@@ -21,7 +21,7 @@ use gql_schema_types::{ExtendedType, Table};
 use jb_text::{Listed, Memory};
 use std::alloc::Global;
 
-/// Lists what is wrong with a literal at a type, and with the values inside it. `Err` only for want of memory.
+/// Lists what is wrong with a literal at a type, and with the values inside it. `Err` only when out of memory.
 #[cycle(literal)]
 pub fn list_literal(
     alloc: Global,
@@ -50,7 +50,7 @@ pub fn list_literal(
     }
 }
 
-/// Lists what is wrong with a literal where no type is known, and with the values inside it. `Err` only for want of memory.
+/// Lists what is wrong with a literal where no type is known, and with the values inside it. `Err` only when out of memory.
 #[cycle(untyped)]
 pub fn list_untyped(
     alloc: Global,

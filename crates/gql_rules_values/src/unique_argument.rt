@@ -9,8 +9,8 @@ use gql_rules_base::{EachCounts, list_seconds};
 use jb_text::{Listed, Memory};
 use std::alloc::Global;
 
-/// Lists each argument whose name came before, with the first one's place (GraphQL October 2021, section 5.4.2). `Err` only for
-/// want of memory.
+/// Lists each argument whose name came before, with the first one's place (GraphQL October 2021, section 5.4.2). `Err` only when
+/// out of memory.
 pub fn list_unique_argument(
     alloc: Global,
     arguments: &[Argument],

@@ -38,7 +38,7 @@ pub(crate) fn list_unique_keys(
     }
 }
 
-/// Lists each argument in a definition whose name came before in it. `Err` only for want of memory.
+/// Lists each argument in a definition whose name came before in it. `Err` only when out of memory.
 pub fn list_unique_definitions(
     alloc: Global,
     arguments: &[InputValueDefinition],

@@ -17,7 +17,7 @@ use std::alloc::Global;
 /// values of the variable's type may not stand (GraphQL October 2021, sections 5.8.3 to 5.8.5). A use is judged for each
 /// operation that reaches it, and each of these rules lists it once, for the first operation in which it breaks the rule.
 ///
-/// `Err` only for want of memory: then the list has some of the faults.
+/// `Err` only when out of memory: then the list has some of the faults.
 pub fn list_variable_faults<'d>(
     alloc: Global,
     schema: &'d Schema,

@@ -36,7 +36,7 @@ pub(crate) struct Variables<'d> {
 }
 
 impl<'d> Variables<'d> {
-    /// The variables with these definitions. `Err` only for want of memory.
+    /// The variables with these definitions. `Err` only when out of memory.
     pub(crate) fn new(
         alloc: Global,
         types: &'d Table<ExtendedType>,

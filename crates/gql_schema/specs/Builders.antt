@@ -47,7 +47,7 @@ all_faults taken = taken.faults ++ build.build_faults taken.ignores taken.built_
 abbrev pub nothing_taken : Files → BuiltIn → Taken
 nothing_taken sources built_in = record { sources = sources; built_in = built_in; user = no_definitions; faults = []; ignores = false; refused = false }
 
--- The answer judges the schema of what was taken by every fault. After a refusal for want of memory it is want of memory.
+-- The answer judges the schema of what was taken by every fault. Once a call was out of memory, so is the answer.
 pub record IsAnswer (taken : Taken) (answer : Result Schema (Refused (WithErrors Schema))) : Type 0 where
   pub judged : IsJudged (built taken) (all_faults taken) answer
   pub refused : taken.refused ≡ true → answer ≡ Err Memory

@@ -42,7 +42,7 @@ impl SchemaBuilder {
     ghost use Rattle.gql_schema.specs.Builders as spec;
     ghost use Rattle.gql_schema.specs.BuiltInSchema as built_in;
 
-    /// A builder that has taken the built-in definitions alone. `Err` only for want of memory.
+    /// A builder that has taken the built-in definitions alone. `Err` only when out of memory.
     pub fn new(alloc: Global) -> Result<SchemaBuilder, Memory>
         ensures built_in { IfOk result (λ made. built_in.IsBuiltIn (spec.taken made).built_in) }
         ensures empty { IfOk result (λ made. spec.taken made ≡ spec.nothing_taken built_in.built_in_sources (spec.taken made).built_in) }
@@ -72,7 +72,7 @@ impl SchemaBuilder {
 
     /// Takes copies of a document's definitions and files, and the faults and files of the list. A file whose number is
     /// taken is left out. Where `executable_definitions_are_errors` is true, operations and fragments are faults; else they
-    /// are passed over. `Err` only for want of memory: then each further call of the builder is refused too.
+    /// are passed over. `Err` only when out of memory: then each further call of the builder is refused too.
     pub fn add_ast(
         &mut self,
         document: &Document,
@@ -119,7 +119,7 @@ impl SchemaBuilder {
     /// # Errors
     ///
     /// The faults that were taken and those of the build, sorted as [`DiagnosticList::sort`] does, exactly where there
-    /// are any; beside them the schema without what they list. Else want of memory alone, and always after a call that
+    /// are any; beside them the schema without what they list. Otherwise only when out of memory, and always after a call that
     /// was refused for it.
     pub fn build(self) -> Result<Schema, Refused<WithErrors<Schema>>>
         ensures { spec.IsAnswer (spec.taken self) result }

@@ -16,7 +16,7 @@ use jb_text::{Listed, Memory};
 use std::alloc::Global;
 
 /// The schema of these definitions, and the faults in them: what a fault lists is left out. Where `ignores` is true,
-/// definitions of types whose names are built in are passed over. `Err` only for want of memory.
+/// definitions of types whose names are built in are passed over. `Err` only when out of memory.
 ///
 /// Extensions come after all definitions. Of definitions of one name the first stays; a built-in directive is replaced in
 /// its place. Without a `schema` the object types `Query`, `Mutation` and `Subscription` are the root types (GraphQL

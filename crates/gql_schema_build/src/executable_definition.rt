@@ -9,7 +9,7 @@ use gql_schema_parts::list_word;
 use jb_text::{Listed, Memory};
 use std::alloc::Global;
 
-/// Lists each operation and each fragment among the definitions. `Err` only for want of memory.
+/// Lists each operation and each fragment among the definitions. `Err` only when out of memory.
 pub fn list_executable_definitions(
     alloc: Global,
     definitions: &Listed<Definition>,

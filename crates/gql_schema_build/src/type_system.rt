@@ -38,7 +38,7 @@ impl TypeSystem {
     }
 
     /// Takes the definitions of a document too, each last among those of its kind; operations and fragments are left
-    /// out. `Err` only for want of memory: then some of them are taken.
+    /// out. `Err` only when out of memory: then some of them are taken.
     pub fn take_all(&mut self, definitions: Listed<Definition>) -> Result<(), Memory>
         ensures { OnOk result (self.new ≡ spec.with_definitions self.old definitions) }
     {

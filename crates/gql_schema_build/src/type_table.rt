@@ -65,7 +65,7 @@ fn put_built(
     put(table, built(alloc, definition, faults)?)
 }
 
-/// Puts an entry into the table. `Err` only for want of memory.
+/// Puts an entry into the table. `Err` only when out of memory.
 pub(crate) fn put<T: Named + Drop>(table: &mut Table<T>, item: T) -> Result<(), Memory>
     ensures { OnOk result (table.new ≡ put T.own table.old item) }
 {

@@ -17,7 +17,7 @@ use std::alloc::Global;
 
 /// The built-in definitions, and the file that their places are in.
 ///
-/// They are made of rows of places in their text, and are what the text means. `Err` for want of memory. It would come as
+/// They are made of rows of places in their text, and are what the text means. `Err` when out of memory. It would come as
 /// well at a row with a place that the text does not have, or a name that is none; there is no such row, which a test shows.
 pub fn built_in(alloc: Global) -> Result<(BuiltIn, SourceMap), Memory>
     ensures definitions { IfOk result (λ made. spec.IsBuiltIn made.0) }

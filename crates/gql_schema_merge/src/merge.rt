@@ -10,7 +10,7 @@ use gql_schema_types::Named;
 use jb_map::Pairs;
 use jb_text::{Listed, Memory};
 
-/// Adds what each extension gives to the definition of its name, where there is one of its kind. `Err` only for want of
+/// Adds what each extension gives to the definition of its name, where there is one of its kind. `Err` only when out of
 /// memory: then some of it is added.
 pub fn merge_all(
     types: &mut Pairs<TypeDefinition>,

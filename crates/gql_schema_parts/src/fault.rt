@@ -9,7 +9,7 @@ use gql_source::SourceSpan;
 use jb_text::{Listed, Memory, Text};
 use std::alloc::Global;
 
-/// Lists a broken rule whose message tells no name. `Err` only for want of memory.
+/// Lists a broken rule whose message tells no name. `Err` only when out of memory.
 pub fn list_nameless(
     alloc: Global,
     rule: Rule,
@@ -22,7 +22,7 @@ pub fn list_nameless(
     faults.push(fault(rule, Listed::new(alloc), location, other))
 }
 
-/// Lists a broken rule whose message tells this word. `Err` only for want of memory.
+/// Lists a broken rule whose message tells this word. `Err` only when out of memory.
 pub fn list_word(
     alloc: Global,
     rule: Rule,
@@ -37,7 +37,7 @@ pub fn list_word(
     faults.push(fault(rule, names, location, other))
 }
 
-/// Lists a rule that what has this name breaks. `Err` only for want of memory.
+/// Lists a rule that what has this name breaks. `Err` only when out of memory.
 pub fn list_name(
     alloc: Global,
     rule: Rule,
@@ -80,7 +80,7 @@ fn fault(
     }
 }
 
-/// One text. `Err` only for want of memory.
+/// One text. `Err` only when out of memory.
 fn one_text(alloc: Global, one: &str) -> Result<Listed<Text>, Memory>
     ensures { IfOk result (λ list. list ≡ one.now ∷ []) }
 {
@@ -89,7 +89,7 @@ fn one_text(alloc: Global, one: &str) -> Result<Listed<Text>, Memory>
     Ok(list)
 }
 
-/// Two texts. `Err` only for want of memory.
+/// Two texts. `Err` only when out of memory.
 fn two_texts(alloc: Global, one: &str, two: &str) -> Result<Listed<Text>, Memory>
     ensures { IfOk result (λ list. list ≡ one.now ∷ two.now ∷ []) }
 {

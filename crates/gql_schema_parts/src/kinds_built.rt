@@ -179,7 +179,7 @@ fn input_object_type(
     })
 }
 
-/// The type of an object type's definition (GraphQL October 2021, section 3.6), and the faults in this. `Err` only for want of
+/// The type of an object type's definition (GraphQL October 2021, section 3.6), and the faults in this. `Err` only when out of
 /// memory.
 pub fn any_object(
     alloc: Global,
@@ -192,7 +192,7 @@ pub fn any_object(
     Ok(ExtendedType::Object(object_type(alloc, definition, faults)?))
 }
 
-/// The type of an interface's definition (GraphQL October 2021, section 3.7), and the faults in this. `Err` only for want of
+/// The type of an interface's definition (GraphQL October 2021, section 3.7), and the faults in this. `Err` only when out of
 /// memory.
 pub fn any_interface(
     alloc: Global,
@@ -205,7 +205,7 @@ pub fn any_interface(
     Ok(ExtendedType::Interface(interface_type(alloc, definition, faults)?))
 }
 
-/// The type of a union's definition (GraphQL October 2021, section 3.8), and the faults in this. `Err` only for want of
+/// The type of a union's definition (GraphQL October 2021, section 3.8), and the faults in this. `Err` only when out of
 /// memory.
 pub fn any_union(
     alloc: Global,
@@ -218,7 +218,7 @@ pub fn any_union(
     Ok(ExtendedType::Union(union_type(alloc, definition, faults)?))
 }
 
-/// The type of an enum's definition (GraphQL October 2021, section 3.9), and the faults in this. `Err` only for want of
+/// The type of an enum's definition (GraphQL October 2021, section 3.9), and the faults in this. `Err` only when out of
 /// memory.
 pub fn any_enum(
     alloc: Global,
@@ -231,7 +231,7 @@ pub fn any_enum(
     Ok(ExtendedType::Enum(enum_type(alloc, definition, faults)?))
 }
 
-/// The type of an input object type's definition (GraphQL October 2021, section 3.10), and the faults in this. `Err` only for want of
+/// The type of an input object type's definition (GraphQL October 2021, section 3.10), and the faults in this. `Err` only when out of
 /// memory.
 pub fn any_input_object(
     alloc: Global,

@@ -6,7 +6,7 @@ use gql_schema_types::Shared;
 use jb_text::{Listed, Memory};
 use std::alloc::Global;
 
-/// The items as a list. `Err` only for want of memory.
+/// The items as a list. `Err` only when out of memory.
 pub fn listed<T: Drop>(alloc: Global, items: Vec<T>) -> Result<Listed<T>, Memory>
     ensures { IfOk result (λ list. list ≡ items.items) }
 {

@@ -25,7 +25,7 @@ use std::alloc::Global;
 /// diagnostic for each fault of each rule, in the order of lists. No variable is looked at, and nothing is asked of a type that the
 /// schema does not have.
 ///
-/// `Err` only for want of memory: then the list has some of the faults.
+/// `Err` only when out of memory: then the list has some of the faults.
 pub fn check_literal(
     alloc: Global,
     schema: &Schema,
@@ -53,7 +53,7 @@ pub fn check_literal(
 /// (GraphQL October 2021, section 5.4), the values inside them included: one diagnostic for each fault of each rule, in the order
 /// of lists. No variable is looked at, and nothing is asked of a type that the schema does not have.
 ///
-/// `Err` only for want of memory: then the list has some of the faults.
+/// `Err` only when out of memory: then the list has some of the faults.
 pub fn check_arguments(
     alloc: Global,
     schema: &Schema,
@@ -91,7 +91,7 @@ pub fn check_arguments(
 /// included: one diagnostic for each fault of each rule, in the order of lists. No variable is looked at, and nothing is asked of a
 /// type that the schema does not have.
 ///
-/// `Err` only for want of memory: then the list has some of the faults.
+/// `Err` only when out of memory: then the list has some of the faults.
 pub fn check_directives(
     alloc: Global,
     schema: &Schema,

@@ -17,7 +17,7 @@ use std::alloc::{AllocError, Global};
 const BUILT_IN_SCALARS: [&str; 5] = ["Int", "Float", "String", "Boolean", "ID"];
 
 /// Adds each built-in scalar last that is named and missing, and drops each of `Int`, `Float` and `ID` that is not named.
-/// Refused for want of memory, the types are as they were.
+/// Where memory has run out, the types are as they were.
 pub(crate) fn settle_scalars(
     alloc: Global,
     definitions: &Table<DirectiveDefinition>,
@@ -46,7 +46,7 @@ fn drop_unused(
     }
 }
 
-/// Adds each of these scalars last that is named and missing. Refused for want of memory, the types are as they were.
+/// Adds each of these scalars last that is named and missing. Where memory has run out, the types are as they were.
 #[cycle(add)]
 fn add_missing(
     alloc: Global,
@@ -95,7 +95,7 @@ fn add_first(
     }
 }
 
-/// Adds the scalar of a name, which is missing. Refused for want of memory, the types are as they were.
+/// Adds the scalar of a name, which is missing. Where memory has run out, the types are as they were.
 fn add_scalar(alloc: Global, types: &mut Table<ExtendedType>, name: &str) -> Result<(), Memory>
     requires name { is_name name.now ≡ true }
     requires missing { type_called name.now types.old ≡ None }

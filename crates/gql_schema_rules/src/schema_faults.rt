@@ -13,7 +13,7 @@ use gql_schema_types::Schema;
 use jb_text::{Listed, Memory};
 use std::alloc::Global;
 
-/// What is wrong with a schema: one diagnostic for each fault of each rule. `Err` only for want of memory.
+/// What is wrong with a schema: one diagnostic for each fault of each rule. `Err` only when out of memory.
 pub(crate) fn schema_faults(
     alloc: Global,
     schema: &Schema,

@@ -9,7 +9,7 @@ use gql_diag::DiagnosticList;
 use gql_diag_messages::DiagnosticData;
 use jb_text::{Listed, Memory};
 
-/// Takes these faults, and sorts the list. `Err` only for want of memory: then the list has taken some of them.
+/// Takes these faults, and sorts the list. `Err` only when out of memory: then the list has taken some of them.
 pub fn take_faults(
     faults: Listed<DiagnosticData>,
     errors: &mut DiagnosticList,
@@ -22,7 +22,7 @@ pub fn take_faults(
     errors.sort()
 }
 
-/// Takes these faults last. Refused for want of memory, it has taken some of them.
+/// Takes these faults last. Where memory has run out, it has taken some of them.
 fn push_faults(faults: Listed<DiagnosticData>, errors: &mut DiagnosticList) -> Result<(), Memory>
     ensures items { OnOk result (errors.new.items ≡ errors.old.items ++ faults) }
     ensures sources { errors.new.sources ≡ errors.old.sources }

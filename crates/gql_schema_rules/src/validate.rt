@@ -18,7 +18,7 @@ use std::alloc::Global;
 /// Then each of the scalars `Int`, `Float` and `ID` is dropped that nothing names which is not built in, and each built-in scalar
 /// that is named and missing is added last. One that is missing counts as defined.
 ///
-/// `Err` only for want of memory: then the list has some of the faults, and the schema is as it was.
+/// `Err` only when out of memory: then the list has some of the faults, and the schema is as it was.
 pub fn validate_schema(
     alloc: Global,
     schema: &mut Schema,
@@ -34,7 +34,7 @@ pub fn validate_schema(
     settle_scalars(alloc, &schema.directive_definitions, &mut schema.types)
 }
 
-/// Lists what is wrong with a schema, in the order of lists. Refused for want of memory, the list has some of the faults.
+/// Lists what is wrong with a schema, in the order of lists. Where memory has run out, the list has some of the faults.
 fn list_faults(alloc: Global, schema: &Schema, errors: &mut DiagnosticList) -> Result<(), Memory>
     ensures faults { OnOk result (HasListedAllFaults schema.now errors.old.items errors.new.items) }
     ensures sources { errors.new.sources ≡ errors.old.sources }

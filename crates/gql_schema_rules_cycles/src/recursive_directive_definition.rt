@@ -15,7 +15,7 @@ use jb_text::{Listed, Memory};
 use std::alloc::Global;
 
 /// Lists each directive that is used in its own definition, by the directives on its arguments and on the input types that these
-/// name, and each from which a chain of more than 32 begins though it reaches none of these. `Err` only for want of memory.
+/// name, and each from which a chain of more than 32 begins though it reaches none of these. `Err` only when out of memory.
 pub fn list_recursive_directives(
     alloc: Global,
     definitions: &Table<DirectiveDefinition>,

@@ -15,7 +15,7 @@ use jb_text::{Listed, Memory};
 use std::alloc::Global;
 
 /// Lists each input object that needs itself by fields of types `T!`, and each from which a chain of more than 32 begins though
-/// it reaches none of these. `Err` only for want of memory.
+/// it reaches none of these. `Err` only when out of memory.
 pub fn list_recursive_input_objects(
     alloc: Global,
     types: &Table<ExtendedType>,

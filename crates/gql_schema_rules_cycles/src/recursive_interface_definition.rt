@@ -13,7 +13,7 @@ use jb_text::{Listed, Memory};
 use std::alloc::Global;
 
 /// Lists each interface that implements itself by what it lists, and each from which a chain of more than 32 begins though it
-/// reaches none of these. `Err` only for want of memory.
+/// reaches none of these. `Err` only when out of memory.
 pub fn list_recursive_interfaces(
     alloc: Global,
     types: &Table<ExtendedType>,

@@ -14,7 +14,7 @@ use gql_schema_types::{ExtendedType, InterfaceType, Shared, Table};
 use jb_text::{Listed, Memory};
 use std::alloc::Global;
 
-/// Lists what is wrong with each type as an implementation of the interfaces that it lists. `Err` only for want of memory.
+/// Lists what is wrong with each type as an implementation of the interfaces that it lists. `Err` only when out of memory.
 pub fn list_interfaces(
     alloc: Global,
     types: &Table<ExtendedType>,

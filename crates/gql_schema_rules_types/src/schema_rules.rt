@@ -18,7 +18,7 @@ use gql_schema_types::Schema;
 use jb_text::{Listed, Memory};
 use std::alloc::Global;
 
-/// Lists what is wrong with the schema as a whole: its directives and its root types. `Err` only for want of memory.
+/// Lists what is wrong with the schema as a whole: its directives and its root types. `Err` only when out of memory.
 pub fn list_schema_definition(
     alloc: Global,
     schema: &Schema,
@@ -79,7 +79,7 @@ fn list_root_name(
     list_root_operation_object_type(alloc, &schema.types, name, faults)
 }
 
-/// Lists what is wrong with the definitions of directives that are not built in. `Err` only for want of memory.
+/// Lists what is wrong with the definitions of directives that are not built in. `Err` only when out of memory.
 pub fn list_directive_definitions(
     alloc: Global,
     schema: &Schema,

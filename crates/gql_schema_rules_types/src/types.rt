@@ -32,7 +32,7 @@ use gql_source::SourceSpan;
 use jb_text::{Listed, Memory};
 use std::alloc::Global;
 
-/// Lists what is wrong with the types, each by itself. `Err` only for want of memory.
+/// Lists what is wrong with the types, each by itself. `Err` only when out of memory.
 pub fn list_types(
     alloc: Global,
     schema: &Schema,

@@ -177,7 +177,7 @@ some_broken schema old list start all some sources = record {
 pub not_empty : (b : Bool) (items : List DiagnosticData) → (items ≡ [] → b ≡ true) → b ≡ false → items ≢ []
 not_empty b items is test none = false≢true (sym test ∙ is none)
 
--- want of memory tells nothing of the rules
+-- out of memory tells nothing of the rules
 pub no_memory : (schema : Schema) (result : Result Schema (Refused Diagnostics)) → IsErrAnd result (λ f. f ≡ Memory) → IsRuled schema result
 no_memory schema (Ok made) is = absurd is
 no_memory schema (Err f) is = subst (λ (g : Refused Diagnostics). IsRuled schema (Err g)) (sym is) tt

@@ -17,13 +17,14 @@ use jb_text::{Memory, Refused};
 use std::alloc::{AllocError, Global};
 
 /// The schema that a text means, with the built-in definitions and with the built-in scalars as validation leaves them
-/// (GraphQL October 2021, section 3). The text is the file of number 3, `schema.graphql`, and is nested at most 500 deep.
+/// (GraphQL October 2021, sections 2 and 3). The text is the file of number 3, `schema.graphql`, and is nested at most 500 deep; any
+/// number of tokens is read.
 ///
 /// # Errors
 ///
 /// The diagnostics of the first phase that finds something, exactly where one does: the one that ends the reading of the
 /// text, or those of the build, or those of the rules, in the order of lists and with the built-in file and the text's.
-/// Else want of memory alone.
+/// Otherwise only when out of memory.
 pub fn schema_of_text(alloc: Global, text: &str) -> Result<Schema, Refused<DiagnosticList>>
     ensures { IsSchemaRead text.now result }
 {

@@ -63,7 +63,7 @@ impl ImplementersMap {
 
 impl Schema {
     /// The types that implement each interface, whether the schema defines it or not (GraphQL October 2021, sections
-    /// 3.6 and 3.7). `Err` only for want of memory.
+    /// 3.6 and 3.7). `Err` only when out of memory.
     pub fn implementers_map(&self, alloc: Global) -> Result<ImplementersMap, Memory>
         ensures { IfOk result (λ map. (name : List ℕ) → lookup (bytes_eq name) map ≡ spec.implementers_of name self.now.types) }
     {

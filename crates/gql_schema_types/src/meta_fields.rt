@@ -45,7 +45,7 @@ impl Model for MetaFields {
 impl MetaFields {
     ghost use Rattle.gql_schema_types.specs.Schemas.{meta_field};
 
-    /// The fields. `Err` only for want of memory.
+    /// The fields. `Err` only when out of memory.
     pub fn new(alloc: Global) -> Result<MetaFields, Memory>
         ensures { IfOk result (λ made. made ≡ true) }
     {
@@ -81,7 +81,7 @@ impl MetaFields {
     }
 }
 
-/// The name with a text that is one, from no place. `Err` only for want of memory.
+/// The name with a text that is one, from no place. `Err` only when out of memory.
 fn name(alloc: Global, text: &str) -> Result<Name, Memory>
     requires { is_name text.now ≡ true }
     ensures { IfOk result (λ name. name ≡ spec.named text.now) }

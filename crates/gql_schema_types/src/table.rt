@@ -54,7 +54,7 @@ impl<T: Named> Table<T> {
         }
     }
 
-    /// No entries, with room for `capacity` of them. `Err` only for want of memory.
+    /// No entries, with room for `capacity` of them. `Err` only when out of memory.
     pub fn with_capacity(alloc: Global, capacity: usize) -> Result<Table<T>, Memory>
         ensures { IfOk result (λ made. made ≡ []) }
     {
@@ -120,7 +120,7 @@ impl<T: Named> Table<T> {
         }
     }
 
-    /// Puts an entry in the place of the one of its name, which it hands out, or else last. `Err` only for want of
+    /// Puts an entry in the place of the one of its name, which it hands out, or else last. `Err` only when out of
     /// memory: it hands the entry back, and the table is as it was. Over a name that is there it takes no memory.
     pub fn insert(&mut self, item: T) -> Result<Option<T>, T>
         ensures replaced { IfOk result (λ old. old ≡ entry T.own (T.own item).text self.old) }
@@ -137,7 +137,7 @@ impl<T: Named> Table<T> {
         }
     }
 
-    /// Adds an entry whose name is not there, last. `Err` only for want of memory: it hands the entry back, and the
+    /// Adds an entry whose name is not there, last. `Err` only when out of memory: it hands the entry back, and the
     /// table is as it was.
     pub fn insert_new(&mut self, item: T) -> Result<(), T>
         requires { entry T.own (T.own item).text self.old ≡ None }
@@ -218,7 +218,7 @@ fn scan<T: Named>(entries: &[T], name: &str) -> Option<usize>
 }
 
 /// Notes in the index, where there is one, that the name comes last; makes the index where there are now too many
-/// entries to go through. `Err` only for want of memory, with the index as it was.
+/// entries to go through. `Err` only when out of memory, with the index as it was.
 fn note_name<T: Named>(
     alloc: Global,
     index: &mut Option<Box<KeyTable>>,

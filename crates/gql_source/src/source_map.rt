@@ -84,8 +84,8 @@ impl SourceMap {
         self.entries.truncate(count);
     }
 
-    /// Puts each file of `others`, in turn, behind the others, unless a file has its number. Refused for want of
-    /// memory it leaves the files as they were.
+    /// Puts each file of `others`, in turn, behind the others, unless a file has its number. Where memory has run
+    /// out it leaves the files as they were.
     pub fn merge(&mut self, others: SourceMap) -> Result<(), Memory>
         ensures joined { OnOk result (self.new ≡ joined self.old others) }
         ensures front { take (length self.old) self.new ≡ self.old }

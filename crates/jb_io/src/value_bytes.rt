@@ -65,15 +65,15 @@ pub trait ValueBytes: Sized {
         ensures broken { IfErr result (IsFaultOf text.now) }
         ensures refused { (f : ReadFault) → JsonFault text.now f → Answered result (Err f) };
 
-    /// The compact text of the value, without white space. `Err` only for want of memory.
+    /// The compact text of the value, without white space. `Err` only when out of memory.
     fn to_bytes(&self, alloc: Global) -> Result<Bytes, Memory>
         ensures { IfOk result (λ bytes. bytes ≡ compact_text self.now) };
 
-    /// The same text as a [`Text`]. `Err` only for want of memory.
+    /// The same text as a [`Text`]. `Err` only when out of memory.
     fn to_text(&self, alloc: Global) -> Result<Text, Memory>
         ensures { IfOk result (λ text. text ≡ compact_text self.now) };
 
-    /// The text with a line for each item and pair, two spaces deeper for each level. `Err` only for want of memory.
+    /// The text with a line for each item and pair, two spaces deeper for each level. `Err` only when out of memory.
     fn to_pretty(&self, alloc: Global) -> Result<Text, Memory>
         ensures { IfOk result (λ text. text ≡ pretty_text self.now) };
 }

@@ -55,7 +55,7 @@ impl KeyTable {
         self.texts.get_index_of(key)
     }
 
-    /// Adds a key that is not there, last. `Err` only when out of memory, with nothing changed.
+    /// Adds a key, last. It must not be there. `Err` only when out of memory, with nothing changed.
     pub fn push(&mut self, alloc: Global, key: &str) -> Result<(), Memory>
         requires { position (bytes_eq key.now) self.old ≡ None }
         ensures pushed { OnOk result (self.new ≡ self.old ++ key.now ∷ []) }
@@ -66,7 +66,7 @@ impl KeyTable {
         Ok(())
     }
 
-    /// Takes the key at `index` out; the later ones close up. It takes no memory.
+    /// Takes the key at `index`, which is below the number of keys, out; the later ones close up. It takes no memory.
     pub fn remove(&mut self, index: usize)
         requires { index < length self.old }
         ensures { self.new ≡ remove self.old index }

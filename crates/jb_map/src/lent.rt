@@ -13,7 +13,7 @@ use crate::pairs::Pairs;
 use jb_walks::{IterMut, ValuesMut};
 
 impl<V> Pairs<V> {
-    /// The value at `key`, to be changed in place. What is written there changes that value alone.
+    /// The value at `key`, to be changed in place, `None` exactly where it is not there. What is written there changes that value alone.
     pub fn get_mut(&mut self, key: &str) -> Option<&mut V>
         ensures* writes_back { sem 𝓛 (LendsIf (the_row V.row) V.row self.entry result (set_value (bytes_eq key.now) self.old) self.old) }
         ensures value { option_copied_mut result ≡ lookup (bytes_eq key.now) self.old }
@@ -24,7 +24,7 @@ impl<V> Pairs<V> {
         }
     }
 
-    /// The value of the pair at `index`, to be changed in place.
+    /// The value of the pair at `index`, which is below the number of pairs, to be changed in place.
     pub fn value_mut_at(&mut self, index: usize) -> &mut V
         requires { index < length self.old }
         ensures* writes_back { sem 𝓛 (Lends (the_row V.row) V.row self.entry result (set_value_at self.old index)) }

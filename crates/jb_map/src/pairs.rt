@@ -74,7 +74,7 @@ impl<V> Pairs<V> {
         self.len() == 0
     }
 
-    /// The place of `key` among the pairs.
+    /// The place of `key` among the pairs, `None` exactly where it is not there.
     #[inline(always)]
     pub fn find(&self, key: &str) -> Option<usize>
         ensures { result ≡ position (bytes_eq key.now) (keys_of self.now) }
@@ -89,7 +89,7 @@ impl<V> Pairs<V> {
         self.find(key).is_some()
     }
 
-    /// The stored key and the value at `key`.
+    /// The stored key and the value at `key`, `None` exactly where it is not there.
     pub fn get_key_value(&self, key: &str) -> Option<(&ByteString, &V)>
         ensures { option_map deref_pair result ≡ lookup_entry (bytes_eq key.now) self.now }
     {
@@ -99,7 +99,7 @@ impl<V> Pairs<V> {
         }
     }
 
-    /// The value at `key`.
+    /// The value at `key`, `None` exactly where it is not there.
     pub fn get(&self, key: &str) -> Option<&V>
         ensures { option_copied result ≡ lookup (bytes_eq key.now) self.now }
     {
@@ -130,7 +130,7 @@ impl<V> Pairs<V> {
         Values::new(self.values.as_slice())
     }
 
-    /// The key of the pair at `index`.
+    /// The key of the pair at `index`, which is below the number of pairs.
     pub fn key_at(&self, index: usize) -> &ByteString
         requires { index < length self.now }
         ensures { slice_get (keys_of self.now) index ≡ Some result.now }
@@ -138,7 +138,7 @@ impl<V> Pairs<V> {
         self.keys.at(index)
     }
 
-    /// The value of the pair at `index`.
+    /// The value of the pair at `index`, which is below the number of pairs.
     pub fn value_at(&self, index: usize) -> &V
         requires { index < length self.now }
         ensures { slice_get (values_of self.now) index ≡ Some result.now }
@@ -176,7 +176,7 @@ impl<V: Drop> Pairs<V> {
         }
     }
 
-    /// Adds a pair whose key is not there, last. `Err` only when out of memory: the pair is then dropped, and the map
+    /// Adds a pair, last. Its key must not be there. `Err` only when out of memory: the pair is then dropped, and the map
     /// is as it was.
     pub fn insert_new(&mut self, key: ByteString, value: V) -> Result<(), Memory>
         requires { position (bytes_eq key) (keys_of self.old) ≡ None }

@@ -8,7 +8,8 @@ use crate::pairs::Pairs;
 use jb_text::ByteString;
 
 impl<V: Drop> Pairs<V> {
-    /// Takes the pair of `key` out and gives its value. The last pair moves into the gap. It takes no memory.
+    /// Takes the pair of `key` out and gives its value, `None` exactly where it is not there. The last pair moves into the gap. It
+    /// takes no memory.
     pub fn remove(&mut self, key: &str) -> Option<V>
         ensures value { result ≡ lookup (bytes_eq key.now) self.old }
         ensures pairs { self.new ≡ swap_remove_entry (bytes_eq key.now) self.old }
@@ -19,7 +20,8 @@ impl<V: Drop> Pairs<V> {
         }
     }
 
-    /// Takes the pair of `key` out and gives it. The last pair moves into the gap. It takes no memory.
+    /// Takes the pair of `key` out and gives it, `None` exactly where it is not there. The last pair moves into the gap. It takes
+    /// no memory.
     pub fn remove_entry(&mut self, key: &str) -> Option<(ByteString, V)>
         ensures pair { result ≡ lookup_entry (bytes_eq key.now) self.old }
         ensures pairs { self.new ≡ swap_remove_entry (bytes_eq key.now) self.old }

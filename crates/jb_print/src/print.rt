@@ -20,7 +20,7 @@ const FIRST_ROOM: usize = 128;
 /// A quote and a backslash get a backslash, backspace, form feed, line feed, carriage return and tab their
 /// letter, other bytes below 0x20 `\u00xx` in lower-case hexadecimal; all else stands as it is.
 ///
-/// `Err` only for want of memory.
+/// `Err` only when out of memory.
 pub fn to_bytes(alloc: Global, value: &Value) -> Result<Bytes, Memory>
     ensures { IfOk result (λ bytes. bytes ≡ compact value.now) }
 {
@@ -28,15 +28,15 @@ pub fn to_bytes(alloc: Global, value: &Value) -> Result<Bytes, Memory>
     Ok(Bytes::from_vec(text.into_bytes())?)
 }
 
-/// The same text as a [`Text`]. `Err` only for want of memory.
+/// The same text as a [`Text`]. `Err` only when out of memory.
 pub fn to_text(alloc: Global, value: &Value) -> Result<Text, Memory>
     ensures { IfOk result (λ text. text ≡ compact value.now) }
 {
     Ok(Text::from_string(compact_string(alloc, value)?))
 }
 
-/// The JSON text of `value` with a line for each item and pair: two spaces deeper for each level, `"key": value`,
-/// and `[]` and `{}` where there are none. Strings are as in [`to_bytes`]. `Err` only for want of memory.
+/// The JSON text (RFC 8259) of `value` with a line for each item and pair: two spaces deeper for each level, `"key": value`,
+/// and `[]` and `{}` where there are none. Strings are as in [`to_bytes`]. `Err` only when out of memory.
 pub fn to_pretty(alloc: Global, value: &Value) -> Result<Text, Memory>
     ensures { IfOk result (λ text. text ≡ pretty value.now) }
 {
@@ -45,21 +45,22 @@ pub fn to_pretty(alloc: Global, value: &Value) -> Result<Text, Memory>
     Ok(Text::from_string(text))
 }
 
-/// Appends the text that [`to_bytes`] gives. `Err` only for want of memory.
+/// Appends the text that [`to_bytes`] gives. `Err` only when out of memory: then some of it may be there.
 pub fn append_value(out: &mut String, value: &Value) -> Result<(), Memory>
     ensures { OnOk result (string_bytes out.new ≡ string_bytes out.old ++ compact value.now) }
 {
     write_value(out, value)
 }
 
-/// Appends the text that [`to_bytes`] gives of an object with these members. `Err` only for want of memory.
+/// Appends the text that [`to_bytes`] gives of an object with these members. `Err` only when out of memory: then some of it may be
+/// there.
 pub fn append_object(out: &mut String, members: &Map) -> Result<(), Memory>
     ensures { OnOk result (string_bytes out.new ≡ string_bytes out.old ++ compact (json.Object members.now)) }
 {
     write_members(out, members)
 }
 
-/// Appends the text that [`to_bytes`] gives of a string. `Err` only for want of memory.
+/// Appends the text that [`to_bytes`] gives of a string. `Err` only when out of memory: then some of it may be there.
 pub fn append_string(out: &mut String, text: &str) -> Result<(), Memory>
     ensures { OnOk result (string_bytes out.new ≡ string_bytes out.old ++ quoted text.now) }
 {

@@ -77,12 +77,12 @@ pub record FrontFault (bytes : List ℕ) (fault : ReadFault) : Type 0 where
   pub breaks : Breaks stop 127 (skip_white bytes)
   pub placed : place_of (length bytes) stop ≡ fault
 
--- a refusal that is no want of memory is that fault
+-- a refusal that is not out of memory is that fault
 abbrev pub IsFrontFaultOf : List ℕ → Refused ReadFault → Type 0
 IsFrontFaultOf bytes (refused.Fault fault) = FrontFault bytes fault
 IsFrontFaultOf bytes refused.Memory = Unit {0}
 
--- a refusal that is no want of memory is the first fault of the bytes
+-- a refusal that is not out of memory is the first fault of the bytes
 abbrev pub IsFaultOf : List ℕ → Refused ReadFault → Type 0
 IsFaultOf bytes (refused.Fault fault) = JsonFault bytes fault
 IsFaultOf bytes refused.Memory = Unit {0}

@@ -29,7 +29,7 @@ abbrev pub told_text : Result (Bor (List ℕ)) Broken → Result (List ℕ) Brok
 told_text (Ok text) = Ok text.now
 told_text (Err e) = Err e
 
--- the fault that reading gives, or want of memory
+-- the fault that reading gives, or out of memory
 abbrev pub Fails : {Y : Type 0} → Refused Broken → Result Y Broken → Type 0
 Fails (refused.Fault e) read = read ≡ Err e
 Fails refused.Memory read = Unit {0}

@@ -77,7 +77,13 @@ fn placed_whole(alloc: Global, bytes: &Bytes) -> Result<Value, Refused<ReadFault
 }
 
 /// The value that a text begins with, behind white space (RFC 8259, section 2). What follows the value is ignored, but
-/// a number ends where no digit, `.`, `e` or `E` follows it. The first fault from the left is refused with its place.
+/// a number ends where no digit, `.`, `e` or `E` follows it.
+///
+/// # Errors
+///
+/// The first fault from the left, with its place, counted in bytes: `Syntax`, `Float` for a number with a fraction or an exponent
+/// and for `-0`, `NumberRange` for one below -2^63 or above 2^64-1, or `Depth` for the bracket that opens the 128th level. `Memory`
+/// only when out of memory.
 pub fn from_bytes(alloc: Global, bytes: &Bytes) -> Result<Value, Refused<ReadFault>>
     // The first fault from the left, or the value.
     ensures exact { Answers result (text_front bytes.now) }
@@ -91,8 +97,11 @@ pub fn from_bytes(alloc: Global, bytes: &Bytes) -> Result<Value, Refused<ReadFau
     placed_front(alloc, bytes)
 }
 
-/// The one value of a text, between white space (RFC 8259, section 2). The first fault from the left is refused with
-/// its place: `Syntax` too for a byte behind the value that is no white space.
+/// The one value of a text, between white space (RFC 8259, section 2).
+///
+/// # Errors
+///
+/// Those of [`from_bytes`], and `Syntax` too for a byte behind the value that is no white space.
 pub fn from_bytes_whole(alloc: Global, bytes: &Bytes) -> Result<Value, Refused<ReadFault>>
     // The first fault from the left, or the value.
     ensures exact { Answers result (text_value bytes.now) }
@@ -106,7 +115,7 @@ pub fn from_bytes_whole(alloc: Global, bytes: &Bytes) -> Result<Value, Refused<R
     placed_whole(alloc, bytes)
 }
 
-/// As [`from_bytes_whole`], over a copy of `text`.
+/// As [`from_bytes_whole`], over a copy of `text`, with the same errors.
 pub fn from_str(alloc: Global, text: &str) -> Result<Value, Refused<ReadFault>>
     // The first fault from the left, or the value.
     ensures exact { Answers result (text_value text.now) }

@@ -46,7 +46,7 @@ pub trait Command {
     ///
     /// # Errors
     ///
-    /// Only for want of memory.
+    /// Only when out of memory.
     fn reply(&self, alloc: Global, bytes: &Bytes) -> Result<Reply, Memory>
         ensures { IfOk result (IsReply (answers self.now) (refuses self.now) bytes.now) };
 }

@@ -18,7 +18,7 @@ pub const REFUSED: u8 = 1;
 /// The status where the words are no command, and the usage line was written.
 pub const MISUSED: u8 = 2;
 
-/// The status for want of memory. Nothing was written.
+/// The status when out of memory. Nothing was written.
 pub const NO_MEMORY: u8 = 3;
 
 /// The status where the source could not be read. Nothing was written.

@@ -4,7 +4,7 @@ use Rattle.jb_text.specs.declared.refused.Refused.{Refused}
 use Rattle.jb_text.specs.declared.refused.Refused.TheVariants.{Fault, Memory}
 use Rattle.jb_shape.specs.declared.shape_error.ShapeError.{ShapeError}
 
--- the thing or the cause that is wanted; want of memory is free
+-- the thing or the cause that is wanted; out of memory is free
 abbrev pub Answers : {A : Type 0} → Result A ShapeError → Result A (Refused ShapeError) → Type 0
 Answers wanted (Ok found) = wanted ≡ Ok found
 Answers wanted (Err (Fault cause)) = wanted ≡ Err cause

@@ -24,7 +24,8 @@ impl Value {
         Value::Array(items)
     }
 
-    /// The object of these pairs, each inserted in turn. `Err` only when out of memory.
+    /// The object of these pairs, each inserted in turn: of those with one key the first gives the place, and the last the value.
+    /// `Err` only when out of memory.
     pub fn from_pairs(alloc: Global, pairs: Listed<(ByteString, Value)>) -> Result<Value, Memory>
         ensures { IfOk result (λ made. made ≡ Value.Object (insert_all bytes_eq [] pairs)) }
     {
