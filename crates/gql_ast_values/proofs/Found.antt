@@ -1,5 +1,5 @@
 -- What is found in a list of one value at most, and the kind of a value.
-use Rattle.std.proofs.Common.{◌≡◌, Bool, true, false, if◌then◌else◌, List, ◌++◌, option_to_list, Option, Some, None, refl}
+use Rattle.std.proofs.Common.{◌≡◌, Bool, true, false, if◌then◌else◌, option_to_list, Option, Some, None, refl}
 use Rattle.std.specs.Option.{option_map}
 use Rattle.gql_source.specs.declared.file_id.FileId.{FileId}
 use Rattle.gql_source.specs.Span.{Span}

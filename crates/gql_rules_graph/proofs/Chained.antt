@@ -7,9 +7,9 @@ use Rattle.std.proofs.lemmas.List.Elements.{Contains-append_left, Contains-push,
 use Rattle.std.proofs.lemmas.Option.{slice_get_within, slice_get_past}
 use Rattle.std.proofs.lemmas.List.{append-nil}
 use Rattle.gql_rules_graph.specs.Chains.{AreJudged, AreMarkedNodes, AreReaching, mark_of, is_marked, any_marked, is_marked_next, any_next, next_mark, next_names, has_chain, is_long, only_if}
-use Rattle.gql_rules_graph.specs.Cycles.{Reaches, at_once, along, IsOnCycle, ReachesCycle, IsReverse, AreMarked, Told}
+use Rattle.gql_rules_graph.specs.Cycles.{IsOnCycle, ReachesCycle, IsReverse, AreMarked, Told}
 use Rattle.gql_rules_graph.specs.Flooding.{has}
-use Rattle.gql_rules_graph.specs.Graph.{Graph, row, HasEdge, IsFlooded}
+use Rattle.gql_rules_graph.specs.Graph.{Graph, row, IsFlooded}
 use Rattle.gql_rules_graph.proofs.Cyclic.{zeros, has_is, is_has}
 use Rattle.gql_rules_graph.proofs.Flooded.{none_contained, same_or_not}
 use Rattle.gql_rules_graph.proofs.Walks.{forget, lift, inside, from_node, forward, backward}

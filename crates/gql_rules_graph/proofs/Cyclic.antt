@@ -1,14 +1,14 @@
 -- Nodes on cycles, by the parts of a graph.
-use Rattle.std.proofs.Common.{◌≡◌, ◌≢◌, ◌⊎◌, inl, inr, ℕ, zero, suc, ◌+◌, ◌<◌, ◌≤◌, Bool, true, false, ◌||◌, Option, Some, None, List, [], ◌∷◌, ◌++◌, length, get_or, replicate, take, drop, refl, sym, ap, ◌∙◌, subst, arith, length-append}
+use Rattle.std.proofs.Common.{◌≡◌, ◌⊎◌, inl, inr, ℕ, zero, suc, ◌+◌, ◌<◌, Bool, true, false, ◌||◌, Option, Some, None, List, [], ◌∷◌, ◌++◌, length, replicate, take, drop, refl, sym, ap, ◌∙◌, arith, length-append}
 use Rattle.std.specs.List.{Contains, slice_get, list_any}
 use Rattle.std.proofs.lemmas.Bool.{eqb-true, eq-eqb}
 use Rattle.std.proofs.lemmas.List.Elements.{Contains-append_right}
 use Rattle.std.proofs.lemmas.List.{length-replicate}
 use Rattle.std.proofs.Math.Seq.{take-append_seam}
-use Rattle.std.proofs.lemmas.Option.{slice_get_within, slice_get-get_or}
-use Rattle.gql_rules_graph.specs.Cycles.{Reaches, at_once, along, IsMutual, IsOnCycle, IsPartitioned, HasPart, AreMarked, Told, in_part, shares_part}
+use Rattle.std.proofs.lemmas.Option.{slice_get_within}
+use Rattle.gql_rules_graph.specs.Cycles.{at_once, along, IsOnCycle, IsPartitioned, HasPart, AreMarked, Told, in_part, shares_part}
 use Rattle.gql_rules_graph.specs.Flooding.{has}
-use Rattle.gql_rules_graph.specs.Graph.{Graph, row, HasEdge}
+use Rattle.gql_rules_graph.specs.Graph.{Graph, row}
 use Rattle.gql_rules_graph.proofs.Flooded.{Contains-cons_cases, none_contained, same_or_not}
 
 -- ---- tests of lists

@@ -1,5 +1,5 @@
 -- What setting marks leaves.
-use Rattle.std.proofs.Common.{◌≡◌, ◌≢◌, ◌⊎◌, inl, inr, ℕ, Bool, true, false, cond, ◌==◌, Option, Some, None, List, [], ◌∷◌, length, set, refl, sym, ap, ◌∙◌, subst}
+use Rattle.std.proofs.Common.{◌≡◌, ◌≢◌, inl, inr, ℕ, Bool, true, false, cond, ◌==◌, Option, Some, None, List, [], ◌∷◌, set, refl, sym, ap, ◌∙◌, subst}
 use Rattle.std.specs.List.{Contains, slice_get}
 use Rattle.std.proofs.lemmas.Bool.{eqb-true, eq-eqb}
 use Rattle.gql_rules_graph.specs.Flooding.{has, marked, all_marked}

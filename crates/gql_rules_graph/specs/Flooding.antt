@@ -1,5 +1,5 @@
 -- The steps of a flood: a node of the old mark gets the new one, and goes last in the queue.
-use Rattle.std.specs.Prelude.{ℕ, Bool, false, ◌==◌, if◌then◌else◌, List, [], ◌∷◌, ◌++◌, Option, Some, None, slice_get, slice_set, fold}
+use Rattle.std.specs.Prelude.{ℕ, Bool, false, ◌==◌, if◌then◌else◌, List, [], ◌∷◌, ◌++◌, Option, Some, None, slice_get, slice_set}
 
 abbrev pub has : ℕ → Option ℕ → Bool
 has mark None = false

@@ -1,5 +1,5 @@
 -- The steps of turning a graph round.
-use Rattle.std.specs.Prelude.{ℕ, List, [], ◌∷◌, ◌++◌, Option, Some, None, replicate, slice_get, slice_set}
+use Rattle.std.specs.Prelude.{ℕ, List, [], ◌∷◌, ◌++◌, replicate, slice_get, slice_set}
 use Rattle.std.specs.Option.{option_map_or}
 use Rattle.gql_rules_graph.specs.Graph.{Graph}
 

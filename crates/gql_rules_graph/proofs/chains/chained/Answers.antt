@@ -1,6 +1,6 @@
-use Rattle.std.proofs.Common.{◌≡◌, ◌+◌, true, length, replicate, sym, ap, ◌∙◌, subst, arith}
+use Rattle.std.proofs.Common.{◌≡◌, true, length, replicate, ap, ◌∙◌}
 use Rattle.std.proofs.lemmas.List.{length-replicate}
-use Rattle.gql_rules_graph.specs.Chains.{is_marked, next_mark}
+use Rattle.gql_rules_graph.specs.Chains.{next_mark}
 use Rattle.gql_rules_graph.specs.Cycles.{Told}
 use Rattle.gql_rules_graph.proofs.Chained.{no_names, more_names}
 use Rattle.gql_rules_graph.proofs.chains.chained.Goals as goal

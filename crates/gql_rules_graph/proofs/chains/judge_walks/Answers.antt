@@ -1,4 +1,4 @@
-use Rattle.std.proofs.Common.{◌≡◌, ℕ, Bool, List, length, sym, ap, ◌∙◌, subst, arith}
+use Rattle.std.proofs.Common.{ℕ, Bool, List, length, subst}
 use Rattle.gql_rules_graph.specs.Chains.{AreReaching, is_long}
 use Rattle.gql_rules_graph.specs.Cycles.{Told}
 use Rattle.gql_rules_graph.proofs.Chained.{judged}

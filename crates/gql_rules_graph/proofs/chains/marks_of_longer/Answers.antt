@@ -1,4 +1,4 @@
-use Rattle.std.proofs.Common.{◌≡◌, Bool, List, false, ap, sym, ◌∙◌}
+use Rattle.std.proofs.Common.{◌≡◌, Bool, false, ap, sym, ◌∙◌}
 use Rattle.std.specs.List.{list_any}
 use Rattle.gql_rules_graph.proofs.Chained.{same_marks}
 use Rattle.gql_rules_graph.proofs.chains.marks_of_longer.Goals as goal

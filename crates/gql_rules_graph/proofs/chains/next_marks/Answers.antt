@@ -1,4 +1,4 @@
-use Rattle.std.proofs.Common.{◌≡◌, length, sym, ap, ◌∙◌, subst, arith}
+use Rattle.std.proofs.Common.{◌≡◌, length, subst, arith}
 use Rattle.gql_rules_graph.specs.Chains.{any_next}
 use Rattle.gql_rules_graph.specs.Cycles.{Told}
 use Rattle.gql_rules_graph.specs.Graph.{row}

@@ -1,4 +1,4 @@
-use Rattle.std.proofs.Common.{◌≡◌, ◌++◌, ℕ, List, length, take, drop, replicate, sym, ap, ◌∙◌, subst, arith}
+use Rattle.std.proofs.Common.{◌≡◌, ◌++◌, length, take, drop, sym, ◌∙◌, subst, arith}
 use Rattle.gql_rules_graph.specs.Chains.{AreReaching, AreMarkedNodes}
 use Rattle.gql_rules_graph.proofs.Chained.{reaching}
 use Rattle.gql_rules_graph.proofs.Cyclic.{written}

@@ -1,6 +1,6 @@
-use Rattle.std.proofs.Common.{length, sym, subst, arith}
+use Rattle.std.proofs.Common.{sym, subst, arith}
 use Rattle.gql_rules_graph.specs.Cycles.{HasPart}
-use Rattle.gql_rules_graph.proofs.Cyclic.{none_parted, written}
+use Rattle.gql_rules_graph.proofs.Cyclic.{written}
 use Rattle.gql_rules_graph.proofs.cycles.parts.Goals as goal
 
 pub returns-clause-all : goal.returns-clause-all

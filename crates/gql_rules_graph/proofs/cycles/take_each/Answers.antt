@@ -1,4 +1,4 @@
-use Rattle.std.proofs.Common.{◌≡◌, ◌≢◌, inl, inr, sym, subst, arith}
+use Rattle.std.proofs.Common.{inl, inr, sym, subst, arith}
 use Rattle.gql_rules_graph.specs.Cycles.{HasPart}
 use Rattle.gql_rules_graph.proofs.Flooded.{same_or_not}
 use Rattle.gql_rules_graph.proofs.cycles.take_each.Goals as goal

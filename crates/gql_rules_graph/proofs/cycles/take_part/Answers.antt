@@ -1,7 +1,6 @@
-use Rattle.std.proofs.Common.{◌≡◌, ℕ, ◌+◌, ◌<◌, Some, true, false, length, sym, ap, ◌∙◌, arith}
+use Rattle.std.proofs.Common.{◌≡◌, true, false, sym, ◌∙◌, arith}
 use Rattle.std.specs.List.{slice_get}
 use Rattle.std.proofs.lemmas.Option.{slice_get_within}
-use Rattle.gql_rules_graph.specs.Cycles.{IsPartitioned}
 use Rattle.gql_rules_graph.proofs.Cyclic.{has_is, is_has}
 use Rattle.gql_rules_graph.proofs.Parts.{taken_before, take_part, Taken}
 use Rattle.gql_rules_graph.proofs.cycles.take_part.Goals as goal

@@ -1,4 +1,4 @@
-use Rattle.std.proofs.Common.{◌≡◌, ap, ◌∙◌, arith}
+use Rattle.std.proofs.Common.{ap, ◌∙◌, arith}
 use Rattle.gql_rules_graph.specs.Reversing.{no_edges}
 use Rattle.gql_rules_graph.proofs.Turned.{none_turned, one_turned, all_turned}
 use Rattle.gql_rules_graph.proofs.reverse.reverse.Goals as goal

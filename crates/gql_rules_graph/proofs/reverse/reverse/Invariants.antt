@@ -1,4 +1,3 @@
-use Rattle.std.proofs.Common.{◌≡◌, length}
 use Rattle.gql_rules_graph.proofs.Turned.{Turning}
 use Rattle.gql_rules_graph.proofs.reverse.reverse.Given as goal
 
