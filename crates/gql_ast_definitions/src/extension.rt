@@ -27,7 +27,7 @@ pub struct SchemaExtension {
     pub location: Option<SourceSpan>,
 }
 
-/// More of a scalar type (section 3.5.7).
+/// More of a scalar type (section 3.5.6).
 #[derive(Drop)]
 pub struct ScalarTypeExtension {
     pub name: Name,

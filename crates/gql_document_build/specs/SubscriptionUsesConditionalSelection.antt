@@ -1,5 +1,5 @@
--- No selection at the root of a subscription is left out on a condition: section 5.2.3.1 of GraphQL October 2021, as later
--- versions have it.
+-- No selection at the root of a subscription is left out on a condition, as later versions of the standard have it: section 5.2.3.1
+-- of GraphQL October 2021.
 use Rattle.std.specs.Prelude.{Bool, ◌||◌, List, [], ◌∷◌, None, Option, codes, if◌then◌else◌}
 use Rattle.std.specs.List.{flat_map, list_any}
 use Rattle.std.specs.Str.{bytes_eq}

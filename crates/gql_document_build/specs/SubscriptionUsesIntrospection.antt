@@ -10,7 +10,7 @@ use Rattle.gql_diag_messages.specs.declared.rule.Rule.TheVariants.{SubscriptionU
 use Rattle.gql_diag_messages.specs.declared.diagnostic_data.DiagnosticData.{DiagnosticData}
 use Rattle.gql_document_build.specs.Faults.{fault, operation_text}
 
--- a name that begins with two underscores (section 4.1)
+-- a name that begins with two underscores (section 2.1.9)
 abbrev pub is_introspection : List ℕ → Bool
 is_introspection name = starts_with nat_eq name (codes "__")
 

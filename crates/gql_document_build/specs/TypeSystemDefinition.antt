@@ -1,4 +1,5 @@
--- An executable document has no definitions of a type system and no extensions: section 5.1.1 of GraphQL October 2021.
+-- An executable document has no definitions of a type system and no extensions: section 5.1.1 of GraphQL October 2021. The rule on
+-- schemas, which have no operations, is ExecutableDefinition.
 use Rattle.std.specs.Prelude.{ℕ, List, [], ◌∷◌, Option, None, codes}
 use Rattle.std.specs.List.{flat_map}
 use Rattle.gql_source.specs.Span.{Span}

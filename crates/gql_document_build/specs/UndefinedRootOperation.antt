@@ -1,4 +1,4 @@
--- An operation has a root type: section 3.3.1 of GraphQL October 2021.
+-- An operation has a root type: section 3.3.1 of GraphQL October 2021. `operation_faults` of Build.antt says where it is broken.
 use Rattle.std.specs.Prelude.{ℕ, List, [], ◌∷◌, Option, None, codes}
 use Rattle.gql_ast_base.specs.Names.{Named}
 use Rattle.gql_ast_base.specs.declared.operation_type.OperationType.{OperationType}

@@ -1,5 +1,5 @@
-//! No selection at the root of a subscription is left out on a condition (GraphQL October 2021, section 5.2.3.1, as later
-//! versions have it).
+//! No selection at the root of a subscription is left out on a condition, as later versions of the standard have it (GraphQL
+//! October 2021, section 5.2.3.1).
 
 ghost use Rattle.std.specs.Prelude.{◌≡◌, ◌++◌, OnOk};
 ghost use Rattle.std.specs.List.{list_any};

@@ -1,4 +1,5 @@
-//! An executable document has no definitions of a type system and no extensions (GraphQL October 2021, section 5.1.1).
+//! An executable document has no definitions of a type system and no extensions (GraphQL October 2021, section 5.1.1). The rule on
+//! schemas, which have no operations, is ExecutableDefinition.
 
 ghost use Rattle.std.specs.Prelude.{◌≡◌, ◌++◌, ◌∷◌, [], OnOk};
 ghost use Rattle.gql_document_build.specs.TypeSystemDefinition as spec;

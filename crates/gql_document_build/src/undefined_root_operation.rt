@@ -1,4 +1,4 @@
-//! An operation has a root type (GraphQL October 2021, section 3.3.1).
+//! An operation has a root type (GraphQL October 2021, section 3.3.1). It is asked in `operation_faults.rt`.
 
 ghost use Rattle.std.specs.Prelude.{◌≡◌, ◌++◌, ◌∷◌, [], OnOk};
 ghost use Rattle.gql_document_build.specs.UndefinedRootOperation as spec;

@@ -1,4 +1,4 @@
-//! A fragment is on a type that is defined (GraphQL October 2021, section 5.5.1.2).
+//! A fragment is on a type that is defined (GraphQL October 2021, section 5.5.1.2). It is asked in `operation_faults.rt`.
 
 ghost use Rattle.std.specs.Prelude.{◌≡◌, ◌++◌, ◌∷◌, [], OnOk};
 ghost use Rattle.gql_document_build.specs.UndefinedTypeInNamedFragmentTypeCondition as spec;

@@ -1,4 +1,4 @@
--- What an execution with introspection on goes by: section 4.1 of GraphQL October 2021.
+-- What an execution with introspection on goes by: section 4 of GraphQL October 2021.
 use Rattle.std.specs.Prelude.{ℕ, List, []}
 use Rattle.gql_source.specs.File.{Files}
 use Rattle.gql_document_types.specs.declared.fragment.Fragment.{Fragment}

@@ -1,4 +1,4 @@
--- The part of an execution that asks for the names of types and for the schema: sections 4.1 and 6.2 of GraphQL October 2021.
+-- The part of an execution that asks for the names of types and for the schema: sections 4.1, 4.2 and 6.2 of GraphQL October 2021.
 use Rattle.std.specs.Prelude.{◌≡◌, ℕ, Bool, true, false, ◌&&◌, ◌||◌, List, ◌∷◌, [], is_ok, Some, None, codes}
 use Rattle.std.specs.List.{filter, list_any}
 use Rattle.std.specs.Str.{bytes_eq}

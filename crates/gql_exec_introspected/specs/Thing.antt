@@ -1,4 +1,4 @@
--- The objects of an execution with introspection: section 4.1 of GraphQL October 2021.
+-- The objects of an execution with introspection: section 4 of GraphQL October 2021.
 use Rattle.std.specs.Prelude.{ℕ, List}
 use Rattle.gql_schema_types.specs.declared.schema.Schema.{Schema}
 use Rattle.gql_exec_meta.specs.Meta.{Meta, type_name_of}

@@ -1,4 +1,4 @@
--- What the fields of objects are where introspection is on: section 4.1 of GraphQL October 2021.
+-- What the fields of objects are where introspection is on: section 4 of GraphQL October 2021.
 use Rattle.std.specs.Prelude.{ℕ, List, if◌then◌else◌, codes}
 use Rattle.std.specs.Str.{bytes_eq}
 use Rattle.gql_exec_places.specs.Resolved.{Meaning}

@@ -18,7 +18,7 @@ use gql_exec_resolve::{ObjectValue, ResolveError, ResolveInfo, ResolvedValue};
 use gql_schema_types::{ObjectType, Schema};
 use std::alloc::Global;
 
-/// A user's object or one of introspection, asked under a schema (GraphQL October 2021, section 4.1).
+/// A user's object or one of introspection, asked under a schema (GraphQL October 2021, section 4).
 ///
 /// On the root type of queries `__schema` gives the object of its schema, and `__type` that of the type that `name` names.
 /// Any other field is as the object itself says.
@@ -208,7 +208,7 @@ fn tells<'a>(
     }
 }
 
-/// Whether the field of this name on this type tells of the schema (GraphQL October 2021, section 4.1).
+/// Whether the field of this name on this type tells of the schema (GraphQL October 2021, section 4.2).
 #[must_use]
 pub fn is_introspection(schema: &Schema, object_type: &ObjectType, name: &str) -> bool
     ensures { result ≡ spec.is_introspection schema.now object_type.now name.now }

@@ -18,7 +18,7 @@ ghost use Rattle.gql_source.specs.File.{Files};
 
 /// Where an execution with introspection on has data, the execution of an object that leaves every field out has those of
 /// its members whose fields are named `__typename`, `__schema` or `__type`, in order: if the root type has no field of its
-/// own of the last two names, and the arguments of each other field are coerced (GraphQL October 2021, section 4.1).
+/// own of the last two names, and the arguments of each other field are coerced (GraphQL October 2021, sections 4.1 and 4.2).
 pub fn partial_data_is_of_the_whole<X>()
     ensures { (schema : TheSchema) (sources : Files) (fragments : List Fragment) (variables : Members) (types : X → List ℕ) (resolves : Resolving X)
         (U : ObjectType) (x : X) (selections : List Selection) (whole part : ExecutionResponse) (members : List Member)

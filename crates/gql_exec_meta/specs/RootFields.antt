@@ -1,4 +1,4 @@
--- The fields `__schema` and `__type` of the root type of queries: section 4.1 of GraphQL October 2021.
+-- The fields `__schema` and `__type` of the root type of queries: section 4.2 of GraphQL October 2021.
 use Rattle.std.specs.Prelude.{ℕ, List, Option, Some, None, option_and_then, codes}
 use Rattle.std.specs.Map.{lookup}
 use Rattle.std.specs.Str.{bytes_eq}

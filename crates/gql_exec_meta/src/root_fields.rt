@@ -14,7 +14,7 @@ use gql_schema_types::Schema;
 use jb_text::Text;
 use std::alloc::Global;
 
-/// What `__schema` gives: the object of the schema (GraphQL October 2021, section 4.1). It takes no memory.
+/// What `__schema` gives: the object of the schema (GraphQL October 2021, section 4.2). It takes no memory.
 #[must_use]
 pub fn schema_field<'a>(schema: &'a Valid<Schema>) -> ResolvedValue<MetaObject<'a>>
     ensures { meaning_by stands_for result ≡ spec.schema_field_meaning schema.now }
@@ -23,7 +23,7 @@ pub fn schema_field<'a>(schema: &'a Valid<Schema>) -> ResolvedValue<MetaObject<'
 }
 
 /// What `__type` gives: the object of the type that the argument `name` names, or null where the schema has none
-/// (section 4.1). `Field` with ``expected string argument `name` `` exactly where `name` is no text, without the blank at
+/// (section 4.2). `Field` with ``expected string argument `name` `` exactly where `name` is no text, without the blank at
 /// the end; `Memory` only when out of memory.
 pub fn type_field<'a>(
     alloc: Global,

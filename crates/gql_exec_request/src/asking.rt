@@ -149,7 +149,7 @@ impl<'s> Executing<'s> {
         told(object.resolve_field(self.alloc, &info))
     }
 
-    /// Whether the field of this name on this type tells of the schema (section 4.1) while introspection is off.
+    /// Whether the field of this name on this type tells of the schema (section 4.2) while introspection is off.
     fn is_hidden(&self, object_type: &ObjectType, name: &str) -> bool
         ensures { result ≡ executing.is_hidden self.now.introspection self.now.request.schema.now object_type.now name.now }
     {

@@ -38,7 +38,7 @@ asked r U x f (Err fault) = refused (fault_of fault)
 abbrev pub asks : {X : Type 0} → Request X → ObjectType → X → Field → Outcome X
 asks r U x f = asked r U x f.name.text (arguments_at r (definition_on r.schema U f) f)
 
--- a field that tells of the schema: section 4.1
+-- a field that tells of the schema: section 4.2
 abbrev pub is_introspection : Schema → ObjectType → List ℕ → Bool
 is_introspection schema U f = (bytes_eq f (codes "__schema") || bytes_eq f (codes "__type")) && is_query_root schema.schema_definition U.name.text
 

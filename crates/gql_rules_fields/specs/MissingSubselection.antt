@@ -1,4 +1,4 @@
--- A field of a composite type has selections: section 5.3.3 of GraphQL October 2021.
+-- A field of an object, an interface or a union has selections: section 5.3.3 of GraphQL October 2021.
 use Rattle.std.specs.Prelude.{Bool, ◌&&◌, not, List, [], ◌∷◌, Option, None}
 use Rattle.gql_source.specs.Span.{Span}
 use Rattle.gql_ast_base.specs.Names.{Named}

@@ -1,4 +1,4 @@
-//! A field of a composite type has selections (GraphQL October 2021, section 5.3.3).
+//! A field of an object, an interface or a union has selections (GraphQL October 2021, section 5.3.3).
 
 ghost use Rattle.std.specs.Prelude.{◌≡◌, ◌++◌, OnOk, ◌∷◌, [], None};
 ghost use Rattle.gql_ast_print.specs.TypeText.{type_text};

@@ -1,4 +1,4 @@
--- No fragment spreads itself: section 5.5.2.2 of GraphQL October 2021.
+-- No fragment spreads itself, not even through others: section 5.5.2.2 of GraphQL October 2021.
 use Rattle.std.specs.Prelude.{◌≡◌, ℕ, ◌+◌, Bool, List, [], ◌∷◌, ◌++◌, length, Option, None}
 use Rattle.gql_diag_messages.specs.declared.rule.Rule.TheVariants.{RecursiveFragmentDefinition}
 use Rattle.gql_diag_messages.specs.declared.diagnostic_data.DiagnosticData.{DiagnosticData}

@@ -1,4 +1,4 @@
--- A fragment is used: section 5.5.1.4 of GraphQL October 2021.
+-- A fragment is used by an operation, if only through others: section 5.5.1.4 of GraphQL October 2021.
 use Rattle.std.specs.Prelude.{◌≡◌, ℕ, ◌+◌, Bool, not, List, [], ◌∷◌, ◌++◌, None}
 use Rattle.std.specs.List.{flat_map}
 use Rattle.gql_diag_messages.specs.declared.rule.Rule.TheVariants.{UnusedFragment}

@@ -1,4 +1,4 @@
-//! No fragment spreads itself (GraphQL October 2021, section 5.5.2.2).
+//! No fragment spreads itself, not even through others (GraphQL October 2021, section 5.5.2.2).
 
 ghost use Rattle.std.specs.Prelude.{◌≡◌, ◌++◌, ◌∷◌, [], None, List, OnOk};
 ghost use Rattle.gql_diag_messages.specs.declared.diagnostic_data.DiagnosticData as item;

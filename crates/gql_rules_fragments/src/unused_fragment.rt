@@ -1,4 +1,4 @@
-//! A fragment is used (GraphQL October 2021, section 5.5.1.4).
+//! A fragment is used by an operation, if only through others (GraphQL October 2021, section 5.5.1.4).
 
 ghost use Rattle.std.specs.Prelude.{◌≡◌, ◌++◌, List, IfOk, OnOk};
 ghost use Rattle.gql_diag_messages.specs.declared.diagnostic_data.DiagnosticData as item;

@@ -1,4 +1,5 @@
--- Fields of one response key have the same arguments: section 5.3.2 of GraphQL October 2021.
+-- Fields of one response key that one object can have are given the same arguments: section 5.3.2 of GraphQL October 2021.
+-- `is_broken` of FieldSelectionMerging.antt says where it is broken.
 use Rattle.std.specs.Prelude.{Bool, not, false, ◌&&◌, ◌==◌, List, [], ◌∷◌, length}
 use Rattle.std.specs.List.{list_all}
 use Rattle.std.specs.Option.{option_map_or}

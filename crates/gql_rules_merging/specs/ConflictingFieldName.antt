@@ -1,4 +1,5 @@
--- Fields of one response key are the same field: section 5.3.2 of GraphQL October 2021.
+-- Fields of one response key that one object can have are the same field: section 5.3.2 of GraphQL October 2021. `is_broken` of
+-- FieldSelectionMerging.antt says where it is broken.
 use Rattle.std.specs.Prelude.{Bool, not, [], ◌∷◌}
 use Rattle.std.specs.Str.{bytes_eq}
 use Rattle.gql_diag_messages.specs.declared.rule.Rule.TheVariants.{ConflictingFieldName}

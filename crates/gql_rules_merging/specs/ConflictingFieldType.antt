@@ -1,4 +1,5 @@
--- Fields of one response key have one shape: SameResponseShape in section 5.3.2 of GraphQL October 2021.
+-- Fields of one response key in a set, or in the sets below such fields, have one shape: section 5.3.2 of GraphQL October 2021,
+-- SameResponseShape. `is_broken` of FieldSelectionMerging.antt says where it is broken.
 use Rattle.std.specs.Prelude.{ℕ, Bool, true, false, not, ◌&&◌, ◌||◌, List, [], ◌∷◌}
 use Rattle.std.specs.Bool.{beq}
 use Rattle.std.specs.Option.{option_map_or}

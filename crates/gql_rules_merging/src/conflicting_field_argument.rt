@@ -1,4 +1,4 @@
-//! Fields of one response key have the same arguments (GraphQL October 2021, section 5.3.2).
+//! Fields of one response key that one object can have are given the same arguments (GraphQL October 2021, section 5.3.2).
 
 ghost use Rattle.std.specs.Prelude.{◌≡◌, ◌++◌, ◌∷◌, [], OnOk};
 ghost use Rattle.std.specs.List.{list_all};

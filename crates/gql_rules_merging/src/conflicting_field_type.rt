@@ -1,4 +1,5 @@
-//! Fields of one response key have one shape (GraphQL October 2021, section 5.3.2, SameResponseShape).
+//! Fields of one response key in a set, or in the sets below such fields, have one shape (GraphQL October 2021, section 5.3.2,
+//! SameResponseShape).
 
 ghost use Rattle.std.specs.Prelude.{◌≡◌, ◌++◌, ◌∷◌, [], not, OnOk};
 ghost use Rattle.gql_rules_merging.specs.ConflictingFieldType as spec;

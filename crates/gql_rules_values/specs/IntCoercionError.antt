@@ -1,4 +1,4 @@
--- A whole number at `Int` has 32 bits: section 3.5.1 of GraphQL October 2021.
+-- A whole number at `Int` is one of 32 bits, with a sign: sections 3.5.1 and 5.6.1 of GraphQL October 2021.
 use Rattle.std.specs.Prelude.{ℕ, ℤ, pos, negsuc, nat_lt, ◌^◌, Bool, true, false}
 use Rattle.std.specs.Prelude.{◌&&◌, not, List, [], ◌∷◌, length, None, if◌then◌else◌, codes}
 use Rattle.std.specs.Char.{is_ascii_digit}

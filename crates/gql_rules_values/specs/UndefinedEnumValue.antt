@@ -1,4 +1,4 @@
--- A name at an enum is one of its values: section 3.9 of GraphQL October 2021.
+-- A name at an enum is one of its values: sections 3.9 and 5.6.1 of GraphQL October 2021.
 use Rattle.std.specs.Prelude.{ℕ, not, List, [], ◌∷◌, None, is_some}
 use Rattle.std.specs.Option.{option_map_or}
 use Rattle.gql_ast_base.specs.Names.{Named}

@@ -1,4 +1,4 @@
-//! A whole number at `Int` has 32 bits (GraphQL October 2021, section 3.5.1).
+//! A whole number at `Int` is one of 32 bits, with a sign (GraphQL October 2021, sections 3.5.1 and 5.6.1).
 
 ghost use Rattle.std.specs.Prelude.{◌≡◌, ◌++◌, OnOk, true};
 ghost use Rattle.std.specs.Option.{option_map_or};

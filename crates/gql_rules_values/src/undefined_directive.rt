@@ -1,4 +1,4 @@
-//! A directive that is used is defined (GraphQL October 2021, section 5.7.1).
+//! A directive that is used is defined (GraphQL October 2021, section 5.7.1). It is asked in `directives.rt`.
 
 ghost use Rattle.std.specs.Prelude.{◌≡◌, ◌++◌, ◌∷◌, [], OnOk};
 ghost use Rattle.gql_rules_values.specs.UndefinedDirective.{undefined_directive};

@@ -1,4 +1,4 @@
-//! A name at an enum is one of its values (GraphQL October 2021, section 3.9).
+//! A name at an enum is one of its values (GraphQL October 2021, sections 3.9 and 5.6.1).
 
 ghost use Rattle.std.specs.Prelude.{◌≡◌, ◌++◌, OnOk};
 ghost use Rattle.gql_schema_types.specs.declared.types.ExtendedType.TheVariants.{Enum};

@@ -1,5 +1,4 @@
-//! A key stands once in an object literal, and an argument once in a definition (GraphQL October 2021, sections 5.6.3 and
-//! 3.6.1).
+//! A key stands once in an object literal, and an argument once in a definition (GraphQL October 2021, sections 5.6.3 and 3.6.1).
 
 ghost use Rattle.std.specs.Prelude.{◌≡◌, ◌++◌, OnOk};
 ghost use Rattle.gql_rules_values.specs.UniqueInputValue as spec;

@@ -1,4 +1,5 @@
--- A variable that is used is defined: section 5.8.3 of GraphQL October 2021.
+-- A variable that is used is defined in each operation that reaches the use: section 5.8.3 of GraphQL October 2021. `use_faults` of
+-- VariableFaults.antt says where it is broken.
 use Rattle.std.specs.Prelude.{ℕ, Bool, not, List, [], ◌∷◌, Option, None, is_some}
 use Rattle.gql_ast_base.specs.Names.{Named}
 use Rattle.gql_ast_operations.specs.declared.operation.VariableDefinition.{VariableDefinition}

@@ -1,4 +1,5 @@
--- A variable is used: section 5.8.4 of GraphQL October 2021.
+-- A variable is used in its operation, or in a fragment that this reaches: section 5.8.4 of GraphQL October 2021.
+-- `operation_faults` of VariableFaults.antt says where it is broken.
 use Rattle.std.specs.Prelude.{ℕ, Bool, not, List, [], ◌∷◌, None}
 use Rattle.std.specs.List.{flat_map, list_any}
 use Rattle.std.specs.Str.{bytes_eq}

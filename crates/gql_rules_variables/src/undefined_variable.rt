@@ -1,4 +1,4 @@
-//! A variable that is used is defined (GraphQL October 2021, section 5.8.3).
+//! A variable that is used is defined in each operation that reaches the use (GraphQL October 2021, section 5.8.3).
 
 ghost use Rattle.std.specs.Prelude.{◌≡◌, ◌++◌, OnOk};
 ghost use Rattle.gql_rules_base.specs.Faults as told;

@@ -1,4 +1,4 @@
-//! A variable is used (GraphQL October 2021, section 5.8.4).
+//! A variable is used in its operation, or in a fragment that this reaches (GraphQL October 2021, section 5.8.4).
 
 ghost use Rattle.std.specs.Prelude.{◌≡◌, ◌++◌, OnOk};
 ghost use Rattle.gql_rules_variables.specs.Operations.{not_noted};

@@ -1,4 +1,5 @@
--- A schema has no operations and no fragments: section 3.1 of GraphQL October 2021.
+-- A schema has no operations and no fragments: section 3.1 of GraphQL October 2021. Section 5.1.1, Executable Definitions, is the
+-- rule TypeSystemDefinition on documents.
 use Rattle.std.specs.Prelude.{List, [], ◌∷◌, None, codes}
 use Rattle.std.specs.List.{flat_map}
 use Rattle.gql_ast.specs.declared.definition.Definition.{Definition}

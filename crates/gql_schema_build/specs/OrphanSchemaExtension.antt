@@ -1,4 +1,5 @@
--- A schema that is extended is there: section 3.3.2 of GraphQL October 2021.
+-- A schema that is extended exists: it is defined, or a type has the name of a default root: section 3.3.2 of GraphQL October 2021.
+-- `orphans` of SchemaDefinitions.antt says where it is broken.
 use Rattle.std.specs.Prelude.{List, [], map, None}
 use Rattle.gql_ast_definitions.specs.declared.extension.SchemaExtension.{SchemaExtension}
 use Rattle.gql_diag_messages.specs.declared.rule.Rule.TheVariants.{OrphanSchemaExtension}

@@ -1,4 +1,4 @@
--- A type that is extended is defined: sections 3.5.7, 3.6.3, 3.7.1, 3.8.1, 3.9.1 and 3.10.1 of GraphQL October 2021.
+-- A type that is extended is defined: sections 3.5.6, 3.6.3, 3.7.1, 3.8.1, 3.9.1 and 3.10.1 of GraphQL October 2021.
 use Rattle.std.specs.Prelude.{List, [], ◌∷◌, None, is_some, if◌then◌else◌}
 use Rattle.gql_diag_messages.specs.declared.rule.Rule.TheVariants.{OrphanTypeExtension}
 use Rattle.gql_diag_messages.specs.declared.diagnostic_data.DiagnosticData.{DiagnosticData}

@@ -1,4 +1,4 @@
--- Types have distinct names: section 3.3 of GraphQL October 2021.
+-- Types have distinct names, the built-in types included: section 3.3 of GraphQL October 2021.
 use Rattle.std.specs.Prelude.{List, [], ◌∷◌, map}
 use Rattle.std.specs.Option.{option_map_or}
 use Rattle.gql_diag_messages.specs.declared.rule.Rule.TheVariants.{TypeDefinitionCollision}

@@ -1,4 +1,5 @@
-//! A schema has no operations and no fragments (GraphQL October 2021, section 3.1).
+//! A schema has no operations and no fragments (GraphQL October 2021, section 3.1). Section 5.1.1, Executable Definitions, is the
+//! rule TypeSystemDefinition on documents.
 
 ghost use Rattle.std.specs.Prelude.{◌≡◌, ◌++◌, OnOk};
 ghost use Rattle.gql_schema_build.specs.ExecutableDefinition as spec;

@@ -1,4 +1,5 @@
-//! A schema that is extended is there (GraphQL October 2021, section 3.3.2).
+//! A schema that is extended exists: it is defined, or a type has the name of a default root (GraphQL October 2021, section 3.3.2).
+//! It is asked in `schema_definition.rt`.
 
 ghost use Rattle.std.specs.Prelude.{◌≡◌, ◌++◌, OnOk};
 ghost use Rattle.gql_schema_build.specs.OrphanSchemaExtension as spec;

@@ -1,4 +1,4 @@
-//! Types have distinct names (GraphQL October 2021, section 3.3).
+//! Types have distinct names, the built-in types included (GraphQL October 2021, section 3.3).
 
 ghost use Rattle.std.specs.Prelude.{◌≡◌, ◌++◌, IfOk, OnOk, map};
 ghost use Rattle.gql_schema_merge.specs.Merged as merged;

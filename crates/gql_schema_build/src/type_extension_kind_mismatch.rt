@@ -1,4 +1,4 @@
-//! A type that is extended is of the extension's kind (GraphQL October 2021, sections 3.5.7, 3.6.3, 3.7.1, 3.8.1, 3.9.1 and
+//! A type that is extended is of the extension's kind (GraphQL October 2021, sections 3.5.6, 3.6.3, 3.7.1, 3.8.1, 3.9.1 and
 //! 3.10.1).
 
 ghost use Rattle.std.specs.Prelude.{◌≡◌, ◌++◌, OnOk};

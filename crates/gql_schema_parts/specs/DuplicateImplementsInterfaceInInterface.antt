@@ -1,4 +1,4 @@
--- An interface lists an interface once: section 3.7 of GraphQL October 2021.
+-- An interface lists an interface once: sections 3.7 and 3.7.1 of GraphQL October 2021.
 use Rattle.std.specs.Prelude.{ℕ, List}
 use Rattle.gql_ast_base.specs.Names.{Named}
 use Rattle.gql_diag_messages.specs.declared.rule.Rule.TheVariants.{DuplicateImplementsInterfaceInInterface}

@@ -1,4 +1,4 @@
--- An object type lists an interface once: section 3.6 of GraphQL October 2021.
+-- An object type lists an interface once: sections 3.6 and 3.6.3 of GraphQL October 2021.
 use Rattle.std.specs.Prelude.{ℕ, List}
 use Rattle.gql_ast_base.specs.Names.{Named}
 use Rattle.gql_diag_messages.specs.declared.rule.Rule.TheVariants.{DuplicateImplementsInterfaceInObject}

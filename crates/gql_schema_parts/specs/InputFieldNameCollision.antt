@@ -1,4 +1,4 @@
--- The fields of an input object type have distinct names: section 3.10 of GraphQL October 2021.
+-- The fields of an input object type have distinct names: sections 3.10 and 3.10.1 of GraphQL October 2021.
 use Rattle.std.specs.Prelude.{ℕ, List}
 use Rattle.gql_ast_definitions.specs.declared.field_definition.InputValueDefinition.{InputValueDefinition}
 use Rattle.gql_diag_messages.specs.declared.rule.Rule.TheVariants.{InputFieldNameCollision}

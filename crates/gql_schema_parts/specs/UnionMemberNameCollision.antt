@@ -1,4 +1,4 @@
--- A union lists a member once: section 3.8 of GraphQL October 2021.
+-- A union lists a member once: sections 3.8 and 3.8.1 of GraphQL October 2021.
 use Rattle.std.specs.Prelude.{ℕ, List}
 use Rattle.gql_ast_base.specs.Names.{Named}
 use Rattle.gql_diag_messages.specs.declared.rule.Rule.TheVariants.{UnionMemberNameCollision}

@@ -1,4 +1,4 @@
-//! An interface lists an interface once (GraphQL October 2021, section 3.7).
+//! An interface lists an interface once (GraphQL October 2021, sections 3.7 and 3.7.1).
 
 ghost use Rattle.std.specs.Prelude.{◌≡◌, ◌++◌, IfOk, OnOk};
 ghost use Rattle.gql_schema_parts.specs.DuplicateImplementsInterfaceInInterface.{duplicate_interfaces_in_interface};

@@ -1,4 +1,4 @@
-//! An object type lists an interface once (GraphQL October 2021, section 3.6).
+//! An object type lists an interface once (GraphQL October 2021, sections 3.6 and 3.6.3).
 
 ghost use Rattle.std.specs.Prelude.{◌≡◌, ◌++◌, IfOk, OnOk};
 ghost use Rattle.gql_schema_parts.specs.DuplicateImplementsInterfaceInObject.{duplicate_interfaces_in_object};

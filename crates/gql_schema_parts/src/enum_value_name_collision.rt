@@ -1,4 +1,4 @@
-//! The values of an enum have distinct names (GraphQL October 2021, section 3.9).
+//! The values of an enum have distinct names (GraphQL October 2021, sections 3.9 and 3.9.1).
 
 ghost use Rattle.std.specs.Prelude.{◌≡◌, ◌++◌, [], IfOk, OnOk};
 ghost use Rattle.gql_schema_types.specs.Entries.{joined};

@@ -1,4 +1,4 @@
-//! The fields of an input object type have distinct names (GraphQL October 2021, section 3.10).
+//! The fields of an input object type have distinct names (GraphQL October 2021, sections 3.10 and 3.10.1).
 
 ghost use Rattle.std.specs.Prelude.{◌≡◌, ◌++◌, [], IfOk, OnOk};
 ghost use Rattle.gql_schema_types.specs.Entries.{joined};

@@ -1,4 +1,4 @@
-//! The fields of an interface have distinct names (GraphQL October 2021, section 3.7).
+//! The fields of an interface have distinct names (GraphQL October 2021, sections 3.7 and 3.7.1).
 
 ghost use Rattle.std.specs.Prelude.{◌≡◌, ◌++◌, [], IfOk, OnOk};
 ghost use Rattle.gql_schema_types.specs.Entries.{joined};

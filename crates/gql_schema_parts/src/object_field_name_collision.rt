@@ -1,4 +1,4 @@
-//! The fields of an object type have distinct names (GraphQL October 2021, section 3.6).
+//! The fields of an object type have distinct names (GraphQL October 2021, sections 3.6 and 3.6.3).
 
 ghost use Rattle.std.specs.Prelude.{◌≡◌, ◌++◌, [], IfOk, OnOk};
 ghost use Rattle.gql_schema_types.specs.Entries.{joined};

@@ -1,4 +1,4 @@
-//! A union lists a member once (GraphQL October 2021, section 3.8).
+//! A union lists a member once (GraphQL October 2021, sections 3.8 and 3.8.1).
 
 ghost use Rattle.std.specs.Prelude.{◌≡◌, ◌++◌, IfOk, OnOk};
 ghost use Rattle.gql_schema_parts.specs.UnionMemberNameCollision.{union_member_name_collisions};

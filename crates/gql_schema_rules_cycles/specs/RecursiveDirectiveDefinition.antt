@@ -1,4 +1,5 @@
--- No directive is used in its own definition: section 3.13 of GraphQL October 2021.
+-- No directive is used in its own definition: on its arguments, or on the input types that these name: section 3.13 of GraphQL
+-- October 2021. The standard goes on through the fields and values of these types; docs/DECISIONS.md says why this does not.
 use Rattle.std.specs.Prelude.{ℕ, ◌+◌, List, [], ◌∷◌, ◌++◌, option_to_list, position, length, map}
 use Rattle.std.specs.List.{flat_map}
 use Rattle.std.specs.Option.{option_map_or}

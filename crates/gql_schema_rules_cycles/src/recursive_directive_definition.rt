@@ -1,4 +1,5 @@
-//! No directive is used in its own definition (GraphQL October 2021, section 3.13).
+//! No directive is used in its own definition: on its arguments, or on the input types that these name (GraphQL October 2021,
+//! section 3.13). The standard goes on through the fields and values of these types; docs/DECISIONS.md says why this does not.
 
 ghost use Rattle.std.specs.Prelude.{◌≡◌, ◌++◌, ◌+◌, ◌<◌, List, length, map, IfOk, OnOk};
 ghost use Rattle.std.specs.List.{flat_map};

@@ -1,4 +1,5 @@
--- A type has each field of an interface that it lists: section 3.6 of GraphQL October 2021, "IsValidImplementation".
+-- A type has each field of an interface that it lists: sections 3.6 and 3.7 of GraphQL October 2021, "IsValidImplementation".
+-- `field_faults` of InterfaceRules.antt says where it is broken.
 use Rattle.std.specs.Prelude.{ℕ, not, List, [], ◌∷◌, None, is_some}
 use Rattle.gql_ast_base.specs.Names.{Named}
 use Rattle.gql_ast_definitions.specs.declared.field_definition.FieldDefinition.{FieldDefinition}

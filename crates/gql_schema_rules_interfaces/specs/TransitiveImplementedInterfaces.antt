@@ -1,4 +1,5 @@
--- A type lists each interface that an interface which it lists does: section 3.6 of GraphQL October 2021, "IsValidImplementation".
+-- A type lists each interface that an interface which it lists does: sections 3.6 and 3.7 of GraphQL October 2021,
+-- "IsValidImplementation".
 use Rattle.std.specs.Prelude.{ℕ, Bool, ◌&&◌, not, List, [], ◌∷◌, ◌++◌, None, is_some, position, if◌then◌else◌}
 use Rattle.std.specs.List.{list_any}
 use Rattle.std.specs.Option.{option_map_or}

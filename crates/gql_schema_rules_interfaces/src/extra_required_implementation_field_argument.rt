@@ -1,4 +1,5 @@
-//! No argument has to be given that the field of an interface does not have (GraphQL October 2021, section 3.6, "IsValidImplementation").
+//! An argument that the field of an interface does not have may be left out (GraphQL October 2021, sections 3.6 and 3.7,
+//! "IsValidImplementation").
 
 ghost use Rattle.std.specs.Prelude.{◌≡◌, ◌++◌, OnOk};
 ghost use Rattle.gql_schema_rules_interfaces.specs.ExtraRequiredImplementationFieldArgument as spec;

@@ -1,4 +1,5 @@
-//! An argument is of the type of the argument of an interface (GraphQL October 2021, section 3.6, "IsValidImplementation").
+//! An argument is of the type of the argument of an interface (GraphQL October 2021, sections 3.6 and 3.7,
+//! "IsValidImplementation").
 
 ghost use Rattle.std.specs.Prelude.{◌≡◌, ◌++◌, ◌∷◌, [], None, OnOk};
 ghost use Rattle.gql_diag_messages.specs.declared.rule.Rule.TheVariants.{InvalidImplementationFieldArgumentType};

@@ -1,4 +1,5 @@
-//! A type has each field of an interface that it lists (GraphQL October 2021, section 3.6, "IsValidImplementation").
+//! A type has each field of an interface that it lists (GraphQL October 2021, sections 3.6 and 3.7, "IsValidImplementation"). It is
+//! asked in `fields.rt`.
 
 ghost use Rattle.std.specs.Prelude.{◌≡◌, ◌++◌, ◌∷◌, [], OnOk};
 ghost use Rattle.gql_schema_rules_interfaces.specs.MissingInterfaceField as spec;

@@ -1,4 +1,5 @@
-//! A field has each argument of the field of an interface (GraphQL October 2021, section 3.6, "IsValidImplementation").
+//! A field has each argument of the field of an interface (GraphQL October 2021, sections 3.6 and 3.7, "IsValidImplementation"). It
+//! is asked in `fields.rt`.
 
 ghost use Rattle.std.specs.Prelude.{◌≡◌, ◌++◌, ◌∷◌, [], OnOk};
 ghost use Rattle.gql_schema_rules_interfaces.specs.MissingInterfaceFieldArgument as spec;

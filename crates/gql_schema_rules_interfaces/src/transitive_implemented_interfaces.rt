@@ -1,4 +1,4 @@
-//! A type lists each interface that an interface which it lists does (GraphQL October 2021, section 3.6,
+//! A type lists each interface that an interface which it lists does (GraphQL October 2021, sections 3.6 and 3.7,
 //! "IsValidImplementation").
 
 ghost use Rattle.std.specs.Prelude.{◌≡◌, ◌++◌, ◌∷◌, [], OnOk};

@@ -1,4 +1,5 @@
--- The root types differ from each other: section 3.3.1 of GraphQL October 2021. Of two that do not, the one that stands later in the text is told.
+-- The root types differ from each other: section 3.3.1 of GraphQL October 2021. Of two that do not, the one that stands later in
+-- the text is told.
 use Rattle.std.specs.Prelude.{ℕ, Bool, true, false, ◌&&◌, ◌||◌, ◌==◌, nat_lt}
 use Rattle.std.specs.Prelude.{List, [], ◌∷◌, ◌++◌, Option, Some, None, if◌then◌else◌}
 use Rattle.std.specs.Option.{option_map_or}

@@ -1,4 +1,4 @@
--- An object type and an interface have fields: sections 3.6 and 3.7 of GraphQL October 2021.
+-- An object type or an interface has fields: sections 3.6 and 3.7 of GraphQL October 2021.
 use Rattle.std.specs.Prelude.{Bool, true, false, List, [], ◌∷◌}
 use Rattle.gql_ast_base.specs.Names.{Named}
 use Rattle.gql_diag_messages.specs.declared.rule.Rule.TheVariants.{EmptyFieldSet}

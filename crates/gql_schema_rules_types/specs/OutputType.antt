@@ -1,4 +1,4 @@
--- A field is of an output type: section 3.6 of GraphQL October 2021.
+-- A field is of an output type: sections 3.4.2, 3.6 and 3.7 of GraphQL October 2021.
 use Rattle.std.specs.Prelude.{Bool, true, false, List, [], ◌∷◌, None}
 use Rattle.std.specs.Option.{option_map_or}
 use Rattle.gql_ast_definitions.specs.declared.field_definition.FieldDefinition.{FieldDefinition}

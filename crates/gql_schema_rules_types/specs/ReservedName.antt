@@ -1,4 +1,4 @@
--- No name that a user gives begins with two underscores: section 2.1.9 and the validation of types in section 3 of GraphQL October 2021.
+-- No name that a user gives begins with two underscores: sections 2.1.9, 3.3, 3.6, 3.7, 3.10 and 3.13 of GraphQL October 2021.
 use Rattle.std.specs.Prelude.{ℕ, Bool, false, ◌&&◌, ◌==◌, List, [], ◌∷◌}
 use Rattle.gql_ast_base.specs.Names.{Named}
 use Rattle.gql_diag_messages.specs.declared.rule.Rule.TheVariants.{ReservedName}

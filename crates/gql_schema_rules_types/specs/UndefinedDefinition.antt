@@ -1,4 +1,4 @@
--- A type that is named is defined: section 3.3 and the validation of types in section 3 of GraphQL October 2021.
+-- A type that is named is defined: section 3.3 of GraphQL October 2021 and the validation of types in section 3.
 use Rattle.std.specs.Prelude.{not, List}
 use Rattle.gql_ast_base.specs.Names.{Named}
 use Rattle.gql_diag_messages.specs.declared.rule.Rule.TheVariants.{UndefinedDefinition}

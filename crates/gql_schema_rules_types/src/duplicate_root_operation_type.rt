@@ -1,5 +1,5 @@
-//! The root types differ from each other (GraphQL October 2021, section 3.3.1). Of two that do not, the one that stands later
-//! in the text is told.
+//! The root types differ from each other (GraphQL October 2021, section 3.3.1). Of two that do not, the one that stands later in
+//! the text is told.
 
 ghost use Rattle.std.specs.Prelude.{◌≡◌, ◌++◌, false, Some, OnOk};
 ghost use Rattle.std.specs.Option.{option_copied, option_map_or};

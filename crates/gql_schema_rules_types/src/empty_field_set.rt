@@ -1,4 +1,4 @@
-//! An object type and an interface have fields (GraphQL October 2021, sections 3.6 and 3.7).
+//! An object type or an interface has fields (GraphQL October 2021, sections 3.6 and 3.7).
 
 ghost use Rattle.std.specs.Prelude.{◌≡◌, ◌++◌, OnOk};
 ghost use Rattle.gql_schema_rules_types.specs.EmptyFieldSet as spec;

@@ -1,4 +1,4 @@
-//! An argument or an input field is of an input type (GraphQL October 2021, sections 3.6.1 and 3.10).
+//! An argument or an input field is of an input type (GraphQL October 2021, sections 3.4.2, 3.6.1, 3.7, 3.10 and 3.13).
 
 ghost use Rattle.std.specs.Prelude.{◌≡◌, ◌++◌, OnOk, false};
 ghost use Rattle.std.specs.Option.{option_map_or};

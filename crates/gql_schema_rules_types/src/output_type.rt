@@ -1,4 +1,4 @@
-//! A field is of an output type (GraphQL October 2021, section 3.6).
+//! A field is of an output type (GraphQL October 2021, sections 3.4.2, 3.6 and 3.7).
 
 ghost use Rattle.std.specs.Prelude.{◌≡◌, ◌++◌, OnOk, false};
 ghost use Rattle.std.specs.Option.{option_map_or};

@@ -1,5 +1,4 @@
-//! No name that a user gives begins with two underscores (GraphQL October 2021, section 2.1.9 and the validation of types in
-//! section 3).
+//! No name that a user gives begins with two underscores (GraphQL October 2021, sections 2.1.9, 3.3, 3.6, 3.7, 3.10 and 3.13).
 
 ghost use Rattle.std.specs.Prelude.{◌≡◌, ◌++◌, OnOk};
 ghost use Rattle.gql_schema_rules_types.specs.ReservedName as spec;

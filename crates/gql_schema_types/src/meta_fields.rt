@@ -13,7 +13,7 @@ use jb_text::{Listed, Memory, Refused};
 use std::alloc::{AllocError, Global};
 use std::marker::Model;
 
-/// The fields that types have besides their own (GraphQL October 2021, sections 2.9.1 and 4.1). A schema keeps them so
+/// The fields that types have besides their own (GraphQL October 2021, sections 4.1 and 4.2). A schema keeps them so
 /// that it can lend them; all values are the same.
 pub struct MetaFields {
     type_name: Shared<FieldDefinition>,

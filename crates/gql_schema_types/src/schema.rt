@@ -108,7 +108,7 @@ impl Schema {
     }
 
     /// The field of a type, both by name: a type's own field, or else `__typename` of a composite type, or `__schema` or
-    /// `__type` of the root type of queries (sections 2.9.1 and 4.1). `None` exactly where there is none of these, or no
+    /// `__type` of the root type of queries (sections 4.1 and 4.2). `None` exactly where there is none of these, or no
     /// such type. It takes no memory.
     #[must_use]
     pub fn type_field(&self, type_name: &str, field_name: &str) -> Option<&Shared<FieldDefinition>>
