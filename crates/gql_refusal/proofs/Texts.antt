@@ -8,15 +8,10 @@ use Rattle.jb_print.specs.Pieces.{member_piece, pieces_text}
 use Rattle.jb_print.specs.Quoted.{quoted, escaped}
 use Rattle.jb_print.proofs.Compacts.{compact-Array, compact-Object}
 use Rattle.gql_refusal.specs.Refusal.{error_marked, extensions_marked, message_error, refusal_value}
+use Rattle.gql_response.proofs.Texts.{compact-String as string_text, later_members, list_text, member_text}
 use Rattle.gql_response.specs.Response.{Member, error_members, error_value, list_member, location_value, object_member}
 use Rattle.gql_response.specs.declared.graphql_error.GraphQLError.{GraphQLError}
 use Rattle.gql_source.specs.declared.line_column.LineColumn.{LineColumn}
-
-string_text : (message : List ℕ) → compact (json.String message) ≡ quoted message
-string_text message = search (rules, the_lemmas)
-
-member_text : (key : List ℕ) (value : Value) → compact (json.Object ((key, value) ∷ [])) ≡ codes "{" ++ (quoted key ++ codes ":" ++ compact value) ++ codes "}"
-member_text key value = compact-Object ((key, value) ∷ []) ∙ simp append_assoc
 
 item_text : (value : Value) → compact (json.Array (value ∷ [])) ≡ codes "[" ++ compact value ++ codes "]"
 item_text value = compact-Array (value ∷ []) ∙ simp append_assoc
@@ -29,10 +24,6 @@ unfolding escaped
 refusal_text message =
     rw (member_text, item_text, member_text, string_text) (ap (λ text. codes "{\"errors\":[{\"message\":" ++ text) (closing (quoted message)))
 
-pub list_text : (errors : List Value) → compact (json.Object ((codes "errors", json.Array errors) ∷ [])) ≡ (codes "{\"errors\":" ++ compact (json.Array errors)) ++ codes "}"
-unfolding escaped
-list_text errors = member_text (codes "errors") (json.Array errors) ∙ simp append_assoc
-
 -- the member that has the places of an error
 abbrev pub places : List LineColumn → List (List ℕ × Value)
 places found = list_member (codes "locations") (map location_value found)
@@ -40,10 +31,6 @@ places found = list_member (codes "locations") (map location_value found)
 -- the member that marks an error as a fault of validation
 abbrev pub mark : Bool → List Member
 mark marked = object_member (codes "extensions") (extensions_marked marked)
-
-later_members : (xs ys : List Member) → pieces_text true (map member_piece (xs ++ ys)) ≡ pieces_text true (map member_piece xs) ++ pieces_text true (map member_piece ys)
-later_members [] ys = refl
-later_members (x ∷ xs) ys = ap (λ rest. codes "," ++ (member_piece x ++ rest)) (later_members xs ys) ∙ simp append_assoc
 
 -- an object whose first member is there, as it is written step by step
 around : (old opening key text first second : List ℕ)

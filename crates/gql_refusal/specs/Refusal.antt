@@ -1,13 +1,12 @@
--- A refusal as a JSON value: an object with errors alone, which are those of a response (GraphQL October 2021, section 7.1.2).
-use Rattle.std.specs.Prelude.{ℕ, Bool, if◌then◌else◌, List, [], ◌∷◌, map, None, codes}
-use Rattle.jb_tree.specs.declared.value.Value.{Value}
-use Rattle.jb_tree.specs.declared.value.Value.TheVariants as json
+-- The errors of refusals, which are those of responses (GraphQL October 2021, section 7.1.2).
+use Rattle.std.specs.Prelude.{ℕ, Bool, if◌then◌else◌, List, [], map}
 use Rattle.gql_diag.specs.List.{Diagnostics}
 use Rattle.gql_diag.specs.RequestFault.{suspected_bug}
 use Rattle.gql_diag_messages.specs.Details.{message_of}
 use Rattle.gql_diag_messages.specs.declared.diagnostic_data.DiagnosticData.{DiagnosticData}
 use Rattle.gql_response.specs.ErrorAt.{error_at}
-use Rattle.gql_response.specs.Response.{Member, error_value}
+use Rattle.gql_response.specs.Response.{Member}
+pub use Rattle.gql_response.specs.Response.{refusal_value}
 use Rattle.gql_response.specs.declared.graphql_error.GraphQLError.{GraphQLError}
 use Rattle.gql_source.specs.File.{Files}
 use Rattle.gql_source.specs.declared.line_column.LineColumn.{LineColumn}
@@ -34,6 +33,3 @@ error_of sources item = error_at (message_of item.details) item.location sources
 -- those of the diagnostics of a list
 abbrev pub errors_of : Diagnostics → List GraphQLError
 errors_of list = map (error_of list.sources) list.items
-
-abbrev pub refusal_value : List GraphQLError → Value
-refusal_value errors = json.Object ((codes "errors", json.Array (map error_value errors)) ∷ [])

@@ -1,4 +1,4 @@
 mod InTurn
-mod Texts
+pub mod Texts
 mod ReadsBack
 mod Equality

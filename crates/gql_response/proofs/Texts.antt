@@ -3,13 +3,22 @@ use Rattle.std.proofs.Common.{◌≡◌, ℕ, true, false, List, [], ◌∷◌, 
 use Rattle.std.proofs.lemmas.List.{append-nil}
 use Rattle.gql_response.specs.declared.graphql_error.GraphQLError.{GraphQLError}
 use Rattle.gql_response.specs.Response.{Member, error_value, list_member}
-use Rattle.jb_tree.specs.declared.value.Value.{Value, String, Array, the_lemmas}
+use Rattle.jb_tree.specs.declared.value.Value.{Value, String, Array, Object, the_lemmas}
 use Rattle.jb_print.specs.Compact.{compact}
-use Rattle.jb_print.specs.Quoted.{quoted}
+use Rattle.jb_print.specs.Quoted.{quoted, escaped}
 use Rattle.jb_print.specs.Pieces.{pieces_text, member_piece}
+use Rattle.jb_print.proofs.Compacts.{compact-Object}
 
 pub compact-String : (text : List ℕ) → compact (String text) ≡ quoted text
 compact-String text = search (rules, the_lemmas)
+
+pub member_text : (key : List ℕ) (value : Value) → compact (Object ((key, value) ∷ [])) ≡ codes "{" ++ (quoted key ++ codes ":" ++ compact value) ++ codes "}"
+member_text key value = compact-Object ((key, value) ∷ []) ∙ simp append_assoc
+
+-- an object with errors alone
+pub list_text : (errors : List Value) → compact (Object ((codes "errors", Array errors) ∷ [])) ≡ (codes "{\"errors\":" ++ compact (Array errors)) ++ codes "}"
+unfolding escaped
+list_text errors = member_text (codes "errors") (Array errors) ∙ simp append_assoc
 
 pub later_members : (xs ys : List Member) → pieces_text true (map member_piece (xs ++ ys)) ≡ pieces_text true (map member_piece xs) ++ pieces_text true (map member_piece ys)
 later_members [] ys = refl

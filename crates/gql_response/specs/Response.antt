@@ -47,3 +47,7 @@ data_value (Some members) = json.Object members
 abbrev pub response_value : ExecutionResponse → Value
 response_value response =
     json.Object (list_member (codes "errors") (map error_value response.errors) ++ (codes "data", data_value response.root) ∷ [])
+
+-- a refusal: an object with errors alone
+abbrev pub refusal_value : List GraphQLError → Value
+refusal_value errors = json.Object ((codes "errors", json.Array (map error_value errors)) ∷ [])

@@ -4,7 +4,7 @@ ghost use Rattle.std.specs.Prelude.{◌≡◌, ◌++◌, ◌∷◌, [], false, L
 ghost use Rattle.jb_print.specs.Pieces.{pieces_text, member_piece};
 ghost use Rattle.jb_print.specs.Compact.{compact};
 ghost use Rattle.jb_shape.specs.Outcome.{Answers};
-ghost use Rattle.gql_response.specs.Response.{Member, data_value, error_value, list_member, response_value};
+ghost use Rattle.gql_response.specs.Response.{Member, data_value, error_value, list_member, refusal_value, response_value};
 ghost use Rattle.gql_response.specs.Reading.{put_response, read_data, read_response, response_read, shaped, Answered};
 
 use crate::error_parts::read_object;
@@ -63,6 +63,18 @@ impl ExecutionResponse {
         let mut out = String::with_capacity(alloc, room)?;
         append_before_data(&mut out, errors)?;
         out.push_str(written)?;
+        out.push_str("}")?;
+        Ok(Bytes::from_vec(out.into_bytes())?)
+    }
+
+    /// The bytes of a refusal for these errors, as JSON without white space: an object with `errors` alone (GraphQL October 2021,
+    /// section 7.1.2). `Err` only when out of memory.
+    pub fn refusal_bytes(alloc: Global, errors: &[GraphQLError]) -> Result<Bytes, Memory>
+        ensures { IfOk result (λ bytes. bytes ≡ compact (refusal_value errors.now)) }
+    {
+        let mut out = String::with_capacity(alloc, FIRST_ROOM)?;
+        out.push_str("{\"errors\":")?;
+        append_list(&mut out, errors)?;
         out.push_str("}")?;
         Ok(Bytes::from_vec(out.into_bytes())?)
     }

@@ -43,6 +43,25 @@ fn a_response_reads_back_and_prints_the_same(rt: HostRuntime) -> Result<(), Fail
     Ok(())
 }
 
+/// A response, and what is printed of the refusal for its errors.
+const ERRORS: &[u8] =
+    b"{\"errors\":[{\"message\":\"m\",\"path\":[\"f\"]},{\"message\":\"n\"}],\"data\":{\"f\":null}}";
+
+const REFUSAL: &[u8] = b"{\"errors\":[{\"message\":\"m\",\"path\":[\"f\"]},{\"message\":\"n\"}]}";
+
+/// What is printed of the refusal for the errors of a response.
+fn refusal_printed(alloc: Global, text: &'static [u8]) -> Result<Bytes, Fail> {
+    let response = read(alloc, text)?;
+    let errors = response.errors.as_slice();
+    Ok(ExecutionResponse::refusal_bytes(alloc, errors)?)
+}
+
+#[test]
+fn a_refusal_has_its_errors_alone(rt: HostRuntime) -> Result<(), Fail> {
+    assert_eq!(rt; refusal_printed(rt.alloc(), ERRORS)?.as_slice(), REFUSAL);
+    Ok(())
+}
+
 /// Texts that are no response, and why they are refused.
 const REFUSED: &[(&[u8], ResponseFault)] = &[
     (b"{", ResponseFault::Read(BROKEN_OFF)),

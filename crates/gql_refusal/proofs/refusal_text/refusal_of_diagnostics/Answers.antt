@@ -1,6 +1,6 @@
 use Rattle.std.proofs.Common.{map, sym}
 use Rattle.gql_refusal.specs.Refusal.{errors_of}
-use Rattle.gql_refusal.proofs.Texts.{list_text}
+use Rattle.gql_response.proofs.Texts.{list_text}
 use Rattle.gql_response.specs.Response.{error_value}
 use Rattle.gql_refusal.proofs.refusal_text.refusal_of_diagnostics.Goals as goal
 
