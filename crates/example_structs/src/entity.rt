@@ -9,7 +9,7 @@ ghost use Rattle.example_structs.specs.Thing.{thing, of_author, of_book};
 ghost use Rattle.example_structs.specs.declared.library.Author.{Author as Writer};
 ghost use Rattle.gql_engine.specs.Resolving.{gives_objects, meaning_by};
 
-use crate::library::{Author, Book, Library};
+use crate::library::{Author, Book, Kind, Library};
 use gql_engine::{
     Listed, Map, Memory, Number, ObjectValue, ResolveError, ResolveInfo, ResolvedValue, Value,
 };
@@ -40,7 +40,7 @@ impl<'l> ObjectValue for Entity<'l> {
         match self {
             Entity::Library(_) => "Query",
             Entity::Author(_) => "Author",
-            Entity::Book { .. } => "Book",
+            Entity::Book { book, .. } => book.kind.type_name(),
         }
     }
 
@@ -52,7 +52,7 @@ impl<'l> ObjectValue for Entity<'l> {
         let name = info.field_name();
         let field = match *self {
             Entity::Library(library) => library_field(alloc, library, name, info.arguments())?,
-            Entity::Author(author) => author_field(alloc, author, name)?,
+            Entity::Author(author) => author_field(alloc, author, name, info.arguments())?,
             Entity::Book { book, author } => book_field(alloc, book, author, name)?,
         };
         match field {
@@ -119,14 +119,31 @@ fn author_field<'l>(
     alloc: Global,
     author: &'l Author,
     name: &str,
+    arguments: &Map,
 ) -> Result<Option<ResolvedValue<Entity<'l>>>, Memory>
-    ensures { IfOk result (λ made. option_map (meaning_by thing) made ≡ spec.author_field author.now name.now) }
+    ensures { IfOk result (λ made. option_map (meaning_by thing) made ≡ spec.author_field author.now name.now arguments.now) }
 {
     match name {
         "name" => Ok(Some(text(alloc, author.name.as_str())?)),
         "books" => list(alloc, books(alloc, author)?),
+        "book" => Ok(Some(book_or_null(author, book_at(author, arguments)))),
         _ => Ok(None),
     }
+}
+
+/// A book of an author, or null where there is none.
+fn book_or_null<'l>(author: &'l Author, book: Option<&'l Book>) -> ResolvedValue<Entity<'l>>
+    ensures { meaning_by thing result ≡ spec.book_or_null author.now (option_copied book.entry) }
+{
+    ResolvedValue::nullable_object(book.map(|book| Entity::Book { book, author }))
+}
+
+/// The book of an author at the place that the argument `index` says, from zero.
+fn book_at<'l>(author: &'l Author, arguments: &Map) -> Option<&'l Book>
+    ensures { option_copied result ≡ spec.book_at author.now arguments.now }
+{
+    let index = arguments.get("index")?.as_u64()?;
+    author.books.get(index as usize)
 }
 
 /// The books of an author, as objects.
@@ -153,7 +170,18 @@ fn book_field<'l>(
         "title" => Ok(Some(text(alloc, book.title.as_str())?)),
         "year" => Ok(Some(year(book))),
         "author" => Ok(Some(ResolvedValue::Object(Entity::Author(author)))),
+        "subject" => subject_field(alloc, book.kind),
         _ => Ok(None),
+    }
+}
+
+/// What a treatise is about, as the name of an enum's value.
+fn subject_field<'l>(alloc: Global, kind: Kind) -> Result<Option<ResolvedValue<Entity<'l>>>, Memory>
+    ensures { IfOk result (λ made. option_map (meaning_by thing) made ≡ spec.subject_field kind) }
+{
+    match kind {
+        Kind::Novel => Ok(None),
+        Kind::Treatise(subject) => Ok(Some(text(alloc, subject.name())?)),
     }
 }
 

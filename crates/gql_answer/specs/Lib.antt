@@ -6,6 +6,7 @@ pub mod Answered
 pub mod Unanswered
 pub mod Responding
 pub mod AnswerError
+pub mod Told
 pub mod Answering
 pub use Rattle.gql_document_text_laws.specs.DocumentText
 pub use Rattle.gql_schema_text_laws.specs.SchemaText

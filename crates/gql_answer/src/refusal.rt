@@ -1,9 +1,10 @@
 //! Why there is no response to what is wanted, with the files that its places are in.
 
-ghost use Rattle.std.specs.Prelude.{◌≡◌, IfOk};
+ghost use Rattle.std.specs.Prelude.{◌≡◌, Some, IfOk};
 ghost use Rattle.jb_print.specs.Compact.{compact};
 ghost use Rattle.gql_refusal.specs.Refusal.{refusal_value};
 ghost use Rattle.gql_answer.specs.Responding.{IsOfStep, of_texts, told, told_as};
+ghost use Rattle.gql_answer.specs.Told.{errors_told};
 
 use crate::answer_error::{AnswerError, RequestKind};
 use crate::meaning::TextFaults;
@@ -40,9 +41,10 @@ impl Refusal {
         }
     }
 
-    /// The refusal as callers are told it. `Err` only when out of memory.
+    /// The refusal as callers are told it, which tells a client the same errors. `Err` only when out of memory.
     pub fn into_error(self, alloc: Global) -> Result<AnswerError, Memory>
-        ensures { IfOk result (λ error. error ≡ told_as self) }
+        ensures refusal { IfOk result (λ error. error ≡ told_as self) }
+        ensures errors { IfOk result (λ error. errors_told error ≡ Some (told self)) }
     {
         match self {
             Refusal::Schema(list) => Ok(AnswerError::Schema(list)),
