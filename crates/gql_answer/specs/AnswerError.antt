@@ -5,9 +5,9 @@ use Rattle.jb_tree.specs.declared.value.Value.{Value}
 use Rattle.jb_tree.specs.Value.{object_members}
 use Rattle.jb_read.specs.Spelling.{JsonText}
 use Rattle.jb_read.specs.Faults.{JsonFault}
-use Rattle.gql_document_text_laws.specs.SameFaults.{TellTheSame}
+use Rattle.gql_document_text.specs.SameFaults.{TellTheSame}
 use Rattle.gql_document_types.specs.ChosenOperation.{text_of}
-use Rattle.gql_schema_text_laws.specs.SchemaFaults.{SchemaFaults}
+use Rattle.gql_schema_text.specs.SchemaFaults.{SchemaFaults}
 use Rattle.gql_answer.specs.Meant.{IsNoDocument}
 use Rattle.gql_answer.specs.Ready.{Ready}
 use Rattle.gql_answer.specs.Unanswered.{IsUnchosen, IsTooDeep, IsUncoerced}

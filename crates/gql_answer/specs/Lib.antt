@@ -8,8 +8,8 @@ pub mod Responding
 pub mod AnswerError
 pub mod Told
 pub mod Answering
-pub use Rattle.gql_document_text_laws.specs.DocumentText
-pub use Rattle.gql_schema_text_laws.specs.SchemaText
+pub use Rattle.gql_document_text.specs.DocumentText
+pub use Rattle.gql_schema_text.specs.SchemaText
 pub use Rattle.gql_exec_request.specs.Executing
 pub use Rattle.gql_exec_request.specs.Thing
 pub use Rattle.gql_exec_request.specs.ThingMeaning

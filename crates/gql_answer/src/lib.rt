@@ -20,9 +20,9 @@ mod wanted;
 
 pub use answer_error::{AnswerError, RequestKind, VariablesFault};
 pub use answering::answer;
-pub use gql_document_text_laws::{document_laws, document_of_text};
+pub use gql_document_text::{document_of_text, laws as document_laws};
 pub use gql_exec_request::{Execution, WrittenResponse, partial_execute};
-pub use gql_schema_text_laws::{schema_laws, schema_of_text};
+pub use gql_schema_text::{laws as schema_laws, schema_of_text};
 pub use meaning::{TextFaults, Texts, check_texts, read_texts};
 pub use refusal::Refusal;
 pub use responding::respond;

@@ -14,12 +14,12 @@ use crate::response_bytes::{Written, write_response};
 use crate::steps_before::{check_depth, choose, coerce};
 use crate::wanted::Wanted;
 use gql_diag::{JsonMap, Valid};
-use gql_document_text_laws::{document_laws, laws as selection_laws};
+use gql_document_text::laws as document_laws;
 use gql_document_types::Operation;
 use gql_exec_request::Execution;
 use gql_exec_resolve::ObjectValue;
 use gql_exec_steps::Steps;
-use gql_schema_text_laws::laws as schema_laws;
+use gql_schema_text::laws as schema_laws;
 use jb_tree::{Memory, Refused};
 use std::alloc::{AllocError, Global};
 use std::sync::ledger::Ledger;
@@ -80,7 +80,7 @@ fn respond_to<O: ObjectValue, L: Ledger>(
     requires chosen { chosen (text_of wanted.now.operation_name) texts.now.document.operations ≡ Some operation.now }
     ensures answered { IsResponse O.type_of O.resolves (O.seen root.now) (wanted_by wanted.now) steps.old steps.new result }
 {
-    selection_laws::operations_select_something();
+    document_laws::operations_select_something();
     match check_depth(alloc, wanted, texts, operation, steps) {
         Ok(()) => perform(alloc, wanted, texts, operation, root, steps),
         Err(refused) => Err(refused),

@@ -13,7 +13,7 @@ use crate::meaning::Texts;
 use crate::refusal::{Refusal, of_step};
 use crate::wanted::Wanted;
 use gql_diag::{JsonMap, Valid};
-use gql_document_text_laws::document_laws;
+use gql_document_text::laws as document_laws;
 use gql_document_types::Operation;
 use gql_exec_depth::check_max_depth;
 use gql_exec_steps::Steps;

@@ -1,0 +1,6 @@
+mod CountCalls
+pub mod Counts
+mod ExpandCalls
+mod Fixed
+mod Row
+pub mod Views

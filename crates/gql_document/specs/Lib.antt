@@ -1,0 +1,6 @@
+pub mod Contents
+pub mod Count
+pub mod Counted
+pub mod Expanded
+pub mod OneSpread
+pub mod Refusal

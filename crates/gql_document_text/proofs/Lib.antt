@@ -6,3 +6,12 @@ mod Running
 mod Sets
 mod Telling
 mod Tied
+mod Found
+mod SelectedSets
+mod Each
+mod Definitions
+mod Variants
+pub mod Made
+mod Kept
+mod Operations
+mod Documents

@@ -2,4 +2,5 @@ pub mod DocumentText
 pub mod DocumentFaults
 pub mod SameFaults
 pub mod Running
+pub mod Selecting
 pub mod Answers

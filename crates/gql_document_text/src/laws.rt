@@ -6,6 +6,7 @@ ghost use Rattle.gql_document_text.specs.DocumentFaults.{DocumentFaults};
 ghost use Rattle.gql_document_text.specs.DocumentText.{DocumentText};
 ghost use Rattle.gql_document_text.specs.Running.{AreOnRoots, AreSpreadsDefined};
 ghost use Rattle.gql_document_text.specs.SameFaults.{TellTheSame};
+ghost use Rattle.gql_document_text.specs.Selecting.{SelectSomething};
 ghost use Rattle.gql_document_types.specs.Spreads.{spread_graph};
 ghost use Rattle.gql_document_types.specs.declared.document.ExecutableDocument.{ExecutableDocument as DocumentOf};
 ghost use Rattle.gql_exec_groups.specs.Ranks.{AreRanked};
@@ -41,4 +42,12 @@ pub fn valid_documents_run()
     ensures roots { (schema : SchemaOf) (text : List ℕ) (document : DocumentOf) → DocumentText schema text document → AreOnRoots schema document }
 {
     graph_laws::acyclic_graphs_have_ranks();
+}
+
+/// Each operation of a document that a text means selects something: between braces at least one selection stands, and where
+/// nothing is wrong with a document, none is left out of it (GraphQL October 2021, section 2.4).
+pub fn operations_select_something()
+    ensures { (schema : SchemaOf) (text : List ℕ) (document : DocumentOf) → DocumentText schema text document → SelectSomething document }
+{
+    grammar_laws::sentences_have_one_tree();
 }

@@ -17,7 +17,7 @@ use Rattle.gql_document_types.specs.ChosenOperation.{text_of}
 use Rattle.gql_exec_resolve.specs.Data.{Data}
 use Rattle.gql_exec_resolve.specs.DataMeaning.{data_meaning}
 use Rattle.gql_refusal.specs.Refusal.{message_error, refusal_value}
-use Rattle.gql_reports.specs.Reports.{reports_of}
+use Rattle.gql_engine.specs.Reports.{reports_of}
 use Rattle.gql_request.specs.NotAsked.{NotAsked, no_text, no_request, read_message}
 use Rattle.gql_request.specs.Request.{Asked, asked, asked_in, fault_message}
 use Rattle.gql_request.specs.declared.request.Request.{Request}

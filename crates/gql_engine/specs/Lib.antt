@@ -1,5 +1,6 @@
 pub mod Task
 pub mod Reply
+pub mod Reports
 pub mod Output
 pub mod Program
 pub mod Resolving

@@ -12,7 +12,7 @@ use Rattle.gql_diag.specs.List.{Diagnostics}
 use Rattle.gql_exec_resolve.specs.Data.{Data}
 use Rattle.gql_exec_resolve.specs.DataMeaning.{data_meaning}
 use Rattle.gql_refusal.specs.Refusal.{message_error, refusal_value}
-use Rattle.gql_reports.specs.Reports.{reports_of}
+use Rattle.gql_engine.specs.Reports.{reports_of}
 use Rattle.gql_request.specs.NotAsked.{IsAsked, NotAsked}
 use Rattle.gql_request.specs.Request.{Asked}
 use Rattle.gql_response.specs.declared.graphql_error.GraphQLError.{GraphQLError}

@@ -6,6 +6,7 @@
 //! request is answered, unless memory or a stream fails. The program also checks the texts of a request, and tries itself.
 #![tactic(auto)]
 
+mod list_reports;
 mod output;
 pub mod program;
 mod reply;
@@ -27,8 +28,9 @@ pub use gql_parser_mixed::{ParseMixed, Parser};
 pub use gql_refusal::{refusal_of_diagnostics, refusal_of_request};
 pub use gql_rules_untyped::validate_standalone;
 pub use gql_schema_types::Schema;
-pub use gql_source::{FileIds, SourceMap};
+pub use gql_source::{FileId, FileIds, SourceMap};
 pub use jb_read::from_bytes_whole;
 pub use jb_serve::{ANSWERED, MISUSED, NO_MEMORY, REFUSED, SINK_FAILED, SOURCE_FAILED, TOO_LONG};
 pub use jb_tree::{ByteString, Listed, Map, Memory, Number, Refused, Text, Value};
+pub use list_reports::reports;
 pub use program::{run, run_in_memory};

@@ -5,8 +5,8 @@ use Rattle.gql_ast_values.specs.declared.type_ref.TypeRef.{TypeRef}
 use Rattle.gql_document_types.specs.declared.fragment.Fragment.{Fragment}
 use Rattle.gql_document_types.specs.declared.selection.Selection.{Selection}
 use Rattle.gql_schema_types.specs.declared.types.ObjectType.{ObjectType}
-use Rattle.gql_document_expand.specs.Contents.{HaveContents}
-use Rattle.gql_document_expand.specs.Expanded.{expanded}
+use Rattle.gql_document.specs.Contents.{HaveContents}
+use Rattle.gql_document.specs.Expanded.{expanded}
 use Rattle.gql_exec_groups.specs.Ranks.{AreRanked}
 use Rattle.gql_exec_places.specs.Depth.{AllGroups, Suffices}
 use Rattle.gql_exec_places.specs.Execute.{Made, Member, then_rest, settled, settled_item, unless_misfit}

@@ -1,3 +1,4 @@
 pub mod SchemaText
 pub mod SchemaFaults
+pub mod Roots
 pub mod Answers

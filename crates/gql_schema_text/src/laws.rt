@@ -1,8 +1,10 @@
 //! Laws of the definitions alone.
 
-ghost use Rattle.std.specs.Prelude.{◌≡◌, ℕ, List};
+ghost use Rattle.std.specs.Prelude.{◌≡◌, ℕ, List, []};
 ghost use Rattle.gql_diag.specs.List.{Diagnostics};
 ghost use Rattle.gql_schema_types.specs.declared.schema.Schema.{Schema as SchemaOf};
+ghost use Rattle.gql_schema_rules.specs.SchemaFaults.{AreSchemaFaults};
+ghost use Rattle.gql_schema_text.specs.Roots.{AreRootsObjects};
 ghost use Rattle.gql_schema_text.specs.SchemaFaults.{SchemaFaults};
 ghost use Rattle.gql_schema_text.specs.SchemaText.{SchemaText};
 
@@ -10,6 +12,7 @@ use gql_ast_laws::laws as tree_laws;
 use gql_cst_grammar::laws as grammar_laws;
 use gql_cst_lexer::laws as token_laws;
 use gql_diag::laws as list_laws;
+use gql_schema_laws::laws as built_in_laws;
 
 /// A text means one schema at most (GraphQL October 2021, section 3), and none where something is wrong with it. What is
 /// wrong with it is one list.
@@ -22,4 +25,13 @@ pub fn texts_have_one_schema()
     list_laws::stable_sorts_are_one();
     token_laws::one_thing_stands();
     grammar_laws::sentences_have_one_tree();
+}
+
+/// Where no rule finds a fault in a schema, each root type is an object type of it (GraphQL October 2021, section 3.3.1). And so
+/// it is in a schema that a text means, which has the built-in scalars as validation leaves them.
+pub fn roots_are_object_types()
+    ensures rules { (schema : SchemaOf) → AreSchemaFaults schema [] → AreRootsObjects schema }
+    ensures text { (text : List ℕ) (schema : SchemaOf) → SchemaText text schema → AreRootsObjects schema }
+{
+    built_in_laws::built_in_text_is_a_document();
 }

@@ -16,8 +16,8 @@ use Rattle.gql_document_build.specs.Builders.{Taken, built}
 use Rattle.gql_document_build.specs.Definitions.{with_definitions, no_definitions}
 use Rattle.gql_document_build.specs.Made as made
 use Rattle.gql_document_build.specs.Nodes.{is_leaf}
-use Rattle.gql_document_text_laws.specs.DocumentText.{DocumentText}
-use Rattle.gql_document_text_laws.proofs.Made.{made_field}
+use Rattle.gql_document_text.specs.DocumentText.{DocumentText}
+use Rattle.gql_document_text.proofs.Made.{made_field}
 use Rattle.gql_document_types.specs.ChosenOperation.{chosen}
 use Rattle.gql_ast_values.specs.TypeParts.{named_type}
 use Rattle.gql_document_types.specs.declared.document.ExecutableDocument.{ExecutableDocument}

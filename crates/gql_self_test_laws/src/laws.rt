@@ -1,7 +1,7 @@
 //! Laws of the definitions alone.
 
 ghost use Rattle.std.specs.Prelude.{◌≡◌, ◌<◌, ◌^◌, ℕ, List, Option, Some};
-ghost use Rattle.gql_document_text_laws.specs.DocumentText.{DocumentText};
+ghost use Rattle.gql_document_text.specs.DocumentText.{DocumentText};
 ghost use Rattle.gql_document_types.specs.ChosenOperation.{chosen};
 ghost use Rattle.gql_document_types.specs.declared.document.ExecutableDocument.{ExecutableDocument as DocumentOf};
 ghost use Rattle.gql_document_types.specs.declared.operation.Operation.{Operation as OperationOf};

@@ -6,7 +6,7 @@ ghost use Rattle.gql_rules_graph.specs.Cycles.{IsOnCycle};
 
 use crate::written::operation_text;
 use gql_diag::Valid;
-use gql_document_expand::expand_fragments;
+use gql_document::expand_fragments;
 use gql_document_types::ExecutableDocument;
 use gql_parser::Parser;
 use gql_schema_types::Schema;

@@ -1,4 +1,0 @@
-mod Entries
-mod Kept
-mod Scalars
-mod Roots

@@ -1,5 +1,0 @@
--- The counter is over a ledger of its own.
-use Rattle.tests_devices.proofs.runs.ran.Given as goal
-
-abbrev pub ghosts-counted : goal.ghosts-counted
-ghosts-counted a = record { name = a.blank.name; parts = a.blank.parts }
