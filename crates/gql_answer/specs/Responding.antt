@@ -8,7 +8,7 @@ use Rattle.gql_diag.specs.declared.request_error.RequestError.{RequestError}
 use Rattle.gql_document_types.specs.declared.document.ExecutableDocument.{ExecutableDocument}
 use Rattle.gql_document_types.specs.declared.operation.Operation.{Operation}
 use Rattle.gql_exec_request.specs.ThingMeaning.{Resolving}
-use Rattle.gql_refusal.specs.Refusal.{errors_of}
+use Rattle.gql_diag.specs.Refusal.{errors_of}
 use Rattle.gql_response.specs.declared.graphql_error.GraphQLError.{GraphQLError}
 use Rattle.gql_schema_text.specs.SchemaFaults.{SchemaFaults}
 use Rattle.gql_schema_types.specs.declared.schema.Schema.{Schema}

@@ -3,7 +3,7 @@ use Rattle.std.specs.Prelude.{◌≡◌, ℕ, List, [], ◌∷◌, ◌++◌, Opt
 use Rattle.std.specs.Fmt.{decimal}
 use Rattle.jb_print.specs.Compact.{compact}
 use Rattle.jb_read.specs.KindName.{kind_name}
-use Rattle.gql_refusal.specs.Refusal.{errors_of, message_error, refusal_value}
+use Rattle.gql_diag.specs.Refusal.{errors_of, message_error, refusal_value}
 use Rattle.gql_response.specs.declared.graphql_error.GraphQLError.{GraphQLError}
 use Rattle.gql_answer.specs.declared.answer_error.VariablesFault.{VariablesFault}
 use Rattle.gql_answer.specs.declared.answer_error.VariablesFault.TheVariants.{Read, NotObject}

@@ -6,10 +6,10 @@ use Rattle.gql_diag.specs.List.{Diagnostics}
 use Rattle.gql_diag.specs.RequestFault.{request_error}
 use Rattle.gql_document_types.specs.ChosenOperation.{chosen, refusal, why_none}
 use Rattle.gql_document_types.specs.declared.operation.Operation.{Operation}
-use Rattle.gql_exec_depth.specs.Nested.{Place}
-use Rattle.gql_exec_depth.specs.Refusal.{IsFoundDeep, too_deep}
-use Rattle.gql_exec_variables.specs.RequestErrors.{request_error as fault_told}
-use Rattle.gql_refusal.specs.Refusal.{errors_of}
+use Rattle.gql_exec_plan.specs.Nested.{Place}
+use Rattle.gql_exec_plan.specs.Refusal.{IsFoundDeep, too_deep}
+use Rattle.gql_exec_plan.specs.RequestErrors.{request_error as fault_told}
+use Rattle.gql_diag.specs.Refusal.{errors_of}
 use Rattle.gql_response.specs.declared.graphql_error.GraphQLError.{GraphQLError}
 use Rattle.gql_answer.specs.Meant.{AreFaults}
 use Rattle.gql_answer.specs.Depths.{IsShallow}

@@ -4,8 +4,9 @@ ghost use Rattle.std.specs.Prelude.{◌≡◌, IfOk};
 ghost use Rattle.gql_answer.specs.Told.{IsToldOf, variables_message};
 
 use bytes::Bytes;
-use gql_diag::{DiagnosticList, ExecutionResponse, GraphQLError};
-use gql_refusal::{refusal_of_diagnostics, refusal_of_message};
+use gql_diag::{
+    DiagnosticList, ExecutionResponse, GraphQLError, refusal_of_diagnostics, refusal_of_message,
+};
 use jb_read::ReadFault;
 use jb_tree::{Memory, Text};
 use std::alloc::{AllocError, Global};

@@ -2,15 +2,14 @@
 
 ghost use Rattle.std.specs.Prelude.{◌≡◌, Some, IfOk};
 ghost use Rattle.jb_print.specs.Compact.{compact};
-ghost use Rattle.gql_refusal.specs.Refusal.{refusal_value};
+ghost use Rattle.gql_diag.specs.Refusal.{refusal_value};
 ghost use Rattle.gql_answer.specs.Responding.{IsOfStep, of_texts, told, told_as};
 ghost use Rattle.gql_answer.specs.Told.{errors_told};
 
 use crate::answer_error::{AnswerError, RequestKind};
 use crate::meaning::TextFaults;
 use bytes::Bytes;
-use gql_diag::{DiagnosticList, RequestError};
-use gql_refusal::{refusal_of_diagnostics, refusal_of_request};
+use gql_diag::{DiagnosticList, RequestError, refusal_of_diagnostics, refusal_of_request};
 use gql_source::SourceMap;
 use jb_tree::{Memory, Refused};
 use std::alloc::Global;

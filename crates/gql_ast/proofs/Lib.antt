@@ -1,2 +1,3 @@
+pub mod Texts
 mod Choices
 mod Words

@@ -1,1 +1,4 @@
+pub mod Pieces
+pub mod TypeText
+pub mod ValueText
 pub mod Documents

@@ -13,6 +13,8 @@
 
 mod definition;
 mod document;
+mod type_text;
+mod value_text;
 
 pub use definition::Definition;
 pub use document::Document;
@@ -28,5 +30,6 @@ pub use gql_ast_operations::{
     Field, FragmentDefinition, FragmentSpread, InlineFragment, OperationDefinition, Selection,
     VariableDefinition,
 };
-pub use gql_ast_print::{print_type, print_value};
 pub use gql_ast_values::{Argument, Boxed, Directive, TypeRef, Value, ValueKind};
+pub use type_text::print_type;
+pub use value_text::print_value;

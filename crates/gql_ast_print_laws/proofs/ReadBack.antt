@@ -11,7 +11,7 @@ use Rattle.gql_ast_values.specs.declared.type_ref.TypeRef.{TypeRef, roll-TypeRef
 use Rattle.gql_ast_values.specs.declared.type_ref.TypeRef.TheFolds.{ind-TypeRef, map-TypeRef}
 use Rattle.gql_ast_values.specs.declared.type_ref.TypeRef.TheOpen.{TypeRef-F}
 use Rattle.gql_ast_values.specs.declared.type_ref.TypeRef.TheVariants.{Named as NamedType, NonNullNamed}
-use Rattle.gql_ast_print.specs.TypeText.{type_text}
+use Rattle.gql_ast.specs.TypeText.{type_text}
 use Rattle.gql_ast_print_laws.specs.Printed.{has_names}
 use Rattle.gql_ast_print_laws.proofs.Rest.{Rest, Follows, after, cut, name_low, mark_leaf}
 use Rattle.gql_ast_print_laws.proofs.Levels.{Read, MarkAt, name_at, named, non_null_named, list, non_null_list}

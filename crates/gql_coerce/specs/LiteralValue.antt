@@ -13,7 +13,7 @@ use Rattle.gql_ast_values.specs.declared.value.Value.{Value}
 use Rattle.gql_ast_values.specs.declared.value.ValueKind.{ValueKind, out-ValueKind, fold-ValueKind}
 use Rattle.gql_ast_values.specs.declared.value.ValueKind.TheOpen.{ValueKind-F, Value-F}
 use Rattle.gql_ast_values.specs.declared.type_ref.TypeRef.{TypeRef}
-use Rattle.gql_ast_print.specs.ValueText.{value_text}
+use Rattle.gql_ast.specs.ValueText.{value_text}
 use Rattle.gql_ast_definitions.specs.declared.field_definition.InputValueDefinition.{InputValueDefinition}
 use Rattle.gql_schema_types.specs.Types.{type_called}
 use Rattle.gql_schema_types.specs.declared.types.ExtendedType.{ExtendedType}

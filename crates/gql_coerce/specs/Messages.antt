@@ -1,7 +1,7 @@
 -- The messages of coercion, where d says what a value is coerced for.
 use Rattle.std.specs.Prelude.{ℕ, List, ◌++◌, codes}
 use Rattle.gql_ast_values.specs.declared.type_ref.TypeRef.{TypeRef}
-use Rattle.gql_ast_print.specs.TypeText.{type_text}
+use Rattle.gql_ast.specs.TypeText.{type_text}
 
 abbrev pub null_value : List ℕ → TypeRef → List ℕ
 null_value d ty = codes "null value for " ++ (d ++ (codes " of non-null type " ++ type_text ty))

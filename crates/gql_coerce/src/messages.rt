@@ -2,12 +2,12 @@
 
 ghost use Rattle.std.specs.Prelude.{◌≡◌, IfOk};
 ghost use Rattle.jb_print.specs.Compact.{compact};
-ghost use Rattle.gql_ast_print.specs.ValueText.{value_text};
+ghost use Rattle.gql_ast.specs.ValueText.{value_text};
 ghost use Rattle.gql_coerce.specs.Messages as spec;
 ghost use Rattle.gql_coerce.specs.Subject.{subject_text};
 
 use crate::subject::Subject;
-use gql_ast_print::{print_type, print_value};
+use gql_ast::{print_type, print_value};
 use gql_ast_values::{TypeRef, Value as Literal};
 use jb_print::to_text;
 use jb_text::{Memory, Text};

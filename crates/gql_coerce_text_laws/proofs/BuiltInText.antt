@@ -34,8 +34,8 @@ use Rattle.gql_cst_lexer.specs.Lex.{lex, run_len, blank_len, string_len, string,
 use Rattle.gql_schema.specs.BuiltInSchema.{IsBuiltIn, built_in_file}
 use Rattle.gql_schema_build.specs.TypeSystems.{with_definitions, no_definitions}
 use Rattle.gql_schema_build.specs.declared.built_in.BuiltIn.{BuiltIn}
-use Rattle.gql_schema_merge.specs.declared.type_definition.TypeDefinition.{TypeDefinition}
-use Rattle.gql_schema_merge.specs.declared.type_definition.TypeDefinition.TheVariants.{InputObject}
+use Rattle.gql_schema_build.specs.declared.type_definition.TypeDefinition.{TypeDefinition}
+use Rattle.gql_schema_build.specs.declared.type_definition.TypeDefinition.TheVariants.{InputObject}
 use Rattle.gql_source.specs.declared.file_id.FileId.{FileId}
 use Rattle.gql_schema_laws.specs.BuiltInText.{built_in_text}
 use Rattle.gql_coerce_text_laws.proofs.Forests.{planted}

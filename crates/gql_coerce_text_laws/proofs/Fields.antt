@@ -18,15 +18,15 @@ use Rattle.gql_schema_build.specs.TypeSystems.{with_definition, with_definitions
 use Rattle.gql_schema_build.specs.TypeTable.{all_extended, types}
 use Rattle.gql_schema_build.specs.declared.type_system.TypeSystem.{TypeSystem}
 use Rattle.gql_coerce_text_laws.proofs.BuiltInText.{is_input_object}
-use Rattle.gql_schema_merge.specs.DefinitionNames.{definition_name}
-use Rattle.gql_schema_merge.specs.Extended.{extended}
-use Rattle.gql_schema_merge.specs.ExtensionNames.{extension_name}
-use Rattle.gql_schema_merge.specs.Merged.{firsts}
-use Rattle.gql_schema_merge.specs.declared.type_definition.TypeDefinition.{TypeDefinition}
-use Rattle.gql_schema_merge.specs.declared.type_definition.TypeDefinition.TheVariants as type
-use Rattle.gql_schema_merge.specs.declared.type_extension.TypeExtension.{TypeExtension}
-use Rattle.gql_schema_merge.specs.declared.type_extension.TypeExtension.TheVariants as extension
-use Rattle.gql_schema_parts.specs.PartNames.{input_name}
+use Rattle.gql_schema_build.specs.DefinitionNames.{definition_name}
+use Rattle.gql_schema_build.specs.Extended.{extended}
+use Rattle.gql_schema_build.specs.ExtensionNames.{extension_name}
+use Rattle.gql_schema_build.specs.Merged.{firsts}
+use Rattle.gql_schema_build.specs.declared.type_definition.TypeDefinition.{TypeDefinition}
+use Rattle.gql_schema_build.specs.declared.type_definition.TypeDefinition.TheVariants as type
+use Rattle.gql_schema_build.specs.declared.type_extension.TypeExtension.{TypeExtension}
+use Rattle.gql_schema_build.specs.declared.type_extension.TypeExtension.TheVariants as extension
+use Rattle.gql_schema_build.specs.PartNames.{input_name}
 use Rattle.gql_schema_types.specs.Entries.{is_called, entry, put_new, joined}
 use Rattle.gql_schema_types.specs.declared.types.ExtendedType.{ExtendedType}
 use Rattle.gql_schema_types.specs.declared.types.ExtendedType.TheVariants as made

@@ -6,14 +6,14 @@ use Rattle.std.specs.Str.{bytes_eq}
 use Rattle.gql_schema_build.specs.BuiltInScalarTypeRedefinition.{is_scalar}
 use Rattle.gql_schema_build.specs.Built.{built}
 use Rattle.gql_schema_build.specs.TypeTable.{all_extended, types}
-use Rattle.gql_schema_merge.specs.DefinitionNames.{definition_name}
-use Rattle.gql_schema_merge.specs.Extended.{extended}
-use Rattle.gql_schema_merge.specs.ExtensionNames.{extension_name}
-use Rattle.gql_schema_merge.specs.Merged.{firsts}
-use Rattle.gql_schema_merge.specs.declared.type_definition.TypeDefinition.{TypeDefinition}
-use Rattle.gql_schema_merge.specs.declared.type_definition.TypeDefinition.TheVariants as type
-use Rattle.gql_schema_merge.specs.declared.type_extension.TypeExtension.{TypeExtension}
-use Rattle.gql_schema_merge.specs.declared.type_extension.TypeExtension.TheVariants as extension
+use Rattle.gql_schema_build.specs.DefinitionNames.{definition_name}
+use Rattle.gql_schema_build.specs.Extended.{extended}
+use Rattle.gql_schema_build.specs.ExtensionNames.{extension_name}
+use Rattle.gql_schema_build.specs.Merged.{firsts}
+use Rattle.gql_schema_build.specs.declared.type_definition.TypeDefinition.{TypeDefinition}
+use Rattle.gql_schema_build.specs.declared.type_definition.TypeDefinition.TheVariants as type
+use Rattle.gql_schema_build.specs.declared.type_extension.TypeExtension.{TypeExtension}
+use Rattle.gql_schema_build.specs.declared.type_extension.TypeExtension.TheVariants as extension
 use Rattle.gql_schema_types.specs.Entries.{is_called, entry}
 use Rattle.gql_schema_types.specs.Types.{type_name, type_called}
 use Rattle.gql_schema_types.specs.declared.types.ExtendedType.TheVariants as made

@@ -21,7 +21,7 @@ use Rattle.gql_rules_base.specs.Known.{is_built_in_scalar, is_known}
 use Rattle.gql_ast_values.specs.TypeParts.{named_type}
 use Rattle.gql_rules_base.specs.Written.{is_written}
 use Rattle.gql_rules_base.specs.declared.known.Defined.TheVariants.{TypesAndScalars}
-use Rattle.gql_rules_values.specs.Directives.{directive_faults}
+use Rattle.gql_rules_base.specs.Directives.{directive_faults}
 use Rattle.gql_schema.specs.BuiltInSchema.{IsBuiltIn}
 use Rattle.gql_schema.specs.Builders.{Taken, built}
 use Rattle.gql_schema_build.specs.BuiltInScalarTypeRedefinition.{without_redefinitions}
@@ -33,7 +33,7 @@ use Rattle.gql_schema_laws.specs.BuiltInText.{is_scalar_of}
 use Rattle.gql_coerce_text_laws.proofs.BuiltInText.{is_input_object}
 use Rattle.gql_schema_rules.specs.Scalars.{input_names, built_in_scalars, validated}
 use Rattle.gql_schema_rules.specs.SchemaFaults.{AreSchemaFaults, parts_faults}
-use Rattle.gql_schema_rules_interfaces.specs.InterfaceRules.{interfaces_faults}
+use Rattle.gql_schema_rules_types.specs.InterfaceRules.{interfaces_faults}
 use Rattle.gql_schema_rules_types.specs.EmptyInputValueSet.{empty_input_value_set}
 use Rattle.gql_schema_rules_types.specs.InputType.{input_type}
 use Rattle.gql_schema_rules_types.specs.InputValues.{type_faults as value_type_faults, default_faults, input_value_faults, input_field_faults, input_fields_faults}

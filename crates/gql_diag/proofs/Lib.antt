@@ -2,3 +2,4 @@ mod Orders
 mod Names
 mod OneSort
 mod OwnFiles
+mod Texts

@@ -1,5 +1,7 @@
+pub mod Report
 pub mod Order
 pub mod List
 pub mod Reported
 pub mod Walk
 pub mod RequestFault
+pub mod Refusal

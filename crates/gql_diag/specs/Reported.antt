@@ -9,7 +9,7 @@ use Rattle.gql_source.specs.Lines.{line_column_range_within}
 use Rattle.gql_source.specs.Span.{Span}
 use Rattle.gql_diag_messages.specs.declared.diagnostic_data.DiagnosticData.{DiagnosticData}
 use Rattle.gql_diag_messages.specs.Details.{message_of, compat_of, fault_of, label_of, other_of}
-use Rattle.gql_diag_reports.specs.Report.{Report, labelled}
+use Rattle.gql_diag.specs.Report.{Report, labelled}
 
 -- the lines and columns of both ends of a location, where they are found in the files
 abbrev pub range_in : Option Span → Files → Option (Range LineColumn)

@@ -4,9 +4,9 @@ ghost use Rattle.std.specs.Prelude.{◌≡◌, IfOk};
 ghost use Rattle.gql_response.specs.ErrorAt.{error_at};
 ghost use Rattle.gql_diag.specs.Reported.{compat_or_message, message_alone, range_in};
 
+use crate::report::CliReport;
 use crate::to_cli_report::ToCliReport;
 use gql_diag_messages::DiagnosticData;
-use gql_diag_reports::CliReport;
 use gql_response::GraphQLError;
 use gql_source::{LineColumn, SourceMap};
 use jb_text::Memory;

@@ -2,15 +2,25 @@
 //! response; and why requests are refused.
 //!
 //! A [`DiagnosticList`] is sorted by place, then by the tables of rules. A [`Diagnostic`] is an item together with its
-//! files, and can be written as a [`CliReport`] or as the [`GraphQLError`] of a response. Rules, reports, responses and
-//! guards of recursions are those of the crates below, under this crate's name.
+//! files, and can be written as a [`CliReport`] or as the [`GraphQLError`] of a response. A report has the message, the places that
+//! it is about, a help and a note, each in a line of its own. Rules, responses and guards of recursions are those of the crates
+//! below, under this crate's name.
+//!
+//! A request that is refused has a JSON text too: an object with `errors` alone, each written as an error of a response (GraphQL
+//! October 2021, section 7.1.2). [`refusal_of_diagnostics`] has an error for each diagnostic, [`refusal_of_request`] the one of a
+//! request that is refused, and [`refusal_of_message`] one with a message alone. The text is exactly the compact JSON of the value
+//! that `specs/` says.
 #![tactic(auto)]
 
 mod diagnostic;
 mod diagnostic_list;
 mod diagnostics;
+mod error_text;
 pub mod laws;
 mod order;
+mod refusal_text;
+mod report;
+mod report_text;
 mod request_error;
 mod to_cli_report;
 mod valid;
@@ -22,10 +32,11 @@ pub use gql_diag_guards::{
     DepthCounter, DepthGuard, RecursionGuard, RecursionLimitError, RecursionStack,
 };
 pub use gql_diag_messages::{Details, DiagnosticData, Rule, RuleFault};
-pub use gql_diag_reports::CliReport;
 pub use gql_response::{
     ExecutionResponse, GraphQLError, JsonMap, JsonValue, ResponseDataPathSegment, ResponseFault,
 };
+pub use refusal_text::{refusal_of_diagnostics, refusal_of_message, refusal_of_request};
+pub use report::CliReport;
 pub use request_error::RequestError;
 pub use to_cli_report::ToCliReport;
 pub use valid::{Valid, WithErrors};

@@ -2,13 +2,13 @@
 
 ghost use Rattle.std.specs.Prelude.{◌≡◌, ℕ, List, Option, true, IfOk, OnOk, OnErr};
 ghost use Rattle.gql_source.specs.Span.{Span};
-ghost use Rattle.gql_diag_reports.specs.Report.{Report};
+ghost use Rattle.gql_diag.specs.Report.{Report};
 ghost use Rattle.gql_diag_messages.specs.Details.{message_of};
 ghost use Rattle.gql_diag.specs.Reported.{data_reported, message_alone};
 
 use crate::diagnostic::Diagnostic;
+use crate::report::CliReport;
 use gql_diag_messages::DiagnosticData;
-use gql_diag_reports::CliReport;
 use gql_source::{SourceMap, SourceSpan};
 use jb_text::{Memory, Text};
 use std::alloc::Global;

@@ -4,8 +4,8 @@ ghost use Rattle.std.specs.Prelude.{◌≡◌, ◌++◌, ◌∷◌, [], OnOk};
 ghost use Rattle.gql_document_build.specs.SubselectionOnScalarType as spec;
 
 use crate::fault::list_words;
+use gql_ast::print_type;
 use gql_ast_base::Name;
-use gql_ast_print::print_type;
 use gql_ast_values::TypeRef;
 use gql_diag_messages::{DiagnosticData, Rule};
 use gql_source::SourceSpan;

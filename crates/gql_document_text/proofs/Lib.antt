@@ -15,3 +15,6 @@ pub mod Made
 mod Kept
 mod Operations
 mod Documents
+mod Mixed
+mod Sorts
+mod Steps

@@ -14,13 +14,13 @@ use Rattle.gql_document_build.specs.UndefinedRootOperation.{root_type}
 use Rattle.gql_document_types.specs.Spreads.{spread_graph, spreads_in}
 use Rattle.gql_document_types.specs.declared.document.ExecutableDocument.{ExecutableDocument}
 use Rattle.gql_document_types.specs.declared.fragment.Fragment.{Fragment}
-use Rattle.gql_exec_groups.specs.Ranks.{AreRanked}
+use Rattle.gql_exec_plan.specs.Ranks.{AreRanked}
 use Rattle.gql_rules.specs.DocumentFaults.{AreDocumentFaults, AreFirstOrAll, AreOtherFaults}
 use Rattle.gql_rules_base.specs.Faults.{only_if}
-use Rattle.gql_rules_fragments.specs.RecursiveFragmentDefinition.{AreRecursive, long_from, recursive_fault, recursive_from}
-use Rattle.gql_rules_fragments.specs.SpreadFaults.{AreSpreadFaults}
-use Rattle.gql_rules_fragments.specs.UndefinedFragment.{undefined_fragments}
-use Rattle.gql_rules_fragments.specs.WayRound.{first_recursive}
+use Rattle.gql_rules_selections.specs.RecursiveFragmentDefinition.{AreRecursive, long_from, recursive_fault, recursive_from}
+use Rattle.gql_rules_selections.specs.SpreadFaults.{AreSpreadFaults}
+use Rattle.gql_rules_selections.specs.UndefinedFragment.{undefined_fragments}
+use Rattle.gql_rules_selections.specs.WayRound.{first_recursive}
 use Rattle.gql_rules_graph.specs.Chains.{is_marked, mark_of}
 use Rattle.gql_rules_graph.specs.Cycles.{IsOnCycle}
 use Rattle.gql_rules_graph.specs.Graph.{Graph}

@@ -4,3 +4,5 @@ pub mod SameFaults
 pub mod Running
 pub mod Selecting
 pub mod Answers
+pub mod MixedRead
+pub mod MixedBuilt

@@ -9,7 +9,7 @@ ghost use Rattle.gql_document_text.specs.SameFaults.{TellTheSame};
 ghost use Rattle.gql_document_text.specs.Selecting.{SelectSomething};
 ghost use Rattle.gql_document_types.specs.Spreads.{spread_graph};
 ghost use Rattle.gql_document_types.specs.declared.document.ExecutableDocument.{ExecutableDocument as DocumentOf};
-ghost use Rattle.gql_exec_groups.specs.Ranks.{AreRanked};
+ghost use Rattle.gql_exec_plan.specs.Ranks.{AreRanked};
 ghost use Rattle.gql_rules_graph.specs.Cycles.{IsOnCycle};
 ghost use Rattle.gql_schema_types.specs.declared.schema.Schema.{Schema as SchemaOf};
 

@@ -16,12 +16,12 @@ use Rattle.gql_diag.specs.List.{Diagnostics}
 use Rattle.gql_document_types.specs.ChosenOperation.{text_of}
 use Rattle.gql_exec_resolve.specs.Data.{Data}
 use Rattle.gql_exec_resolve.specs.DataMeaning.{data_meaning}
-use Rattle.gql_refusal.specs.Refusal.{message_error, refusal_value}
+use Rattle.gql_diag.specs.Refusal.{message_error, refusal_value}
 use Rattle.gql_engine.specs.Reports.{reports_of}
-use Rattle.gql_request.specs.NotAsked.{NotAsked, no_text, no_request, read_message}
-use Rattle.gql_request.specs.Request.{Asked, asked, asked_in, fault_message}
-use Rattle.gql_request.specs.declared.request.Request.{Request}
-use Rattle.gql_request.specs.declared.request.RequestFault.{RequestFault}
+use Rattle.gql_exec_plan.specs.NotAsked.{NotAsked, no_text, no_request, read_message}
+use Rattle.gql_exec_plan.specs.Request.{Asked, asked, asked_in, fault_message}
+use Rattle.gql_exec_plan.specs.declared.request.Request.{Request}
+use Rattle.gql_exec_plan.specs.declared.request.RequestFault.{RequestFault}
 use Rattle.gql_answer.specs.Meant.{AreFaults, Meant}
 use Rattle.gql_engine.specs.declared.reply.Reply.{Reply}
 use Rattle.gql_engine.specs.declared.reply.Reply.TheVariants.{Response, Passed, Reports, Refusal}

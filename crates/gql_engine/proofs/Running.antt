@@ -5,7 +5,7 @@ use Rattle.jb_io.specs.Source.{GivesAtMost, GivesMore, ReadsWhole}
 use Rattle.jb_io.specs.Stream.{HasFailed}
 use Rattle.gql_answer.proofs.Causes.{Laws}
 use Rattle.gql_engine.specs.declared.output.Output.{Output}
-use Rattle.jb_serve.specs.declared.serving.TheConstants.{ANSWERED, MISUSED, NO_MEMORY, REFUSED, SINK_FAILED, SOURCE_FAILED, TOO_LONG}
+use Rattle.jb_io.specs.declared.serving.TheConstants.{ANSWERED, MISUSED, NO_MEMORY, REFUSED, SINK_FAILED, SOURCE_FAILED, TOO_LONG}
 use Rattle.gql_engine.specs.declared.task.Task.{Task}
 use Rattle.gql_engine.specs.declared.task.Task.TheVariants.{Request, SelfTest}
 use Rattle.gql_engine.specs.declared.task.Wish.{Wish}

@@ -12,9 +12,9 @@ use Rattle.gql_answer.specs.ThingMeaning.{Resolving, thing_meaning}
 use Rattle.gql_answer.specs.Executing.{answers_by}
 use Rattle.gql_exec_resolve.specs.Data.{Data}
 use Rattle.gql_exec_resolve.specs.DataMeaning.{data_meaning}
-use Rattle.gql_request.specs.NotAsked.{IsAsked}
-use Rattle.gql_request.specs.Request.{Asked}
-use Rattle.gql_request.specs.SelfTest.{self_test}
+use Rattle.gql_exec_plan.specs.NotAsked.{IsAsked}
+use Rattle.gql_exec_plan.specs.Request.{Asked}
+use Rattle.gql_exec_plan.specs.SelfTest.{self_test}
 use Rattle.gql_answer.specs.SchemaText.{SchemaText}
 use Rattle.gql_schema_types.specs.declared.schema.Schema.{Schema}
 use Rattle.gql_schema_types.specs.declared.types.ObjectType.{ObjectType}

@@ -2,7 +2,7 @@
 use Rattle.std.proofs.Common.{◌≡◌, ◌≤◌, ◌⊎◌, ℕ, Option, inl, inr, arith}
 use Rattle.jb_io.specs.Sink.{Takes, TakesFront, Told}
 use Rattle.jb_io.specs.Stream.{HasFailed}
-use Rattle.jb_serve.specs.declared.serving.TheConstants.{MISUSED, SINK_FAILED, TOO_LONG}
+use Rattle.jb_io.specs.declared.serving.TheConstants.{MISUSED, SINK_FAILED, TOO_LONG}
 use Rattle.gql_engine.specs.Program.{WritesUsage, usage}
 
 module _ (taken taken' : Option Told) (kf kf' : ℕ) where

@@ -3,12 +3,12 @@ use Rattle.std.specs.Prelude.{◌≡◌, ◌≤◌, ◌+◌, ℕ, List, [], ◌�
 use Rattle.std.specs.Fmt.{decimal}
 use Rattle.gql_answer.specs.Answered.{errors_in}
 use Rattle.gql_answer.specs.declared.response_bytes.Written.{Written}
-use Rattle.gql_request.specs.SelfTest.{self_test}
+use Rattle.gql_exec_plan.specs.SelfTest.{self_test}
 use Rattle.gql_engine.specs.Reply.{Answers, AreReports, Passes, Refuses, SaysNotAsked}
 use Rattle.gql_engine.specs.declared.output.Output.{Output}
 use Rattle.gql_engine.specs.declared.reply.Reply.{Reply}
 use Rattle.gql_engine.specs.declared.reply.Reply.TheVariants.{Response, Passed, Reports, Refusal}
-use Rattle.jb_serve.specs.declared.serving.TheConstants.{ANSWERED, REFUSED}
+use Rattle.jb_io.specs.declared.serving.TheConstants.{ANSWERED, REFUSED}
 use Rattle.gql_engine.specs.declared.task.Task.{Task}
 use Rattle.gql_engine.specs.declared.task.Task.TheVariants.{Request, SelfTest}
 use Rattle.gql_engine.specs.declared.task.Wish.TheVariants.{Answer, Check}

@@ -7,7 +7,7 @@ use Rattle.jb_io.specs.declared.stream.TheConstants.{INPUT_LIMIT}
 use Rattle.gql_engine.specs.Output.{IsDone, IsRefused, line}
 use Rattle.gql_engine.specs.Task.{Asks}
 use Rattle.gql_engine.specs.declared.output.Output.{Output}
-use Rattle.jb_serve.specs.declared.serving.TheConstants.{ANSWERED, MISUSED, NO_MEMORY, REFUSED, SINK_FAILED, SOURCE_FAILED, TOO_LONG}
+use Rattle.jb_io.specs.declared.serving.TheConstants.{ANSWERED, MISUSED, NO_MEMORY, REFUSED, SINK_FAILED, SOURCE_FAILED, TOO_LONG}
 use Rattle.gql_engine.specs.declared.task.Task.{Task}
 use Rattle.gql_engine.specs.declared.task.Task.TheVariants.{Request, SelfTest}
 use Rattle.gql_engine.specs.declared.task.Wish.{Wish}

@@ -5,7 +5,7 @@ use Rattle.gql_diag.specs.List.{Diagnostics}
 use Rattle.gql_diag.specs.Reported.{data_reported, message_alone}
 use Rattle.gql_diag_messages.specs.Details.{message_of}
 use Rattle.gql_diag_messages.specs.declared.diagnostic_data.DiagnosticData.{DiagnosticData}
-use Rattle.gql_diag_reports.specs.Report.{report_text}
+use Rattle.gql_diag.specs.Report.{report_text}
 use Rattle.gql_source.specs.File.{Files}
 
 -- the message of a diagnostic, and a line for each place that it is about and that is found

@@ -18,19 +18,21 @@ pub use gql_answer::{
     document_of_text, partial_execute, schema_of_text,
 };
 pub use gql_ast::Document;
-pub use gql_diag::{DiagnosticList, ExecutionResponse, GraphQLError, RequestError, Valid};
+pub use gql_diag::{
+    DiagnosticList, ExecutionResponse, GraphQLError, RequestError, Valid, refusal_of_diagnostics,
+    refusal_of_request,
+};
+pub use gql_document_text::{ParseMixed, Parser};
 pub use gql_document_types::ExecutableDocument;
 pub use gql_exec_resolve::{
     DataObject, FieldError, ObjectValue, ResolveError, ResolveInfo, ResolvedValue,
 };
 pub use gql_exec_steps::Steps;
-pub use gql_parser_mixed::{ParseMixed, Parser};
-pub use gql_refusal::{refusal_of_diagnostics, refusal_of_request};
-pub use gql_rules_untyped::validate_standalone;
+pub use gql_rules::validate_standalone;
 pub use gql_schema_types::Schema;
 pub use gql_source::{FileId, FileIds, SourceMap};
+pub use jb_io::{ANSWERED, MISUSED, NO_MEMORY, REFUSED, SINK_FAILED, SOURCE_FAILED, TOO_LONG};
 pub use jb_read::from_bytes_whole;
-pub use jb_serve::{ANSWERED, MISUSED, NO_MEMORY, REFUSED, SINK_FAILED, SOURCE_FAILED, TOO_LONG};
 pub use jb_tree::{ByteString, Listed, Map, Memory, Number, Refused, Text, Value};
 pub use list_reports::reports;
 pub use program::{run, run_in_memory};

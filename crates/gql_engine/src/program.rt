@@ -15,9 +15,11 @@ use crate::task::{Task, Wish, task_asked};
 use bytes::Bytes;
 use gql_answer::{document_laws, schema_laws};
 use gql_exec_steps::Steps;
-use jb_io::{InputFault, Sink, SinkFault, Source, SureSink, SureSource, read_to_end, write_all};
+use jb_io::{
+    ANSWERED, InputFault, MISUSED, NO_MEMORY, REFUSED, SINK_FAILED, SOURCE_FAILED, Sink, SinkFault,
+    Source, SureSink, SureSource, TOO_LONG, read_to_end, write_all,
+};
 use jb_read::laws;
-use jb_serve::{ANSWERED, MISUSED, NO_MEMORY, REFUSED, SINK_FAILED, SOURCE_FAILED, TOO_LONG};
 use jb_tree::{Memory, Refused};
 use std::alloc::Global;
 use std::sync::ledger::Ledger;

@@ -1,7 +1,7 @@
 //! What is replied to the bytes of a request.
 
 ghost use Rattle.std.specs.Prelude.{◌≡◌, ℕ, IfOk};
-ghost use Rattle.gql_request.specs.Request.{asked_in};
+ghost use Rattle.gql_exec_plan.specs.Request.{asked_in};
 ghost use Rattle.gql_engine.specs.declared.task.Wish.TheVariants as wished;
 ghost use Rattle.gql_engine.specs.Reply.{IsRefusedWith, IsReply, IsReplyTo, IsReplyToAsked};
 
@@ -9,10 +9,10 @@ use crate::list_reports::reports;
 use crate::task::Wish;
 use bytes::Bytes;
 use gql_answer::{Wanted, Written, check_texts, respond};
+use gql_diag::refusal_of_message;
+use gql_exec_plan::{Request, decode, read_message};
 use gql_exec_resolve::DataObject;
 use gql_exec_steps::Steps;
-use gql_refusal::refusal_of_message;
-use gql_request::{Request, decode, read_message};
 use jb_read::from_bytes_whole;
 use jb_tree::{Map, Memory, Refused, Text, Value};
 use std::alloc::{AllocError, Global};

@@ -5,9 +5,9 @@ use Rattle.std.specs.Fmt.{digits}
 use Rattle.std.specs.List.{filter}
 use Rattle.gql_document_types.specs.declared.selection.Field.{Field}
 use Rattle.gql_document_types.specs.declared.selection.Selection.{Selection}
-use Rattle.gql_exec_groups.specs.Flat.{flat, flat_sets}
-use Rattle.gql_exec_groups.specs.Groups.{groups_of, is_defined}
-use Rattle.gql_exec_groups.specs.Ranks.{AreRanked}
+use Rattle.gql_exec_plan.specs.Flat.{flat, flat_sets}
+use Rattle.gql_exec_plan.specs.Groups.{groups_of, is_defined}
+use Rattle.gql_exec_plan.specs.Ranks.{AreRanked}
 use Rattle.gql_exec_places.specs.Depth.{Suffices}
 use Rattle.gql_exec_places.specs.Execute.{Made, Member, execute, groups_made}
 use Rattle.gql_exec_places.specs.Trail.{Trail}

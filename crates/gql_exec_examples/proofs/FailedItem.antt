@@ -1,7 +1,7 @@
 -- A failed item nulls its list.
 use Rattle.std.proofs.Common.{◌≡◌, List, [], ◌∷◌, Some, refl, ◌∙◌, codes}
 use Rattle.jb_tree.specs.declared.value.Value.TheVariants as json
-use Rattle.gql_exec_groups.specs.Flat.{flat_sets}
+use Rattle.gql_exec_plan.specs.Flat.{flat_sets}
 use Rattle.gql_exec_places.specs.Execute.{Made, Member, execute}
 use Rattle.gql_exec_places.specs.Trail.{Segment}
 use Rattle.gql_exec_world.specs.Group.{Group}

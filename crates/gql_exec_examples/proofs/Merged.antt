@@ -2,7 +2,7 @@
 use Rattle.std.proofs.Common.{◌≡◌, List, [], ◌∷◌, Some, refl, ◌∙◌, codes, pos}
 use Rattle.jb_tree.specs.declared.value.Value.TheVariants as json
 use Rattle.gql_document_types.specs.declared.selection.Selection.{Selection}
-use Rattle.gql_exec_groups.specs.Flat.{flat_sets}
+use Rattle.gql_exec_plan.specs.Flat.{flat_sets}
 use Rattle.gql_exec_places.specs.Execute.{Made, Member, Below, execute, groups_made}
 use Rattle.gql_exec_places.specs.Trail.{Trail}
 use Rattle.gql_exec_world.specs.Group.{Group}

@@ -1,6 +1,6 @@
 -- A null at the root.
 use Rattle.std.proofs.Common.{◌≡◌, [], ◌∷◌, None, refl, ◌∙◌, codes}
-use Rattle.gql_exec_groups.specs.Flat.{flat_sets}
+use Rattle.gql_exec_plan.specs.Flat.{flat_sets}
 use Rattle.gql_exec_places.specs.Execute.{Made, Member, execute}
 use Rattle.gql_exec_world.specs.Group.{Group}
 use Rattle.gql_exec_world.specs.RequestWorld.{setting_on}

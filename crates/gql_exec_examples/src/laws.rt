@@ -1,8 +1,8 @@
 //! What the definitions of execution give for each example.
 
 ghost use Rattle.std.specs.Prelude.{◌≡◌, [], ◌∷◌};
-ghost use Rattle.gql_exec_groups.specs.Sizes.{outer_size, size};
-ghost use Rattle.gql_exec_groups.specs.Standing.{fields_in};
+ghost use Rattle.gql_exec_plan.specs.Sizes.{outer_size, size};
+ghost use Rattle.gql_exec_plan.specs.Standing.{fields_in};
 ghost use Rattle.gql_exec_examples.specs.Counting.{counted, field_a, field_b};
 ghost use Rattle.gql_exec_examples.specs.Doubling.{most_looks};
 ghost use Rattle.gql_exec_examples.specs.Example.{IsAnswered};

@@ -17,12 +17,12 @@ use Rattle.gql_schema_types.proofs.Lookups.{place_within}
 use Rattle.gql_document.specs.Contents.{HaveContents}
 use Rattle.gql_document.specs.Expanded.{in_place, contents, expanded, expanded_one, expanded_field, expanded_inline}
 use Rattle.gql_document.proofs.Counts.{entry-there, one-field, one-spread, one-inline, spread-defined, spread-undefined}
-use Rattle.gql_exec_groups.specs.Applies.{applies, applies_if}
-use Rattle.gql_exec_groups.specs.Flat.{Shape, when, contents as contents_of, field_of, opened, flat_within}
-use Rattle.gql_exec_groups.specs.Kept.{is_kept, Variables}
-use Rattle.gql_exec_groups.specs.Setting.{Setting}
-use Rattle.gql_exec_groups.proofs.Numbers.{body-is, body-none}
-use Rattle.gql_exec_groups.proofs.Variants.{out-field, out-spread, out-inline, each}
+use Rattle.gql_exec_plan.specs.Applies.{applies, applies_if}
+use Rattle.gql_exec_plan.specs.Flat.{Shape, when, contents as contents_of, field_of, opened, flat_within}
+use Rattle.gql_exec_plan.specs.Kept.{is_kept, Variables}
+use Rattle.gql_exec_plan.specs.Setting.{Setting}
+use Rattle.gql_exec_plan.proofs.Numbers.{body-is, body-none}
+use Rattle.gql_exec_plan.proofs.Variants.{out-field, out-spread, out-inline, each}
 
 when-and : {A : Type 0} (a b : Bool) (xs : List A) → when (a && b) xs ≡ when a (when b xs)
 when-and true b xs = refl

@@ -7,7 +7,7 @@ use Rattle.gql_document_types.specs.declared.selection.Selection.{Selection}
 use Rattle.gql_schema_types.specs.declared.types.ObjectType.{ObjectType}
 use Rattle.gql_document.specs.Contents.{HaveContents}
 use Rattle.gql_document.specs.Expanded.{expanded}
-use Rattle.gql_exec_groups.specs.Ranks.{AreRanked}
+use Rattle.gql_exec_plan.specs.Ranks.{AreRanked}
 use Rattle.gql_exec_places.specs.Depth.{AllGroups, Suffices}
 use Rattle.gql_exec_places.specs.Execute.{Made, Member, then_rest, settled, settled_item, unless_misfit}
 use Rattle.gql_exec_places.specs.Execute.{one_array, one_object, with_key, Below, object_made, value_made, items_made, field_made, groups_made, execute}

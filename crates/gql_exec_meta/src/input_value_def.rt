@@ -1,7 +1,7 @@
 //! An argument or a field of an input object, as `__InputValue`.
 
 ghost use Rattle.std.specs.Option.{option_copied, option_map};
-ghost use Rattle.gql_ast_print.specs.ValueText.{value_text};
+ghost use Rattle.gql_ast.specs.ValueText.{value_text};
 ghost use Rattle.gql_exec_meta.specs.Answers as answers;
 ghost use Rattle.gql_exec_meta.specs.InputValueDef as spec;
 ghost use Rattle.gql_exec_meta.specs.Seen.{Gives, GivesField};
@@ -13,8 +13,8 @@ use crate::leaves::{
 };
 use crate::meta_object::MetaObject;
 use crate::named_types::type_object;
+use gql_ast::print_value;
 use gql_ast_definitions::InputValueDefinition;
-use gql_ast_print::print_value;
 use gql_ast_values::Value;
 use gql_diag::Valid;
 use gql_exec_resolve::ResolvedValue;

@@ -1,3 +1,24 @@
+pub mod Enough
+pub mod Followed
+pub mod GroupFacts
+pub mod Keys
+pub mod Measure
+pub mod Numbers
+pub mod Once
+pub mod OnTheWay
+pub mod Put
+pub mod SameFacts
+pub mod Standings
+pub mod Unentered
+pub mod Variants
+pub mod WalkFacts
+pub mod WithinGroups
+pub mod Views
+pub mod DepthFacts
+pub mod DepthSteps
+pub mod DepthCalls
+pub mod PlaceFacts
+pub mod Ranked
 pub mod Changes
 pub mod Fields
 pub mod Growing
@@ -8,3 +29,5 @@ pub mod Room
 pub mod Totals
 pub mod Ways
 pub mod Weights
+mod Told
+mod Items

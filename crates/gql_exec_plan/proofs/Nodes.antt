@@ -7,10 +7,10 @@ use Rattle.gql_schema_types.specs.Schemas.{object_of}
 use Rattle.gql_schema_types.specs.declared.schema.Schema.{Schema}
 use Rattle.gql_schema_types.specs.declared.types.ObjectType.{ObjectType}
 use Rattle.gql_schema_types.proofs.Lookups.{missing}
-use Rattle.gql_exec_groups.specs.Collected.{setting}
-use Rattle.gql_exec_groups.specs.Grouping.{groups_seen}
-use Rattle.gql_exec_groups.specs.Groups.{SameGroups, applying}
-use Rattle.gql_exec_groups.specs.declared.group.Group.{Group}
+use Rattle.gql_exec_plan.specs.Collected.{setting}
+use Rattle.gql_exec_plan.specs.Grouping.{groups_seen}
+use Rattle.gql_exec_plan.specs.Groups.{SameGroups, applying}
+use Rattle.gql_exec_plan.specs.declared.group.Group.{Group}
 use Rattle.gql_exec_plan.specs.Growth.{is_for, AreBegun, IsAdded}
 use Rattle.gql_exec_plan.specs.Lists.{IsOneOf, AreApart}
 use Rattle.gql_exec_plan.specs.Plan.{Ground, type_in, parts_in, group_in, nodes_in, names_in, fields_in, groups_in, groups_from, sets_below, IsTyped, IsWithin, IsPlanned, AreCollected, AreNodesTo, AreNodes, HaveNodes, ArePartsOf, IsNodeOf}

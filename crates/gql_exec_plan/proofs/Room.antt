@@ -4,11 +4,11 @@ use Rattle.std.specs.List.{AllByRecursion}
 use Rattle.gql_document_types.specs.declared.fragment.Fragment.{Fragment}
 use Rattle.gql_document_types.specs.declared.selection.Field.{Field}
 use Rattle.gql_document_types.specs.declared.selection.Selection.{Selection}
-use Rattle.gql_exec_groups.specs.Grouping.{fields_in_groups, groups_seen}
-use Rattle.gql_exec_groups.specs.Sizes.{fragments_size, size}
-use Rattle.gql_exec_groups.specs.Standing.{NoneMoreOften, fields_in, fields_in_all, fields_in_fragments, weighed}
-use Rattle.gql_exec_groups.specs.Walk.{fields_of}
-use Rattle.gql_exec_groups.specs.declared.group.Group.{Group}
+use Rattle.gql_exec_plan.specs.Grouping.{fields_in_groups, groups_seen}
+use Rattle.gql_exec_plan.specs.Sizes.{fragments_size, size}
+use Rattle.gql_exec_plan.specs.Standing.{NoneMoreOften, fields_in, fields_in_all, fields_in_fragments, weighed}
+use Rattle.gql_exec_plan.specs.Walk.{fields_of}
+use Rattle.gql_exec_plan.specs.declared.group.Group.{Group}
 use Rattle.gql_exec_plan.specs.Plan.{sets_below}
 use Rattle.gql_exec_plan.specs.Room.{HasRoom, all_selections, set_below, fields_down, fields_down_fragments}
 use Rattle.gql_exec_plan.proofs.Totals.{size_below, down-total, down-fragments-total}

@@ -5,7 +5,7 @@ use Rattle.std.proofs.Math.Nat.{add-mul}
 use Rattle.std.proofs.lemmas.List.{length-map}
 use Rattle.std.proofs.lemmas.List.Concat.{flat_map-append}
 use Rattle.gql_schema_types.specs.declared.types.ObjectType.{ObjectType}
-use Rattle.gql_exec_groups.specs.Groups.{response_key}
+use Rattle.gql_exec_plan.specs.Groups.{response_key}
 use Rattle.gql_exec_plan.specs.Growth.{AreFresh}
 use Rattle.gql_exec_plan.specs.Lists.{IsOneOf}
 use Rattle.gql_exec_plan.specs.Plan.{nodes_in, parts_in, type_in}

@@ -4,8 +4,8 @@ use Rattle.std.specs.List.{flat_map}
 use Rattle.gql_document_types.specs.declared.fragment.Fragment.{Fragment}
 use Rattle.gql_document_types.specs.declared.selection.Field.{Field}
 use Rattle.gql_document_types.specs.declared.selection.Selection.{Selection}
-use Rattle.gql_exec_groups.specs.Sizes.{size, sets_size}
-use Rattle.gql_exec_groups.specs.Standing.{fields_in, fields_in_all, fields_in_fragments, weighed}
+use Rattle.gql_exec_plan.specs.Sizes.{size, sets_size}
+use Rattle.gql_exec_plan.specs.Standing.{fields_in, fields_in_all, fields_in_fragments, weighed}
 use Rattle.gql_exec_plan.specs.Room.{set_below, fields_down, fields_down_fragments}
 
 module _ (w : Field → ℕ) where

@@ -15,12 +15,12 @@ use Rattle.gql_document_types.specs.declared.selection.Selection.{Selection}
 use Rattle.gql_schema_types.specs.Schemas.{field_of, object_of, type_named}
 use Rattle.gql_schema_types.specs.declared.schema.Schema.{Schema}
 use Rattle.gql_schema_types.specs.declared.types.ObjectType.{ObjectType}
-use Rattle.gql_exec_groups.specs.Collected.{setting}
-use Rattle.gql_exec_groups.specs.Grouping.{groups_seen}
-use Rattle.gql_exec_groups.specs.Groups.{SameGroups, applying}
-use Rattle.gql_exec_groups.specs.Kept.{Variables}
-use Rattle.gql_exec_groups.specs.Walk.{fields_of}
-use Rattle.gql_exec_groups.specs.declared.group.Group.{Group}
+use Rattle.gql_exec_plan.specs.Collected.{setting}
+use Rattle.gql_exec_plan.specs.Grouping.{groups_seen}
+use Rattle.gql_exec_plan.specs.Groups.{SameGroups, applying}
+use Rattle.gql_exec_plan.specs.Kept.{Variables}
+use Rattle.gql_exec_plan.specs.Walk.{fields_of}
+use Rattle.gql_exec_plan.specs.declared.group.Group.{Group}
 use Rattle.gql_exec_plan.specs.Lists.{AreApart}
 use Rattle.gql_exec_plan.specs.Room.{HasRoom, all_selections}
 use Rattle.gql_exec_plan.specs.declared.plan.Node.{Node, out-Node}

@@ -5,10 +5,10 @@ use Rattle.std.specs.List.{flat_map}
 use Rattle.gql_document_types.specs.declared.fragment.Fragment.{Fragment}
 use Rattle.gql_document_types.specs.declared.selection.Field.{Field}
 use Rattle.gql_document_types.specs.declared.selection.Selection.{Selection}
-use Rattle.gql_exec_depth.specs.Check.{total, total_fragments}
-use Rattle.gql_exec_depth.specs.View.{fragments_nested, nested}
-use Rattle.gql_exec_groups.specs.Sizes.{fragments_size, sets_size}
-use Rattle.gql_exec_groups.specs.Standing.{NoneMoreOften, fields_in, fields_in_all, fields_in_fragments}
+use Rattle.gql_exec_plan.specs.Check.{total, total_fragments}
+use Rattle.gql_exec_plan.specs.View.{fragments_nested, nested}
+use Rattle.gql_exec_plan.specs.Sizes.{fragments_size, sets_size}
+use Rattle.gql_exec_plan.specs.Standing.{NoneMoreOften, fields_in, fields_in_all, fields_in_fragments}
 
 -- every selection of these and of all fragments, at every depth
 abbrev pub all_selections : List Fragment → List Selection → ℕ

@@ -2,7 +2,7 @@
 use Rattle.std.specs.Prelude.{◌≡◌, ◌≤◌, ◌+◌, ◌*◌, ◌⊎◌, ℕ, zero, suc, List, [], ◌∷◌, length, map}
 use Rattle.std.specs.List.{flat_map}
 use Rattle.gql_schema_types.specs.declared.types.ObjectType.{ObjectType}
-use Rattle.gql_exec_groups.specs.Groups.{response_key}
+use Rattle.gql_exec_plan.specs.Groups.{response_key}
 use Rattle.gql_exec_plan.specs.Plan.{group_in, nodes_in, parts_in, type_in}
 use Rattle.gql_exec_plan.specs.Lists.{IsOneOf}
 use Rattle.gql_exec_plan.specs.declared.plan.Node.{Node}

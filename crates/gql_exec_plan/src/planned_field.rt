@@ -3,13 +3,13 @@
 ghost use Rattle.std.specs.Prelude.{◌≡◌, IfOk, IfSome};
 ghost use Rattle.gql_exec_plan.specs.Plan as spec;
 
+use crate::group::Group;
 use crate::kept_arguments::are_kept;
 use crate::planner::Planner;
 use gql_ast_definitions::FieldDefinition;
 use gql_coerce::{ArgumentFault, coerce_arguments};
 use gql_diag::JsonMap;
 use gql_document_types::Field;
-use gql_exec_groups::Group;
 use gql_schema_types::{ExtendedType, ObjectType};
 use jb_text::{Memory, Refused};
 use std::alloc::AllocError;

@@ -2,17 +2,19 @@
 
 ghost use Rattle.std.specs.Prelude.{◌≡◌, ◌≤◌, ◌+◌, ◌++◌, ◌∷◌, [], ℕ, IfOk, OnOk};
 ghost use Rattle.std.specs.List.{position};
-ghost use Rattle.gql_exec_groups.specs.Collected.{sets_of};
-ghost use Rattle.gql_exec_groups.specs.Ranks.{AreRanked};
-ghost use Rattle.gql_exec_groups.specs.Sizes.{outer_size};
+ghost use Rattle.gql_exec_plan.specs.Collected.{sets_of};
+ghost use Rattle.gql_exec_plan.specs.Ranks.{AreRanked};
+ghost use Rattle.gql_exec_plan.specs.Sizes.{outer_size};
 ghost use Rattle.gql_exec_plan.specs.Growth as growth;
 ghost use Rattle.gql_exec_plan.specs.Plan as spec;
 ghost use Rattle.gql_exec_plan.specs.Ways.{Grows, turns_to};
 
+use crate::group::Group;
+use crate::grouping::collect_fields;
+use crate::pieces::Pieces;
 use crate::plan::{Node, Part};
 use gql_diag::{JsonMap, Valid};
 use gql_document_types::{ExecutableDocument, Operation};
-use gql_exec_groups::{Group, Pieces, collect_fields};
 use gql_exec_steps::Steps;
 use gql_schema_types::{ObjectType, Schema};
 use jb_text::{Listed, Memory};

@@ -3,7 +3,7 @@ use Rattle.std.proofs.Common.{◌≡◌, inl, inr, ℕ, zero, suc, List, [], ◌
 use Rattle.std.specs.List.{AllByRecursion}
 use Rattle.gql_document_types.specs.declared.selection.Selection.{Selection}
 use Rattle.gql_schema_types.specs.declared.types.ObjectType.{ObjectType}
-use Rattle.gql_exec_introspected.specs.ThingMeaning.{Resolving}
+use Rattle.gql_exec_request.specs.ThingMeaning.{Resolving}
 use Rattle.gql_exec_places.specs.World.{key_of, DistinctKeys}
 use Rattle.gql_exec_plan.specs.Lists.{IsOneOf, AreApart}
 use Rattle.gql_exec_plan.specs.Plan.{AreCollected, AreNodes, HaveNodes, group_in, groups_in, nodes_in, parts_in, sets_below, type_in}

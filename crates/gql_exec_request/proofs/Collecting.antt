@@ -5,11 +5,11 @@ use Rattle.gql_document_types.specs.declared.selection.Selection.{Selection}
 use Rattle.gql_document_types.specs.declared.selection.SelectionSet.{SelectionSet}
 use Rattle.gql_schema_types.specs.Schemas.{field_of}
 use Rattle.gql_schema_types.specs.declared.types.ObjectType.{ObjectType}
-use Rattle.gql_exec_groups.specs.Collected.{sets_of}
-use Rattle.gql_exec_groups.specs.Grouping.{groups_seen}
-use Rattle.gql_exec_groups.specs.Groups.{SameGroups, applying}
-use Rattle.gql_exec_groups.specs.Ranks.{AreRanked}
-use Rattle.gql_exec_groups.specs.declared.group.Group.{Group as FieldsOfKey}
+use Rattle.gql_exec_plan.specs.Collected.{sets_of}
+use Rattle.gql_exec_plan.specs.Grouping.{groups_seen}
+use Rattle.gql_exec_plan.specs.Groups.{SameGroups, applying}
+use Rattle.gql_exec_plan.specs.Ranks.{AreRanked}
+use Rattle.gql_exec_plan.specs.declared.group.Group.{Group as FieldsOfKey}
 use Rattle.gql_exec_places.specs.Depth.{Suffices}
 use Rattle.gql_exec_places.specs.World.{DistinctKeys}
 use Rattle.gql_exec_world.specs.Nesting.{nesting}

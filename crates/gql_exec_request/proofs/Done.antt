@@ -6,8 +6,8 @@ use Rattle.gql_ast_values.specs.declared.type_ref.TypeRef.{TypeRef}
 use Rattle.gql_document_types.specs.declared.selection.Selection.{Selection}
 use Rattle.gql_response.specs.declared.graphql_error.GraphQLError.{GraphQLError}
 use Rattle.gql_schema_types.specs.declared.types.ObjectType.{ObjectType}
-use Rattle.gql_exec_complete.specs.Fit.{wrong}
-use Rattle.gql_exec_complete.specs.Messages as message
+use Rattle.gql_exec_resolve.specs.Fit.{wrong}
+use Rattle.gql_exec_resolve.specs.Messages as message
 use Rattle.gql_exec_places.specs.Execute.{Made, Below, settled, settled_item, unless_misfit, value_made, completed, field_made, one_object, execute}
 use Rattle.gql_exec_places.specs.Fault.{told_at, fault_error}
 use Rattle.gql_exec_places.specs.Resolved.{Meaning, gives_object, Misfit, Fault, answered, refused}

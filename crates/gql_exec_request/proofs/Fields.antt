@@ -5,7 +5,7 @@ use Rattle.gql_ast_base.specs.Names.{Named}
 use Rattle.gql_ast_definitions.specs.declared.field_definition.FieldDefinition.{FieldDefinition}
 use Rattle.gql_response.specs.declared.graphql_error.GraphQLError.{GraphQLError}
 use Rattle.gql_schema_types.specs.declared.types.ObjectType.{ObjectType}
-use Rattle.gql_exec_groups.specs.Groups.{response_name}
+use Rattle.gql_exec_plan.specs.Groups.{response_name}
 use Rattle.gql_exec_places.specs.Execute.{completed, field_made}
 use Rattle.gql_exec_places.specs.Resolved.{fails_with}
 use Rattle.gql_exec_places.specs.Spot.{field_spot}

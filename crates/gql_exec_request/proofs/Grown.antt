@@ -2,9 +2,9 @@
 use Rattle.std.proofs.Common.{◌≡◌, inl, ℕ, List, [], ◌∷◌, drop, Some, None, Result, Ok, Err, OnOk, slice_get, slice_set, refl, sym, ap, ◌∙◌, subst}
 use Rattle.gql_document_types.specs.declared.selection.Selection.{Selection}
 use Rattle.gql_schema_types.specs.declared.types.ObjectType.{ObjectType}
-use Rattle.gql_exec_groups.specs.Groups.{SameGroups, applying}
-use Rattle.gql_exec_groups.specs.Grouping.{groups_seen}
-use Rattle.gql_exec_groups.specs.declared.group.Group.{Group as FieldsOfKey}
+use Rattle.gql_exec_plan.specs.Groups.{SameGroups, applying}
+use Rattle.gql_exec_plan.specs.Grouping.{groups_seen}
+use Rattle.gql_exec_plan.specs.declared.group.Group.{Group as FieldsOfKey}
 use Rattle.gql_exec_places.specs.Resolved.{Meaning, Meanings, gives_object, gives_list, answer_then, Outcome, answered}
 use Rattle.gql_exec_places.specs.Spot.{Spot}
 use Rattle.gql_exec_places.specs.Types.{item_type}

@@ -1,3 +1,10 @@
+pub mod Weights
+pub mod Lists
+pub mod Alike
+pub mod Depths
+pub mod Split
+pub mod Roots
+pub mod Restricting
 pub mod Apart
 pub mod Collecting
 pub mod Completing

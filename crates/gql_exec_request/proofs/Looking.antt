@@ -3,8 +3,8 @@ use Rattle.std.proofs.Common.{arith, ◌≡◌, ◌≤◌, ◌+◌, ◌*◌, inl
 use Rattle.std.proofs.Math.Nat.{add-mul}
 use Rattle.gql_document_types.specs.declared.selection.Selection.{Selection}
 use Rattle.gql_schema_types.specs.declared.types.ObjectType.{ObjectType}
-use Rattle.gql_exec_groups.specs.Sizes.{outer_size}
-use Rattle.gql_exec_introspected.specs.ThingMeaning.{Resolving}
+use Rattle.gql_exec_plan.specs.Sizes.{outer_size}
+use Rattle.gql_exec_request.specs.ThingMeaning.{Resolving}
 use Rattle.gql_exec_places.specs.World.{World}
 use Rattle.gql_exec_plan.specs.Growth.{AreFresh}
 use Rattle.gql_exec_plan.specs.Lists.{IsOneOf}

@@ -3,9 +3,9 @@ use Rattle.std.proofs.Common.{◌≡◌, ℕ, Bool, true, false, List, Some, Non
 use Rattle.gql_ast_values.specs.declared.type_ref.TypeRef.{TypeRef}
 use Rattle.gql_schema_types.specs.Schemas.{object_of}
 use Rattle.gql_schema_types.specs.declared.schema.Schema.{Schema}
-use Rattle.gql_exec_complete.specs.Fit.{list_misfit, object_misfit, unless, wrong}
-use Rattle.gql_exec_complete.specs.Lists.{is_list}
-use Rattle.gql_exec_complete.specs.Messages as message
+use Rattle.gql_exec_resolve.specs.Fit.{list_misfit, object_misfit, unless, wrong}
+use Rattle.gql_exec_resolve.specs.Lists.{is_list}
+use Rattle.gql_exec_resolve.specs.Messages as message
 use Rattle.gql_exec_places.specs.Resolved.{Misfit}
 
 -- a list fits at lists' types alone

@@ -10,7 +10,7 @@ use Rattle.gql_schema_types.specs.Types.{type_called}
 use Rattle.gql_schema_types.specs.declared.schema.Schema.{Schema}
 use Rattle.gql_schema_types.specs.Schemas.{type_named}
 use Rattle.gql_ast_values.specs.TypeParts.{item_level}
-use Rattle.gql_exec_complete.specs.Lists.{is_list}
+use Rattle.gql_exec_resolve.specs.Lists.{is_list}
 use Rattle.gql_exec_places.specs.Types as places
 use Rattle.gql_exec_request.specs.Trails.{IsNamed}
 use Rattle.gql_exec_request.specs.declared.place.Place.{Place}

@@ -5,7 +5,7 @@ use Rattle.jb_tree.specs.declared.value.Value.TheVariants as json
 use Rattle.gql_document_types.specs.declared.selection.Selection.{Selection}
 use Rattle.gql_response.specs.declared.graphql_error.GraphQLError.{GraphQLError}
 use Rattle.gql_schema_types.specs.declared.types.ObjectType.{ObjectType}
-use Rattle.gql_exec_groups.specs.Ranks.{AreRanked}
+use Rattle.gql_exec_plan.specs.Ranks.{AreRanked}
 use Rattle.gql_exec_places.specs.Execute.{Member, one_object, settled}
 use Rattle.gql_exec_places.specs.Spot.{trail}
 use Rattle.gql_exec_plan.specs.Plan.{Ground, AreNodes, ArePartsOf, HaveNodes, IsNodeOf, fields_in, groups_in, most_looks, parts_in, sets_below}
@@ -14,7 +14,7 @@ use Rattle.gql_exec_plan.specs.declared.plan.Node.{Node}
 use Rattle.gql_exec_plan.specs.declared.plan.Part.{Part}
 use Rattle.gql_exec_plan.proofs.Changes.{with_parts}
 use Rattle.gql_exec_plan.proofs.Nodes.{node-with}
-use Rattle.gql_exec_introspected.specs.ThingMeaning.{Resolving}
+use Rattle.gql_exec_request.specs.ThingMeaning.{Resolving}
 use Rattle.gql_exec_request.specs.Executed.{Executes, ExecutesGroups, MakesBelow}
 use Rattle.gql_exec_request.specs.declared.executing.Executing.{Executing}
 use Rattle.gql_exec_request.specs.declared.path.Path.TheVariants.{Below}

@@ -3,10 +3,10 @@ use Rattle.std.proofs.Common.{◌≡◌, inl, inr, ℕ, zero, suc, List, [], ◌
 use Rattle.gql_ast_values.specs.declared.type_ref.TypeRef.{TypeRef}
 use Rattle.gql_document_types.specs.declared.selection.Selection.{Selection}
 use Rattle.gql_schema_types.specs.declared.types.ObjectType.{ObjectType}
-use Rattle.gql_exec_groups.specs.Grouping.{groups_seen}
-use Rattle.gql_exec_groups.specs.Groups.{SameGroups, applying}
-use Rattle.gql_exec_groups.specs.Same.{SameFirst}
-use Rattle.gql_exec_groups.specs.declared.group.Group.{Group as FieldsOfKey}
+use Rattle.gql_exec_plan.specs.Grouping.{groups_seen}
+use Rattle.gql_exec_plan.specs.Groups.{SameGroups, applying}
+use Rattle.gql_exec_plan.specs.Same.{SameFirst}
+use Rattle.gql_exec_plan.specs.declared.group.Group.{Group as FieldsOfKey}
 use Rattle.gql_exec_places.specs.Resolved.{Meaning, Meanings, gives_leaf, gives_object, gives_list, gives_skip, fails_with, no_answer, answer_then}
 use Rattle.gql_exec_places.specs.Resolved.{Outcome, answered, refused}
 use Rattle.gql_exec_places.specs.Types.{item_type}

@@ -5,8 +5,8 @@ use Rattle.jb_tree.specs.declared.value.Value.TheVariants as json
 use Rattle.gql_document_types.specs.declared.selection.Selection.{Selection}
 use Rattle.gql_response.specs.declared.graphql_error.GraphQLError.{GraphQLError}
 use Rattle.gql_schema_types.specs.declared.types.ObjectType.{ObjectType}
-use Rattle.gql_exec_complete.specs.Fit.{wrong}
-use Rattle.gql_exec_complete.specs.Messages as message
+use Rattle.gql_exec_resolve.specs.Fit.{wrong}
+use Rattle.gql_exec_resolve.specs.Messages as message
 use Rattle.gql_exec_places.specs.Execute.{Member, null_or_pass, settled, settled_item, unless_misfit, value_made, completed, field_made, one_object, execute}
 use Rattle.gql_exec_places.specs.Fault.{told_at, fault_error}
 use Rattle.gql_exec_places.specs.Resolved.{Meaning, gives_object, fails_with, Misfit, Fault, Outcome, answered, refused}

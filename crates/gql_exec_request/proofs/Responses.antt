@@ -9,7 +9,7 @@ use Rattle.gql_document_types.specs.declared.selection.Selection.{Selection}
 use Rattle.gql_response.specs.declared.execution_response.ExecutionResponse.{ExecutionResponse}
 use Rattle.gql_response.specs.declared.graphql_error.GraphQLError.{GraphQLError}
 use Rattle.gql_schema_types.specs.declared.types.ObjectType.{ObjectType}
-use Rattle.gql_exec_groups.specs.Ranks.{AreRanked}
+use Rattle.gql_exec_plan.specs.Ranks.{AreRanked}
 use Rattle.gql_exec_places.specs.Depth.{Suffices}
 use Rattle.gql_exec_places.specs.Execute.{Member, execute}
 use Rattle.gql_exec_places.specs.Trail.{Trail}

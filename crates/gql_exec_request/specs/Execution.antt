@@ -15,9 +15,9 @@ use Rattle.gql_schema_types.specs.Schemas.{object_of}
 use Rattle.gql_schema_types.specs.declared.implementers.Implementers.{Implementers}
 use Rattle.gql_schema_types.specs.declared.schema.Schema.{Schema}
 use Rattle.gql_schema_types.specs.declared.types.ObjectType.{ObjectType}
-use Rattle.gql_exec_variables.specs.RequestErrors.{request_error}
-use Rattle.gql_exec_introspected.specs.Thing.{of_user, type_of_thing}
-use Rattle.gql_exec_introspected.specs.ThingMeaning.{Resolving, thing_meaning}
+use Rattle.gql_exec_plan.specs.RequestErrors.{request_error}
+use Rattle.gql_exec_request.specs.Thing.{of_user, type_of_thing}
+use Rattle.gql_exec_request.specs.ThingMeaning.{Resolving, thing_meaning}
 use Rattle.gql_exec_world.specs.Request.{Members, Request}
 use Rattle.gql_exec_world.specs.Response.{IsExecuted, IsExplained}
 use Rattle.gql_exec_request.specs.Executing.{request_by}

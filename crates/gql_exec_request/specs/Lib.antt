@@ -1,3 +1,9 @@
+pub mod Thing
+pub mod Mapped
+pub mod ThingMeaning
+pub mod Request
+pub mod Restricted
+pub mod Seen
 pub mod Trails
 pub mod Executing
 pub mod Planning
@@ -10,7 +16,7 @@ pub mod Executed
 pub mod Execution
 pub mod Running
 pub mod Partial
-pub use Rattle.gql_exec_introspected.specs.Thing
-pub use Rattle.gql_exec_introspected.specs.ThingMeaning
+pub use Rattle.gql_exec_request.specs.Thing
+pub use Rattle.gql_exec_request.specs.ThingMeaning
 pub use Rattle.gql_exec_world.specs.Response
 pub use Rattle.gql_exec_plan.specs.Room

@@ -9,8 +9,8 @@ use Rattle.gql_response.specs.declared.execution_response.ExecutionResponse.{Exe
 use Rattle.gql_schema_types.specs.Schemas.{object_of}
 use Rattle.gql_schema_types.specs.declared.schema.Schema.{Schema}
 use Rattle.gql_schema_types.specs.declared.types.ObjectType.{ObjectType}
-use Rattle.gql_exec_introspected.specs.Request.{partial_request}
-use Rattle.gql_exec_introspected.specs.Thing.{Thing, of_user}
+use Rattle.gql_exec_request.specs.Request.{partial_request}
+use Rattle.gql_exec_request.specs.Thing.{Thing, of_user}
 use Rattle.gql_exec_world.specs.Request.{Members, Request}
 use Rattle.gql_exec_world.specs.Response.{IsExecuted, IsExplained}
 use Rattle.gql_exec_request.specs.Execution.{undefined_root}

@@ -10,8 +10,8 @@ use Rattle.gql_response.specs.declared.graphql_error.GraphQLError.{GraphQLError}
 use Rattle.gql_response.specs.declared.path.ResponseDataPathSegment.TheVariants.{Field, ListIndex}
 use Rattle.gql_schema_types.specs.declared.schema.Schema.{Schema}
 use Rattle.gql_schema_types.specs.Schemas.{type_named}
-use Rattle.gql_exec_groups.specs.Walk.{fields_of}
-use Rattle.gql_exec_groups.specs.declared.group.Group.{Group as FieldsOfKey}
+use Rattle.gql_exec_plan.specs.Walk.{fields_of}
+use Rattle.gql_exec_plan.specs.declared.group.Group.{Group as FieldsOfKey}
 use Rattle.gql_exec_places.specs.Execute.{null_or_pass}
 use Rattle.gql_exec_places.specs.Spot.{Spot}
 use Rattle.gql_exec_places.specs.Trail.{Segment, Trail, path_of}

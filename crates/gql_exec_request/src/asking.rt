@@ -13,9 +13,9 @@ ghost use Rattle.gql_exec_request.specs.Executing.{request_of};
 ghost use Rattle.gql_exec_request.specs.Planning.{ground_in};
 
 use crate::executing::Executing;
+use crate::introspected::is_introspection;
 use gql_coerce::ArgumentFault;
 use gql_diag::JsonMap;
-use gql_exec_introspected::is_introspection;
 use gql_exec_plan::PlannedField;
 use gql_exec_resolve::{FieldError, ObjectValue, ResolveError, ResolveInfo, ResolvedValue};
 use gql_schema_types::ObjectType;

@@ -1,8 +1,8 @@
 //! The cycle of execution: ExecuteSelectionSet, ExecuteField and CompleteValue (GraphQL October 2021, sections 6.3 and 6.4).
 
 ghost use Rattle.std.specs.Prelude.{◌≡◌, ℕ, List, map, is_some, true, IfOk, OnOk};
-ghost use Rattle.gql_exec_groups.specs.Ranks.{AreRanked};
-ghost use Rattle.gql_exec_complete.specs.Lists.{is_list};
+ghost use Rattle.gql_exec_plan.specs.Ranks.{AreRanked};
+ghost use Rattle.gql_exec_resolve.specs.Lists.{is_list};
 ghost use Rattle.gql_exec_places.specs.Execute.{completed, field_made, items_made, one_array, one_object, settled, settled_item, unless_misfit, value_made};
 ghost use Rattle.gql_exec_places.specs.Resolved.{gives_leaf, gives_list, gives_object};
 ghost use Rattle.gql_exec_places.specs.Spot.{field_spot, item_spot, trail};
@@ -27,9 +27,10 @@ use crate::path::{Path, Step};
 use crate::place::{Place, item_of};
 use gql_diag::{JsonMap, Valid};
 use gql_document_types::Operation;
-use gql_exec_complete::{fitting_object, list_misfit};
 use gql_exec_plan::{Node, Part, PlannedField};
-use gql_exec_resolve::{FieldError, ObjectValue, RequestInfo, ResolvedValue};
+use gql_exec_resolve::{
+    FieldError, ObjectValue, RequestInfo, ResolvedValue, fitting_object, list_misfit,
+};
 use gql_exec_steps::Steps;
 use gql_response::GraphQLError;
 use gql_schema_types::ObjectType;

@@ -1,9 +1,9 @@
 //! Errors that are listed at places, and leaves.
 
 ghost use Rattle.std.specs.Prelude.{◌≡◌, ◌++◌, ◌∷◌, [], None, IfOk, OnOk};
-ghost use Rattle.gql_exec_complete.specs.Fit.{wrong};
-ghost use Rattle.gql_exec_complete.specs.Messages as message;
-ghost use Rattle.gql_exec_complete.specs.Seen.{seen};
+ghost use Rattle.gql_exec_resolve.specs.Fit.{wrong};
+ghost use Rattle.gql_exec_resolve.specs.Messages as message;
+ghost use Rattle.gql_exec_resolve.specs.Seen.{seen};
 ghost use Rattle.gql_exec_places.specs.Execute.{completed, settled};
 ghost use Rattle.gql_exec_places.specs.Fault.{fault_error, told_at};
 ghost use Rattle.gql_exec_places.specs.Resolved.{fails_with, gives_leaf};
@@ -19,8 +19,7 @@ use crate::output::Output;
 use crate::place::Place;
 use gql_coerce::ArgumentFault;
 use gql_diag::RequestError;
-use gql_exec_complete::{Misfit, leaf_misfit, resolver_error};
-use gql_exec_resolve::{FieldError, ObjectValue};
+use gql_exec_resolve::{FieldError, Misfit, ObjectValue, leaf_misfit, resolver_error};
 use gql_response::GraphQLError;
 use jb_text::{Listed, Memory};
 use jb_tree::Value;

@@ -19,7 +19,7 @@ use std::alloc::Global;
 struct NoFields;
 
 impl ObjectValue for NoFields {
-    ghost use Rattle.gql_exec_introspected.specs.Request.{no_name, no_field};
+    ghost use Rattle.gql_exec_request.specs.Request.{no_name, no_field};
 
     ghost Seen = { Unit {0} };
 

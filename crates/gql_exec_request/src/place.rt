@@ -10,7 +10,7 @@ use crate::output::Output;
 use crate::path::{Path, Step};
 use gql_ast_values::TypeRef;
 use gql_diag::RequestError;
-use gql_exec_groups::Group;
+use gql_exec_plan::Group;
 use gql_response::{GraphQLError, ResponseDataPathSegment};
 use gql_schema_types::ExtendedType;
 use gql_source::SourceMap;

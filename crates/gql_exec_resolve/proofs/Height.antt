@@ -4,7 +4,7 @@ use Rattle.gql_ast_values.specs.declared.type_ref.TypeRef.{TypeRef, fold-TypeRef
 use Rattle.gql_ast_values.specs.declared.type_ref.TypeRef as ref
 use Rattle.gql_ast_values.specs.declared.type_ref.TypeRef.TheOpen.{TypeRef-F}
 use Rattle.gql_ast_values.specs.TypeParts.{item_type, item_level}
-use Rattle.gql_exec_complete.specs.Lists.{is_list}
+use Rattle.gql_exec_resolve.specs.Lists.{is_list}
 use Rattle.gql_exec_places.specs.Types as places
 
 abbrev pub height_step : TypeRef-F ℕ → ℕ

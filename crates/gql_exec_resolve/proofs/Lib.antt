@@ -1,3 +1,4 @@
+pub mod Refusing
 pub mod Height
 pub mod ObjectLists
 pub mod Shapes

@@ -1,3 +1,8 @@
+pub mod Lists
+pub mod Messages
+pub mod Takes
+pub mod Fit
+pub mod Seen
 pub mod NamedTypes
 pub mod Meaning
 pub mod Objects

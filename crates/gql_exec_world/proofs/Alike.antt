@@ -6,11 +6,11 @@ use Rattle.gql_ast_values.specs.declared.type_ref.TypeRef.{TypeRef}
 use Rattle.gql_document_types.specs.declared.selection.Field.{Field}
 use Rattle.gql_document_types.specs.declared.selection.Selection.{Selection}
 use Rattle.gql_schema_types.specs.declared.types.ObjectType.{ObjectType}
-use Rattle.gql_exec_groups.specs.Flat.{flat, flat_sets}
-use Rattle.gql_exec_groups.specs.Groups.{response_name, FieldGroup, SameGroups, none_same, one_same, applying}
-use Rattle.gql_exec_groups.specs.Same.{SameFirst}
-use Rattle.gql_exec_groups.proofs.GroupFacts.{groups-same, defined-same}
-use Rattle.gql_exec_groups.proofs.SameFacts.{same-map, same-flat_map}
+use Rattle.gql_exec_plan.specs.Flat.{flat, flat_sets}
+use Rattle.gql_exec_plan.specs.Groups.{response_name, FieldGroup, SameGroups, none_same, one_same, applying}
+use Rattle.gql_exec_plan.specs.Same.{SameFirst}
+use Rattle.gql_exec_plan.proofs.GroupFacts.{groups-same, defined-same}
+use Rattle.gql_exec_plan.proofs.SameFacts.{same-map, same-flat_map}
 use Rattle.gql_exec_places.specs.Types.{item_type}
 use Rattle.gql_exec_places.specs.Resolved.{Meaning, Meanings, gives_leaf, gives_object, gives_list, gives_skip, fails_with, no_answer, answer_then}
 use Rattle.gql_exec_places.specs.Resolved.{Outcome, answered, refused}

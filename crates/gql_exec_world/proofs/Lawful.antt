@@ -17,12 +17,12 @@ use Rattle.gql_schema_types.specs.declared.schema.Schema.{Schema}
 use Rattle.gql_schema_types.specs.declared.types.ExtendedType.{ExtendedType}
 use Rattle.gql_schema_types.specs.declared.types.ExtendedType.TheVariants as type
 use Rattle.gql_schema_types.specs.declared.types.ObjectType.{ObjectType}
-use Rattle.gql_exec_complete.specs.Fit.{wrong, unless, null_misfit, leaf_misfit, leaf_at, implementing_misfit, member_misfit, object_at, object_misfit}
-use Rattle.gql_exec_complete.specs.Lists.{is_list}
-use Rattle.gql_exec_complete.specs.Messages as message
-use Rattle.gql_exec_groups.specs.Flat.{flat_sets}
-use Rattle.gql_exec_groups.specs.Groups.{response_key, has_key, keys, FieldGroup, group_at, groups_of, is_defined, applying}
-use Rattle.gql_exec_groups.proofs.Keys.{Text, has, text-same, text-itself, AreDistinct, are-distinct}
+use Rattle.gql_exec_resolve.specs.Fit.{wrong, unless, null_misfit, leaf_misfit, leaf_at, implementing_misfit, member_misfit, object_at, object_misfit}
+use Rattle.gql_exec_resolve.specs.Lists.{is_list}
+use Rattle.gql_exec_resolve.specs.Messages as message
+use Rattle.gql_exec_plan.specs.Flat.{flat_sets}
+use Rattle.gql_exec_plan.specs.Groups.{response_key, has_key, keys, FieldGroup, group_at, groups_of, is_defined, applying}
+use Rattle.gql_exec_plan.proofs.Keys.{Text, has, text-same, text-itself, AreDistinct, are-distinct}
 use Rattle.gql_exec_places.specs.Resolved.{Misfit, gives_leaf, gives_object, fails_with}
 use Rattle.gql_ast_values.specs.TypeParts.{is_non_null}
 use Rattle.gql_exec_places.specs.World.{World, key_of, DistinctKeys, IsLawful}

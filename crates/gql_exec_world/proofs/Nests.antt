@@ -19,20 +19,20 @@ use Rattle.gql_schema_types.specs.Entries.{is_called}
 use Rattle.gql_schema_types.specs.Schemas.{field_of as field_of_type}
 use Rattle.gql_schema_types.specs.declared.schema.Schema.{Schema}
 use Rattle.gql_schema_types.specs.declared.types.ObjectType.{ObjectType}
-use Rattle.gql_exec_depth.specs.Expanded.{most}
-use Rattle.gql_exec_depth.specs.Nested.{Nested, nothing, field_then, spread_then, inline_then, Fragments, Place, body_in, body_of, IsBelow as IsRankedBelow, AreRanked as AreNestedRanked}
-use Rattle.gql_exec_depth.specs.View.{One, one_field, one_spread, one_inline, then_more, spread_of, number_of, one_of, nested, body_nested, fragments_nested}
-use Rattle.gql_exec_depth.proofs.Ranked.{fragments-ranked}
-use Rattle.gql_exec_depth.proofs.Views.{view-field, view-spread, view-inline, view-inside, view-node}
-use Rattle.gql_exec_groups.specs.Applies.{applies, applies_if}
-use Rattle.gql_exec_groups.specs.Flat.{when, contents, body, field_of, opened, flat_within, enough, flat, flat_sets}
-use Rattle.gql_exec_groups.specs.Groups.{response_key, has_key, keys, FieldGroup, group_at, groups_of, has_field, is_defined, applying, SameGroups, none_same, one_same}
-use Rattle.gql_exec_groups.specs.Kept.{is_kept}
-use Rattle.gql_exec_groups.specs.Ranks.{AreRanked}
-use Rattle.gql_exec_groups.specs.Same.{SameFirst}
-use Rattle.gql_exec_groups.specs.Setting.{Setting}
-use Rattle.gql_exec_groups.proofs.Numbers.{body-is, body-none}
-use Rattle.gql_exec_groups.proofs.Variants.{out-field, out-spread, out-inline, each}
+use Rattle.gql_exec_plan.specs.Expanded.{most}
+use Rattle.gql_exec_plan.specs.Nested.{Nested, nothing, field_then, spread_then, inline_then, Fragments, Place, body_in, body_of, IsBelow as IsRankedBelow, AreRanked as AreNestedRanked}
+use Rattle.gql_exec_plan.specs.View.{One, one_field, one_spread, one_inline, then_more, spread_of, number_of, one_of, nested, body_nested, fragments_nested}
+use Rattle.gql_exec_plan.proofs.Ranked.{fragments-ranked}
+use Rattle.gql_exec_plan.proofs.Views.{view-field, view-spread, view-inline, view-inside, view-node}
+use Rattle.gql_exec_plan.specs.Applies.{applies, applies_if}
+use Rattle.gql_exec_plan.specs.Flat.{when, contents, body, field_of, opened, flat_within, enough, flat, flat_sets}
+use Rattle.gql_exec_plan.specs.Groups.{response_key, has_key, keys, FieldGroup, group_at, groups_of, has_field, is_defined, applying, SameGroups, none_same, one_same}
+use Rattle.gql_exec_plan.specs.Kept.{is_kept}
+use Rattle.gql_exec_plan.specs.Ranks.{AreRanked}
+use Rattle.gql_exec_plan.specs.Same.{SameFirst}
+use Rattle.gql_exec_plan.specs.Setting.{Setting}
+use Rattle.gql_exec_plan.proofs.Numbers.{body-is, body-none}
+use Rattle.gql_exec_plan.proofs.Variants.{out-field, out-spread, out-inline, each}
 use Rattle.gql_rules_graph_laws.specs.Ranks.{IsRanked}
 use Rattle.gql_exec_places.specs.Depth.{AllGroups, Suffices}
 use Rattle.gql_exec_places.specs.World.{World}

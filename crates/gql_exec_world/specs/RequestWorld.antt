@@ -3,9 +3,9 @@ use Rattle.std.specs.Prelude.{List}
 use Rattle.gql_document_types.specs.declared.selection.Selection.{Selection}
 use Rattle.gql_schema_types.specs.Schemas.{object_of}
 use Rattle.gql_schema_types.specs.declared.types.ObjectType.{ObjectType}
-use Rattle.gql_exec_complete.specs.Fit.{misfit}
-use Rattle.gql_exec_groups.specs.Groups.{response_name, applying}
-use Rattle.gql_exec_groups.specs.Setting.{Setting}
+use Rattle.gql_exec_resolve.specs.Fit.{misfit}
+use Rattle.gql_exec_plan.specs.Groups.{response_name, applying}
+use Rattle.gql_exec_plan.specs.Setting.{Setting}
 use Rattle.gql_exec_places.specs.World.{World}
 use Rattle.gql_exec_world.specs.Asks.{definition_on, asks}
 use Rattle.gql_exec_world.specs.Group.{Group, groups_from}

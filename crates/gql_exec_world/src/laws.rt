@@ -2,9 +2,9 @@
 
 ghost use Rattle.std.specs.Prelude.{◌≡◌, ℕ, List};
 ghost use Rattle.gql_document_types.specs.declared.selection.Selection.{Selection};
-ghost use Rattle.gql_exec_groups.specs.Groups.{FieldGroup, SameGroups, applying};
-ghost use Rattle.gql_exec_groups.specs.Ranks.{AreRanked};
-ghost use Rattle.gql_exec_groups.specs.Same.{SameFirst};
+ghost use Rattle.gql_exec_plan.specs.Groups.{FieldGroup, SameGroups, applying};
+ghost use Rattle.gql_exec_plan.specs.Ranks.{AreRanked};
+ghost use Rattle.gql_exec_plan.specs.Same.{SameFirst};
 ghost use Rattle.gql_exec_places.specs.Depth.{Suffices};
 ghost use Rattle.gql_exec_places.specs.Execute.{execute};
 ghost use Rattle.gql_exec_places.specs.Trail.{Trail};

@@ -1,2 +1,5 @@
 pub mod Layers
 pub mod Listed
+pub mod UntypedLayers
+mod Sizes
+mod Untyped

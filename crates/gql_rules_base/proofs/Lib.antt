@@ -1,2 +1,4 @@
 pub mod Few
 pub mod Places
+pub mod Nodes
+pub mod Whole

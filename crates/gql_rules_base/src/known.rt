@@ -16,7 +16,7 @@ pub enum Defined {
 
 /// Whether this is the name of a scalar that each GraphQL service has (GraphQL October 2021, section 3.5).
 #[must_use]
-pub fn is_built_in_scalar(name: &str) -> bool
+pub(crate) fn is_built_in_scalar(name: &str) -> bool
     ensures { result ≡ spec.is_built_in_scalar name.now }
 {
     name == "Int" || name == "Float" || name == "String" || name == "Boolean" || name == "ID"

@@ -111,7 +111,7 @@ impl Placed for (Name, Value) {
 
 /// Lists each item that has the name of one before it, with the first one's place, if the name counts. It takes time that
 /// grows with the number of items. `Err` only when out of memory.
-pub fn list_seconds<T: Placed, C: Counted>(
+pub(crate) fn list_seconds<T: Placed, C: Counted>(
     alloc: Global,
     rule: Rule,
     counted: &C,

@@ -8,7 +8,7 @@ use gql_ast_values::TypeRef;
 
 /// The type within all lists (GraphQL October 2021, section 2.11).
 #[must_use]
-pub fn single_type(ty: &TypeRef) -> &TypeRef
+pub(crate) fn single_type(ty: &TypeRef) -> &TypeRef
     ensures { result.now ≡ spec.single_type ty.now }
 {
     match ty {

@@ -4,7 +4,7 @@ use Rattle.std.specs.Prelude.{ℕ, Bool, true, false, not, ◌&&◌, ◌||◌, L
 use Rattle.std.specs.Bool.{beq}
 use Rattle.std.specs.Option.{option_map_or}
 use Rattle.std.specs.Str.{bytes_eq}
-use Rattle.gql_ast_print.specs.TypeText.{type_text}
+use Rattle.gql_ast.specs.TypeText.{type_text}
 use Rattle.gql_ast_values.specs.declared.type_ref.TypeRef.{TypeRef, fold-TypeRef}
 use Rattle.gql_ast_values.specs.declared.type_ref.TypeRef.TheOpen.{TypeRef-F}
 use Rattle.gql_diag_messages.specs.declared.rule.Rule.TheVariants.{ConflictingFieldType}

@@ -6,7 +6,7 @@ ghost use Rattle.gql_rules_merging.specs.ConflictingFieldType as spec;
 ghost use Rattle.gql_rules_merging.specs.Gathering.{selected_of};
 
 use crate::numbering::Selected;
-use gql_ast_print::print_type;
+use gql_ast::print_type;
 use gql_ast_values::TypeRef;
 use gql_diag_messages::{DiagnosticData, Rule};
 use gql_rules_base::list_fault;

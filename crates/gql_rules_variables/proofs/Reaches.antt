@@ -9,13 +9,13 @@ use Rattle.std.proofs.lemmas.List.Elements.{All-append, All-cons, All-nil, filte
 use Rattle.std.proofs.lemmas.List.Folds.{flat_map-map, fold-map, list_any-append}
 use Rattle.gql_ast_operations.specs.declared.operation.VariableDefinition.{VariableDefinition}
 use Rattle.gql_ast_values.specs.declared.type_ref.TypeRef.{TypeRef}
-use Rattle.gql_ast_print.specs.TypeText.{type_text}
+use Rattle.gql_ast.specs.TypeText.{type_text}
 use Rattle.gql_diag_messages.specs.declared.rule.Rule.TheVariants.{DisallowedVariableUsage}
 use Rattle.gql_diag_messages.specs.declared.diagnostic_data.DiagnosticData.{DiagnosticData}
 use Rattle.gql_document_types.specs.declared.fragment.Fragment.{Fragment}
 use Rattle.gql_document_types.specs.declared.operation.Operation.{Operation}
 use Rattle.gql_rules_base.specs.Faults.{fault}
-use Rattle.gql_rules_fragments.specs.Reached.{is_reached}
+use Rattle.gql_rules_selections.specs.Reached.{is_reached}
 use Rattle.gql_rules_variables.proofs.Firsts.{or-false, any-one_more, first_of, first-one_more, any-told, first-told, none-first, none-told, map-same, flat-same}
 use Rattle.gql_rules_variables.proofs.Noted.{is_some-position, noted}
 use Rattle.gql_rules_variables.specs.DisallowedVariableUsage.{breaks, misfit, disallowed_type, disallowed_fault, types_fault, disallowed_usage}

@@ -8,7 +8,7 @@ use Rattle.gql_document_types.specs.declared.selection.FragmentSpread.{FragmentS
 use Rattle.gql_document_types.specs.declared.selection.InlineFragment.{InlineFragment}
 use Rattle.gql_document_types.specs.declared.selection.Selection.{the_lemmas}
 use Rattle.gql_document_types.specs.declared.selection.Selection.TheVariants as selection
-use Rattle.gql_rules_nodes.specs.Nodes.{Node, field, is_nonempty, spread_at, selection_nodes, set_nodes, field_nodes, inline_nodes}
+use Rattle.gql_rules_selections.specs.Nodes.{Node, field, is_nonempty, spread_at, selection_nodes, set_nodes, field_nodes, inline_nodes}
 
 is_nonempty-map : {A B : Type 0} (f : A → B) (xs : List A) → is_nonempty (map f xs) ≡ is_nonempty xs
 is_nonempty-map f [] = refl

@@ -2,7 +2,7 @@
 use Rattle.std.specs.Prelude.{Bool, false, ◌&&◌, not, List, [], ◌∷◌, Option, Some, None, if◌then◌else◌}
 use Rattle.std.specs.Option.{option_and_then, option_map_or}
 use Rattle.gql_ast_operations.specs.declared.operation.VariableDefinition.{VariableDefinition}
-use Rattle.gql_ast_print.specs.TypeText.{type_text}
+use Rattle.gql_ast.specs.TypeText.{type_text}
 use Rattle.gql_ast_values.specs.declared.type_ref.TypeRef.{TypeRef}
 use Rattle.gql_diag_messages.specs.declared.rule.Rule.TheVariants.{DisallowedVariableUsage}
 use Rattle.gql_diag_messages.specs.declared.diagnostic_data.DiagnosticData.{DiagnosticData}

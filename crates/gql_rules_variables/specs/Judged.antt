@@ -6,7 +6,7 @@ use Rattle.gql_ast_operations.specs.declared.operation.VariableDefinition.{Varia
 use Rattle.gql_ast_values.specs.declared.type_ref.TypeRef.{TypeRef}
 use Rattle.gql_diag_messages.specs.declared.diagnostic_data.DiagnosticData.{DiagnosticData}
 use Rattle.gql_rules_base.specs.Faults.{only_if}
-use Rattle.gql_rules_fragments.specs.Reached.{is_reached}
+use Rattle.gql_rules_selections.specs.Reached.{is_reached}
 use Rattle.gql_rules_variables.specs.DisallowedVariableUsage.{misfit, disallowed_type, disallowed_fault}
 use Rattle.gql_rules_variables.specs.UndefinedVariable.{is_undefined, undefined_fault}
 use Rattle.gql_rules_variables.specs.Uses.{Use}

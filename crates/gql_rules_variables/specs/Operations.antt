@@ -7,7 +7,7 @@ use Rattle.gql_ast_operations.specs.declared.operation.VariableDefinition.{Varia
 use Rattle.gql_diag_messages.specs.declared.diagnostic_data.DiagnosticData.{DiagnosticData}
 use Rattle.gql_document_types.specs.declared.fragment.Fragment.{Fragment}
 use Rattle.gql_document_types.specs.declared.operation.Operation.{Operation}
-use Rattle.gql_rules_fragments.specs.Reached.{is_reached}
+use Rattle.gql_rules_selections.specs.Reached.{is_reached}
 use Rattle.gql_rules_variables.specs.Judged.{Judged, fresh_row, row_judged, rows_judged, row_told}
 use Rattle.gql_rules_variables.specs.UnusedVariable.{unless_used}
 use Rattle.gql_rules_variables.specs.Uses.{operation_uses, fragment_uses}

@@ -7,8 +7,8 @@ ghost use Rattle.gql_rules_variables.specs.Views as seen;
 
 use crate::types_into::is_allowed;
 use crate::uses::{Place, Use};
+use gql_ast::print_type;
 use gql_ast_operations::VariableDefinition;
-use gql_ast_print::print_type;
 use gql_ast_values::TypeRef;
 use gql_diag_messages::{DiagnosticData, Rule};
 use gql_rules_base::{Defined, is_defined, list_fault};

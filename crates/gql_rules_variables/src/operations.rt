@@ -2,7 +2,7 @@
 
 ghost use Rattle.std.specs.Prelude.{◌≡◌, ◌++◌, List, ℕ, IfOk, OnOk};
 ghost use Rattle.gql_document_types.specs.Spreads.{spread_graph, spread_numbers};
-ghost use Rattle.gql_rules_fragments.specs.Reached.{AreReached};
+ghost use Rattle.gql_rules_selections.specs.Reached.{AreReached};
 ghost use Rattle.gql_rules_variables.specs.Operations as step;
 ghost use Rattle.gql_rules_variables.specs.Views as seen;
 
@@ -13,8 +13,8 @@ use crate::unused_variable::list_unused_variables;
 use crate::variables::Variables;
 use gql_diag_messages::DiagnosticData;
 use gql_document_types::{Fragment, Operation};
-use gql_rules_fragments::{add_spreads, reached};
 use gql_rules_graph::Graph;
+use gql_rules_selections::{add_spreads, reached};
 use gql_schema_types::{Schema, Table};
 use jb_map::KeyTable;
 use jb_text::{Listed, Memory};

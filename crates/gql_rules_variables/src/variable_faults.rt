@@ -8,7 +8,7 @@ use crate::operations::judge_operation;
 use crate::rows::{fresh_rows, list_rows};
 use gql_diag_messages::DiagnosticData;
 use gql_document_types::ExecutableDocument;
-use gql_rules_fragments::spread_graph;
+use gql_rules_selections::spread_graph;
 use gql_schema_types::Schema;
 use jb_text::{Listed, Memory};
 use std::alloc::Global;

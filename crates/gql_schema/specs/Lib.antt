@@ -1,3 +1,5 @@
+pub mod Rows
+pub mod BuiltInSchema
 pub mod Builders
-pub use Rattle.gql_schema_built_in.specs.BuiltInSchema
+pub use Rattle.gql_schema.specs.BuiltInSchema
 pub mod Judged

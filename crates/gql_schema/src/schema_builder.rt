@@ -2,12 +2,12 @@
 
 ghost use Rattle.std.specs.Prelude.{◌≡◌, true, false, IfOk, OnOk, OnErr};
 
+use crate::built_in_schema::built_in;
 use crate::judged::judged;
 use crate::taking::{list_executable, take_list};
 use gql_ast::Document;
 use gql_diag::{DiagnosticData, DiagnosticList, WithErrors};
 use gql_schema_build::{BuiltIn, TypeSystem, build_schema};
-use gql_schema_built_in::built_in;
 use gql_schema_types::Schema;
 use gql_source::SourceMap;
 use jb_text::{Listed, Memory, Refused};

@@ -5,10 +5,10 @@ use Rattle.std.specs.Map.{lookup}
 use Rattle.std.specs.Str.{bytes_eq}
 use Rattle.std.proofs.lemmas.List.{map-append}
 use Rattle.gql_schema_types.specs.Entries.{entry, put_new, repeat}
-use Rattle.gql_schema_merge.specs.DefinitionNames.{definition_name}
-use Rattle.gql_schema_merge.specs.Merged.{Types, named, with_type}
+use Rattle.gql_schema_build.specs.DefinitionNames.{definition_name}
+use Rattle.gql_schema_build.specs.Merged.{Types, named, with_type}
 use Rattle.gql_schema_build.specs.TypeDefinitionCollision.{second, second_of}
-use Rattle.gql_schema_merge.specs.declared.type_definition.TypeDefinition.{TypeDefinition}
+use Rattle.gql_schema_build.specs.declared.type_definition.TypeDefinition.{TypeDefinition}
 
 pub defined-entry : (name : List ℕ) (ds : List TypeDefinition) → lookup (bytes_eq name) (map named ds) ≡ entry definition_name name ds
 defined-entry name [] = refl

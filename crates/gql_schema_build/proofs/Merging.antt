@@ -7,15 +7,15 @@ use Rattle.std.specs.Str.{bytes_eq}
 use Rattle.std.specs.Cmp.Lexicographic.{nat_list_eq_equiv}
 use Rattle.std.proofs.lemmas.Slice.Eq.{bytes_eq-Decides}
 use Rattle.gql_schema_types.specs.Entries.{texts, is_called}
-use Rattle.gql_schema_merge.specs.DefinitionNames.{definition_name}
-use Rattle.gql_schema_merge.specs.ExtensionNames.{extension_name}
-use Rattle.gql_schema_merge.specs.Extended.{extended}
-use Rattle.gql_schema_merge.specs.Merged.{Types, named, with_extension}
+use Rattle.gql_schema_build.specs.DefinitionNames.{definition_name}
+use Rattle.gql_schema_build.specs.ExtensionNames.{extension_name}
+use Rattle.gql_schema_build.specs.Extended.{extended}
+use Rattle.gql_schema_build.specs.Merged.{Types, named, with_extension}
 use Rattle.gql_schema_build.specs.TypeTable.{all_extended}
-use Rattle.gql_schema_merge.specs.declared.type_definition.TypeDefinition.{TypeDefinition}
-use Rattle.gql_schema_merge.specs.declared.type_definition.TypeDefinition.TheVariants as type
-use Rattle.gql_schema_merge.specs.declared.type_extension.TypeExtension.{TypeExtension}
-use Rattle.gql_schema_merge.specs.declared.type_extension.TypeExtension.TheVariants as extension
+use Rattle.gql_schema_build.specs.declared.type_definition.TypeDefinition.{TypeDefinition}
+use Rattle.gql_schema_build.specs.declared.type_definition.TypeDefinition.TheVariants as type
+use Rattle.gql_schema_build.specs.declared.type_extension.TypeExtension.{TypeExtension}
+use Rattle.gql_schema_build.specs.declared.type_extension.TypeExtension.TheVariants as extension
 
 -- an extension keeps the name
 pub kept_name : (d : TypeDefinition) (e : TypeExtension) → definition_name (extended d e) ≡ definition_name d

@@ -5,18 +5,18 @@ use Rattle.std.specs.Map.{values_of}
 use Rattle.std.specs.Str.{bytes_eq}
 use Rattle.gql_schema_types.specs.Entries.{texts, is_called, put}
 use Rattle.gql_schema_build.specs.Built.{built, part_faults}
-use Rattle.gql_schema_merge.specs.DefinitionNames.{definition_name}
-use Rattle.gql_schema_merge.specs.ExtensionNames.{extension_name}
-use Rattle.gql_schema_merge.specs.Extended.{extended}
-use Rattle.gql_schema_merge.specs.Merged.{Types, named, firsts, with_extension}
+use Rattle.gql_schema_build.specs.DefinitionNames.{definition_name}
+use Rattle.gql_schema_build.specs.ExtensionNames.{extension_name}
+use Rattle.gql_schema_build.specs.Extended.{extended}
+use Rattle.gql_schema_build.specs.Merged.{Types, named, firsts, with_extension}
 use Rattle.gql_schema_build.specs.OrphanTypeExtension.{orphan_type_extension}
 use Rattle.gql_schema_build.specs.TypeDefinitionCollision.{type_definition_collisions}
 use Rattle.gql_schema_build.specs.TypeExtensionKindMismatch.{type_extension_kind_mismatch}
 use Rattle.gql_schema_types.specs.Types.{type_name}
 use Rattle.gql_schema_build.specs.TypeTable.{all_extended, types, type_faults}
-use Rattle.gql_schema_merge.specs.declared.type_definition.TypeDefinition.{TypeDefinition}
-use Rattle.gql_schema_merge.specs.declared.type_definition.TypeDefinition.TheVariants as type
-use Rattle.gql_schema_merge.specs.declared.type_extension.TypeExtension.{TypeExtension}
+use Rattle.gql_schema_build.specs.declared.type_definition.TypeDefinition.{TypeDefinition}
+use Rattle.gql_schema_build.specs.declared.type_definition.TypeDefinition.TheVariants as type
+use Rattle.gql_schema_build.specs.declared.type_extension.TypeExtension.{TypeExtension}
 use Rattle.gql_diag_messages.specs.declared.diagnostic_data.DiagnosticData.{DiagnosticData}
 use Rattle.gql_schema_types.proofs.Joins.{joined-distinct, none-distinct, put-all}
 use Rattle.gql_schema_build.proofs.Merging.{kept_name, map-map, merged}

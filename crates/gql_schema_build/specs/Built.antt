@@ -3,13 +3,13 @@ use Rattle.std.specs.Prelude.{List, []}
 use Rattle.gql_diag_messages.specs.declared.diagnostic_data.DiagnosticData.{DiagnosticData}
 use Rattle.gql_schema_types.specs.declared.types.ExtendedType.{ExtendedType}
 use Rattle.gql_schema_types.specs.declared.types.ExtendedType.TheVariants as type
-use Rattle.gql_schema_parts.specs.EnumValueNameCollision.{enum_value_name_collisions}
-use Rattle.gql_schema_parts.specs.InputFieldNameCollision.{input_field_name_collisions}
-use Rattle.gql_schema_parts.specs.KindsBuilt.{scalar_type, object_type, interface_type, union_type, enum_type, input_object_type}
-use Rattle.gql_schema_parts.specs.KindsBuilt.{object_faults, interface_faults}
-use Rattle.gql_schema_parts.specs.UnionMemberNameCollision.{union_member_name_collisions}
-use Rattle.gql_schema_merge.specs.declared.type_definition.TypeDefinition.{TypeDefinition}
-use Rattle.gql_schema_merge.specs.declared.type_definition.TypeDefinition.TheVariants as definition
+use Rattle.gql_schema_build.specs.EnumValueNameCollision.{enum_value_name_collisions}
+use Rattle.gql_schema_build.specs.InputFieldNameCollision.{input_field_name_collisions}
+use Rattle.gql_schema_build.specs.KindsBuilt.{scalar_type, object_type, interface_type, union_type, enum_type, input_object_type}
+use Rattle.gql_schema_build.specs.KindsBuilt.{object_faults, interface_faults}
+use Rattle.gql_schema_build.specs.UnionMemberNameCollision.{union_member_name_collisions}
+use Rattle.gql_schema_build.specs.declared.type_definition.TypeDefinition.{TypeDefinition}
+use Rattle.gql_schema_build.specs.declared.type_definition.TypeDefinition.TheVariants as definition
 
 abbrev pub built : TypeDefinition → ExtendedType
 built (definition.Scalar d) = type.Scalar (scalar_type d)

@@ -5,11 +5,11 @@ use Rattle.std.specs.Option.{option_map_or}
 use Rattle.gql_diag_messages.specs.declared.rule.Rule.TheVariants.{BuiltInScalarTypeRedefinition}
 use Rattle.gql_diag_messages.specs.declared.diagnostic_data.DiagnosticData.{DiagnosticData}
 use Rattle.gql_schema_types.specs.Entries.{entry}
-use Rattle.gql_schema_merge.specs.DefinitionLocations.{definition_location}
-use Rattle.gql_schema_merge.specs.DefinitionNames.{definition_name}
-use Rattle.gql_schema_parts.specs.Faults.{fault}
-use Rattle.gql_schema_merge.specs.declared.type_definition.TypeDefinition.{TypeDefinition}
-use Rattle.gql_schema_merge.specs.declared.type_definition.TypeDefinition.TheVariants.{Scalar}
+use Rattle.gql_schema_build.specs.DefinitionLocations.{definition_location}
+use Rattle.gql_schema_build.specs.DefinitionNames.{definition_name}
+use Rattle.gql_schema_build.specs.Faults.{fault}
+use Rattle.gql_schema_build.specs.declared.type_definition.TypeDefinition.{TypeDefinition}
+use Rattle.gql_schema_build.specs.declared.type_definition.TypeDefinition.TheVariants.{Scalar}
 
 abbrev pub is_scalar : TypeDefinition → Bool
 is_scalar (Scalar _) = true

@@ -3,8 +3,8 @@ use Rattle.std.specs.Prelude.{Bool, List, [], ◌∷◌, ◌++◌, is_some, if�
 use Rattle.std.specs.List.{flat_map}
 use Rattle.gql_schema_types.specs.Entries.{entry}
 use Rattle.gql_schema_build.specs.BuiltInScalarTypeRedefinition.{without_redefinitions}
-use Rattle.gql_schema_merge.specs.DefinitionNames.{definition_name}
-use Rattle.gql_schema_merge.specs.declared.type_definition.TypeDefinition.{TypeDefinition}
+use Rattle.gql_schema_build.specs.DefinitionNames.{definition_name}
+use Rattle.gql_schema_build.specs.declared.type_definition.TypeDefinition.{TypeDefinition}
 
 -- a definition of a name that no built-in type has
 abbrev pub new_name : List TypeDefinition → TypeDefinition → List TypeDefinition

@@ -5,7 +5,7 @@ use Rattle.gql_ast_definitions.specs.declared.schema_definition.DirectiveDefinit
 use Rattle.gql_diag_messages.specs.declared.rule.Rule.TheVariants.{DirectiveDefinitionCollision}
 use Rattle.gql_diag_messages.specs.declared.diagnostic_data.DiagnosticData.{DiagnosticData}
 use Rattle.gql_schema_types.specs.Entries.{repeats}
-use Rattle.gql_schema_parts.specs.Faults.{name_fault}
+use Rattle.gql_schema_build.specs.Faults.{name_fault}
 
 abbrev pub directive_name : DirectiveDefinition → Named
 directive_name d = d.name

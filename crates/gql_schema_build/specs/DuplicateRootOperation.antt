@@ -7,7 +7,7 @@ use Rattle.gql_diag_messages.specs.declared.rule.Rule.TheVariants.{DuplicateRoot
 use Rattle.gql_diag_messages.specs.declared.diagnostic_data.DiagnosticData.{DiagnosticData}
 use Rattle.gql_schema_types.specs.Schemas.{root_of}
 use Rattle.gql_schema_types.specs.declared.schema.SchemaDefinition.{SchemaDefinition}
-use Rattle.gql_schema_parts.specs.Faults.{fault}
+use Rattle.gql_schema_build.specs.Faults.{fault}
 use Rattle.gql_schema_build.specs.Roots.{Root, with_root}
 
 abbrev pub keyword : OperationType → List ℕ

@@ -6,7 +6,7 @@ use Rattle.gql_ast.specs.declared.definition.Definition.{Definition}
 use Rattle.gql_ast.specs.declared.definition.Definition.TheVariants.{OperationDefinition, FragmentDefinition}
 use Rattle.gql_diag_messages.specs.declared.rule.Rule.TheVariants.{ExecutableDefinition}
 use Rattle.gql_diag_messages.specs.declared.diagnostic_data.DiagnosticData.{DiagnosticData}
-use Rattle.gql_schema_parts.specs.Faults.{fault}
+use Rattle.gql_schema_build.specs.Faults.{fault}
 
 abbrev pub executable_definition : Definition → List DiagnosticData
 executable_definition (OperationDefinition it) = fault ExecutableDefinition (codes "an operation definition" ∷ []) it.location None ∷ []

@@ -4,7 +4,7 @@ use Rattle.std.specs.Prelude.{List, [], map, None}
 use Rattle.gql_ast_definitions.specs.declared.extension.SchemaExtension.{SchemaExtension}
 use Rattle.gql_diag_messages.specs.declared.rule.Rule.TheVariants.{OrphanSchemaExtension}
 use Rattle.gql_diag_messages.specs.declared.diagnostic_data.DiagnosticData.{DiagnosticData}
-use Rattle.gql_schema_parts.specs.Faults.{fault}
+use Rattle.gql_schema_build.specs.Faults.{fault}
 
 abbrev pub orphan_schema_extension : SchemaExtension → DiagnosticData
 orphan_schema_extension e = fault OrphanSchemaExtension [] e.location None

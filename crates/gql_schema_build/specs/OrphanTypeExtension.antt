@@ -2,10 +2,10 @@
 use Rattle.std.specs.Prelude.{List, [], ◌∷◌, None, is_some, if◌then◌else◌}
 use Rattle.gql_diag_messages.specs.declared.rule.Rule.TheVariants.{OrphanTypeExtension}
 use Rattle.gql_diag_messages.specs.declared.diagnostic_data.DiagnosticData.{DiagnosticData}
-use Rattle.gql_schema_merge.specs.ExtensionNames.{extension_name}
-use Rattle.gql_schema_parts.specs.Faults.{name_fault}
-use Rattle.gql_schema_merge.specs.Merged.{Types, defined}
-use Rattle.gql_schema_merge.specs.declared.type_extension.TypeExtension.{TypeExtension}
+use Rattle.gql_schema_build.specs.ExtensionNames.{extension_name}
+use Rattle.gql_schema_build.specs.Faults.{name_fault}
+use Rattle.gql_schema_build.specs.Merged.{Types, defined}
+use Rattle.gql_schema_build.specs.declared.type_extension.TypeExtension.{TypeExtension}
 
 -- an extension without a definition of its name
 abbrev pub orphan_type_extension : Types → TypeExtension → List DiagnosticData

@@ -4,7 +4,7 @@ use Rattle.std.specs.Option.{option_map_or}
 use Rattle.gql_ast_definitions.specs.declared.schema_definition.SchemaDefinition.{SchemaDefinition}
 use Rattle.gql_diag_messages.specs.declared.rule.Rule.TheVariants.{SchemaDefinitionCollision}
 use Rattle.gql_diag_messages.specs.declared.diagnostic_data.DiagnosticData.{DiagnosticData}
-use Rattle.gql_schema_parts.specs.Faults.{fault}
+use Rattle.gql_schema_build.specs.Faults.{fault}
 
 -- the first `schema` so far
 abbrev pub with_schema : Option SchemaDefinition → SchemaDefinition → Option SchemaDefinition

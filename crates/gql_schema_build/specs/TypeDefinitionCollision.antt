@@ -4,10 +4,10 @@ use Rattle.std.specs.Option.{option_map_or}
 use Rattle.gql_diag_messages.specs.declared.rule.Rule.TheVariants.{TypeDefinitionCollision}
 use Rattle.gql_diag_messages.specs.declared.diagnostic_data.DiagnosticData.{DiagnosticData}
 use Rattle.gql_schema_types.specs.Entries.{repeats}
-use Rattle.gql_schema_merge.specs.DefinitionNames.{definition_name}
-use Rattle.gql_schema_parts.specs.Faults.{name_fault}
-use Rattle.gql_schema_merge.specs.Merged.{Types, defined}
-use Rattle.gql_schema_merge.specs.declared.type_definition.TypeDefinition.{TypeDefinition}
+use Rattle.gql_schema_build.specs.DefinitionNames.{definition_name}
+use Rattle.gql_schema_build.specs.Faults.{name_fault}
+use Rattle.gql_schema_build.specs.Merged.{Types, defined}
+use Rattle.gql_schema_build.specs.declared.type_definition.TypeDefinition.{TypeDefinition}
 
 -- a second definition of a name
 abbrev pub second : TypeDefinition → TypeDefinition → DiagnosticData

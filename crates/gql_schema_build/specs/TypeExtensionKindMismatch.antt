@@ -4,12 +4,12 @@ use Rattle.std.specs.Prelude.{List, [], ◌∷◌, None, if◌then◌else◌}
 use Rattle.std.specs.Option.{option_map_or}
 use Rattle.gql_diag_messages.specs.declared.rule.Rule.TheVariants.{TypeExtensionKindMismatch}
 use Rattle.gql_diag_messages.specs.declared.diagnostic_data.DiagnosticData.{DiagnosticData}
-use Rattle.gql_schema_merge.specs.ExtensionNames.{extension_name}
-use Rattle.gql_schema_parts.specs.Faults.{name_fault}
-use Rattle.gql_schema_merge.specs.Kinds.{kind_of_definition, kind_of_extension, same_kind}
-use Rattle.gql_schema_merge.specs.Merged.{Types, defined}
-use Rattle.gql_schema_merge.specs.declared.type_definition.TypeDefinition.{TypeDefinition}
-use Rattle.gql_schema_merge.specs.declared.type_extension.TypeExtension.{TypeExtension}
+use Rattle.gql_schema_build.specs.ExtensionNames.{extension_name}
+use Rattle.gql_schema_build.specs.Faults.{name_fault}
+use Rattle.gql_schema_build.specs.Kinds.{kind_of_definition, kind_of_extension, same_kind}
+use Rattle.gql_schema_build.specs.Merged.{Types, defined}
+use Rattle.gql_schema_build.specs.declared.type_definition.TypeDefinition.{TypeDefinition}
+use Rattle.gql_schema_build.specs.declared.type_extension.TypeExtension.{TypeExtension}
 
 abbrev pub mismatch : TypeExtension → TypeDefinition → List DiagnosticData
 mismatch e d = if same_kind (kind_of_definition d) (kind_of_extension e) then [] else name_fault TypeExtensionKindMismatch (extension_name e) None ∷ []

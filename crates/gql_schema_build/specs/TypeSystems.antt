@@ -2,8 +2,8 @@
 use Rattle.std.specs.Prelude.{List, [], ◌∷◌, ◌++◌, fold}
 use Rattle.gql_ast.specs.declared.definition.Definition.{Definition}
 use Rattle.gql_ast.specs.declared.definition.Definition.TheVariants as definition
-use Rattle.gql_schema_merge.specs.declared.type_definition.TypeDefinition.TheVariants as type
-use Rattle.gql_schema_merge.specs.declared.type_extension.TypeExtension.TheVariants as extension
+use Rattle.gql_schema_build.specs.declared.type_definition.TypeDefinition.TheVariants as type
+use Rattle.gql_schema_build.specs.declared.type_extension.TypeExtension.TheVariants as extension
 use Rattle.gql_schema_build.specs.declared.type_system.TypeSystem.{TypeSystem}
 
 abbrev pub no_definitions : TypeSystem

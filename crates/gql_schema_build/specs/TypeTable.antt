@@ -5,15 +5,15 @@ use Rattle.gql_diag_messages.specs.declared.diagnostic_data.DiagnosticData.{Diag
 use Rattle.gql_schema_types.specs.Entries.{is_called}
 use Rattle.gql_schema_types.specs.declared.types.ExtendedType.{ExtendedType}
 use Rattle.gql_schema_build.specs.Built.{built, part_faults}
-use Rattle.gql_schema_merge.specs.DefinitionNames.{definition_name}
-use Rattle.gql_schema_merge.specs.Extended.{extended}
-use Rattle.gql_schema_merge.specs.ExtensionNames.{extension_name}
-use Rattle.gql_schema_merge.specs.Merged.{named, firsts}
+use Rattle.gql_schema_build.specs.DefinitionNames.{definition_name}
+use Rattle.gql_schema_build.specs.Extended.{extended}
+use Rattle.gql_schema_build.specs.ExtensionNames.{extension_name}
+use Rattle.gql_schema_build.specs.Merged.{named, firsts}
 use Rattle.gql_schema_build.specs.OrphanTypeExtension.{orphan_type_extension}
 use Rattle.gql_schema_build.specs.TypeDefinitionCollision.{type_definition_collisions}
 use Rattle.gql_schema_build.specs.TypeExtensionKindMismatch.{type_extension_kind_mismatch}
-use Rattle.gql_schema_merge.specs.declared.type_definition.TypeDefinition.{TypeDefinition}
-use Rattle.gql_schema_merge.specs.declared.type_extension.TypeExtension.{TypeExtension}
+use Rattle.gql_schema_build.specs.declared.type_definition.TypeDefinition.{TypeDefinition}
+use Rattle.gql_schema_build.specs.declared.type_extension.TypeExtension.{TypeExtension}
 
 -- a definition with all that the extensions of its name add, in order
 abbrev pub all_extended : List TypeExtension → TypeDefinition → TypeDefinition

@@ -3,11 +3,11 @@
 ghost use Rattle.std.specs.Prelude.{◌≡◌, ◌++◌, IfOk, OnOk};
 ghost use Rattle.gql_schema_build.specs.Built as spec;
 
-use gql_diag_messages::DiagnosticData;
-use gql_schema_merge::TypeDefinition;
-use gql_schema_parts::{
+use crate::kinds_built::{
     any_enum, any_input_object, any_interface, any_object, any_union, scalar_type,
 };
+use crate::type_definition::TypeDefinition;
+use gql_diag_messages::DiagnosticData;
 use gql_schema_types::ExtendedType;
 use jb_text::{Listed, Memory};
 use std::alloc::Global;

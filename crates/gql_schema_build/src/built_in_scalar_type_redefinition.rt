@@ -3,9 +3,9 @@
 ghost use Rattle.std.specs.Prelude.{◌≡◌, ◌++◌, IfOk, OnOk};
 ghost use Rattle.gql_schema_build.specs.BuiltInScalarTypeRedefinition as spec;
 
+use crate::fault::list_nameless;
+use crate::type_definition::{TypeDefinition, find_definition};
 use gql_diag_messages::{DiagnosticData, Rule};
-use gql_schema_merge::{TypeDefinition, find_definition};
-use gql_schema_parts::list_nameless;
 use jb_text::{Listed, Memory};
 use std::alloc::Global;
 

@@ -5,8 +5,9 @@ ghost use Rattle.gql_schema_build.specs.BuiltInScalarTypeRedefinition.{built_in_
 ghost use Rattle.gql_schema_build.specs.Considered as spec;
 
 use crate::built_in_scalar_type_redefinition::without_redefinitions;
+use crate::lists::append;
+use crate::type_definition::{TypeDefinition, find_definition};
 use gql_diag_messages::DiagnosticData;
-use gql_schema_merge::{TypeDefinition, append, find_definition};
 use gql_schema_types::Named;
 use jb_text::{Listed, Memory};
 use std::alloc::Global;

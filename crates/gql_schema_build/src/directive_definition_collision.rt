@@ -4,9 +4,9 @@ ghost use Rattle.std.specs.Prelude.{◌≡◌, ◌++◌, [], IfOk, OnOk, map};
 ghost use Rattle.gql_schema_types.specs.Entries.{put_new, joined, repeat};
 ghost use Rattle.gql_schema_build.specs.DirectiveDefinitionCollision as spec;
 
+use crate::fault::list_name;
 use gql_ast_definitions::DirectiveDefinition;
 use gql_diag_messages::{DiagnosticData, Rule};
-use gql_schema_parts::list_name;
 use gql_schema_types::Table;
 use jb_text::{Listed, Memory};
 use std::alloc::{AllocError, Global};

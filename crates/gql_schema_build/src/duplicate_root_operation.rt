@@ -4,9 +4,9 @@ ghost use Rattle.std.specs.Prelude.{◌≡◌, ◌++◌, OnOk, fold};
 ghost use Rattle.gql_schema_build.specs.DuplicateRootOperation as spec;
 ghost use Rattle.gql_schema_build.specs.Roots.{root_put, with_root};
 
+use crate::fault::list_word;
 use gql_ast_base::{Name, OperationType};
 use gql_diag_messages::{DiagnosticData, Rule};
-use gql_schema_parts::list_word;
 use gql_schema_types::SchemaDefinition;
 use jb_text::{Listed, Memory};
 use std::alloc::Global;

@@ -4,9 +4,9 @@
 ghost use Rattle.std.specs.Prelude.{◌≡◌, ◌++◌, OnOk};
 ghost use Rattle.gql_schema_build.specs.ExecutableDefinition as spec;
 
+use crate::fault::list_word;
 use gql_ast::Definition;
 use gql_diag_messages::{DiagnosticData, Rule};
-use gql_schema_parts::list_word;
 use jb_text::{Listed, Memory};
 use std::alloc::Global;
 

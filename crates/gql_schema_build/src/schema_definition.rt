@@ -6,12 +6,12 @@ ghost use Rattle.gql_schema_build.specs.Roots as roots;
 ghost use Rattle.gql_schema_build.specs.SchemaDefinitions as spec;
 
 use crate::duplicate_root_operation::add_roots;
+use crate::lists::append;
 use crate::orphan_schema_extension::list_orphan_schema_extensions;
 use crate::schema_definition_collision::first_schema;
 use gql_ast_base::{Name, OperationType, all_three, both};
 use gql_ast_definitions::SchemaExtension;
 use gql_diag_messages::DiagnosticData;
-use gql_schema_merge::append;
 use gql_schema_types::{ExtendedType, SchemaDefinition, Table};
 use jb_text::{Listed, Memory, Refused};
 use std::alloc::{AllocError, Global};

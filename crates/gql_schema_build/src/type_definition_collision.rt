@@ -1,12 +1,12 @@
 //! Types have distinct names, the built-in types included (GraphQL October 2021, section 3.3).
 
 ghost use Rattle.std.specs.Prelude.{◌≡◌, ◌++◌, IfOk, OnOk, map};
-ghost use Rattle.gql_schema_merge.specs.Merged as merged;
+ghost use Rattle.gql_schema_build.specs.Merged as merged;
 ghost use Rattle.gql_schema_build.specs.TypeDefinitionCollision as spec;
 
+use crate::fault::list_name;
+use crate::type_definition::TypeDefinition;
 use gql_diag_messages::{DiagnosticData, Rule};
-use gql_schema_merge::TypeDefinition;
-use gql_schema_parts::list_name;
 use gql_schema_types::Named;
 use jb_map::Pairs;
 use jb_text::{Listed, Memory};

@@ -5,9 +5,10 @@ ghost use Rattle.std.specs.Prelude.{◌≡◌, ◌++◌, OnOk};
 ghost use Rattle.std.specs.List.{flat_map};
 ghost use Rattle.gql_schema_build.specs.TypeExtensionKindMismatch as spec;
 
+use crate::fault::list_name;
+use crate::type_definition::TypeDefinition;
+use crate::type_extension::TypeExtension;
 use gql_diag_messages::{DiagnosticData, Rule};
-use gql_schema_merge::{TypeDefinition, TypeExtension};
-use gql_schema_parts::list_name;
 use gql_schema_types::Named;
 use jb_map::Pairs;
 use jb_text::{Listed, Memory};

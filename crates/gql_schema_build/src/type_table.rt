@@ -9,11 +9,13 @@ ghost use Rattle.gql_schema_build.specs.Built.{built, part_faults};
 ghost use Rattle.gql_schema_build.specs.TypeTable as spec;
 
 use crate::built::built;
+use crate::merge::merge_all;
 use crate::orphan_type_extension::list_orphan_type_extensions;
+use crate::type_definition::TypeDefinition;
 use crate::type_definition_collision::first_types;
+use crate::type_extension::TypeExtension;
 use crate::type_extension_kind_mismatch::list_kind_mismatches;
 use gql_diag_messages::DiagnosticData;
-use gql_schema_merge::{TypeDefinition, TypeExtension, merge_all};
 use gql_schema_types::{ExtendedType, Named, Table};
 use jb_map::Pairs;
 use jb_text::{Listed, Memory};

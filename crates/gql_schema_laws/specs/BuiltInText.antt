@@ -5,7 +5,7 @@ use Rattle.gql_ast.specs.Documents.{text_of}
 use Rattle.gql_schema.specs.BuiltInSchema.{built_in_file, built_in_sources}
 use Rattle.gql_schema_build.specs.BuiltInScalarTypeRedefinition.{is_scalar}
 use Rattle.gql_schema_build.specs.declared.built_in.BuiltIn.{BuiltIn}
-use Rattle.gql_schema_merge.specs.DefinitionNames.{definition_name}
+use Rattle.gql_schema_build.specs.DefinitionNames.{definition_name}
 use Rattle.gql_schema_types.specs.Entries.{entry}
 
 abbrev pub built_in_text : List ℕ

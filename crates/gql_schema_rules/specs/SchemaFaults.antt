@@ -3,10 +3,10 @@ use Rattle.std.specs.Prelude.{◌≡◌, ◌⊎◌, List, ◌++◌}
 use Rattle.gql_diag.specs.List.{IsStableSort}
 use Rattle.gql_diag.specs.Order.{list_order}
 use Rattle.gql_diag_messages.specs.declared.diagnostic_data.DiagnosticData.{DiagnosticData}
-use Rattle.gql_schema_rules_cycles.specs.RecursiveDirectiveDefinition.{AreRecursiveDirectives}
-use Rattle.gql_schema_rules_cycles.specs.RecursiveInputObjectDefinition.{AreRecursiveInputObjects}
-use Rattle.gql_schema_rules_cycles.specs.RecursiveInterfaceDefinition.{AreRecursiveInterfaces}
-use Rattle.gql_schema_rules_interfaces.specs.InterfaceRules.{interfaces_faults}
+use Rattle.gql_schema_rules.specs.RecursiveDirectiveDefinition.{AreRecursiveDirectives}
+use Rattle.gql_schema_rules.specs.RecursiveInputObjectDefinition.{AreRecursiveInputObjects}
+use Rattle.gql_schema_rules.specs.RecursiveInterfaceDefinition.{AreRecursiveInterfaces}
+use Rattle.gql_schema_rules_types.specs.InterfaceRules.{interfaces_faults}
 use Rattle.gql_schema_rules_types.specs.SchemaRules.{schema_definition_faults, directive_definitions_faults}
 use Rattle.gql_schema_rules_types.specs.TypeRules.{types_faults}
 use Rattle.gql_schema_rules.specs.Taken.{HasListedSome}

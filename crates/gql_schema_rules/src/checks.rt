@@ -4,9 +4,9 @@ ghost use Rattle.std.specs.Prelude.{◌≡◌, ◌++◌, false, Some, OnOk, OnEr
 ghost use Rattle.gql_diag.specs.List.{IsStableSort};
 ghost use Rattle.gql_diag.specs.Order.{list_order};
 ghost use Rattle.gql_rules_base.specs.declared.known.Defined.TheVariants.{Types};
-ghost use Rattle.gql_rules_values.specs.Arguments.{argument_faults};
-ghost use Rattle.gql_rules_values.specs.Directives.{directive_faults};
-ghost use Rattle.gql_rules_values.specs.Literals.{literal_faults};
+ghost use Rattle.gql_rules_base.specs.Arguments.{argument_faults};
+ghost use Rattle.gql_rules_base.specs.Directives.{directive_faults};
+ghost use Rattle.gql_rules_base.specs.Literals.{literal_faults};
 ghost use Rattle.gql_schema_rules.specs.Taken.{HasTakenSome};
 
 use crate::taken::take_faults;
@@ -14,8 +14,7 @@ use gql_ast_base::Name;
 use gql_ast_definitions::{DirectiveLocation, InputValueDefinition};
 use gql_ast_values::{Argument, Directive, TypeRef, Value};
 use gql_diag::DiagnosticList;
-use gql_rules_base::Defined;
-use gql_rules_values::{Call, list_arguments, list_directives, list_literal};
+use gql_rules_base::{Call, Defined, list_arguments, list_directives, list_literal};
 use gql_schema_types::Schema;
 use gql_source::SourceSpan;
 use jb_text::{Listed, Memory};

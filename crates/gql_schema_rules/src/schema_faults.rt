@@ -3,12 +3,13 @@
 ghost use Rattle.std.specs.Prelude.{◌≡◌, List, IfOk};
 ghost use Rattle.gql_schema_rules.specs.SchemaFaults as spec;
 
+use crate::recursive_directive_definition::list_recursive_directives;
+use crate::recursive_input_object_definition::list_recursive_input_objects;
+use crate::recursive_interface_definition::list_recursive_interfaces;
 use gql_diag_messages::DiagnosticData;
-use gql_schema_rules_cycles::{
-    list_recursive_directives, list_recursive_input_objects, list_recursive_interfaces,
+use gql_schema_rules_types::{
+    list_directive_definitions, list_interfaces, list_schema_definition, list_types,
 };
-use gql_schema_rules_interfaces::list_interfaces;
-use gql_schema_rules_types::{list_directive_definitions, list_schema_definition, list_types};
 use gql_schema_types::Schema;
 use jb_text::{Listed, Memory};
 use std::alloc::Global;

@@ -10,9 +10,9 @@ use Rattle.gql_diag_messages.specs.declared.diagnostic_data.DiagnosticData.{Diag
 use Rattle.gql_ast_values.specs.TypeParts.{named_type}
 use Rattle.gql_rules_base.specs.Written.{is_written}
 use Rattle.gql_rules_base.specs.declared.known.Defined.TheVariants.{TypesAndScalars}
-use Rattle.gql_rules_values.specs.Directives.{directive_faults}
-use Rattle.gql_rules_values.specs.Literals.{literal_faults}
-use Rattle.gql_rules_values.specs.UniqueInputValue.{unique_definitions}
+use Rattle.gql_rules_base.specs.Directives.{directive_faults}
+use Rattle.gql_rules_base.specs.Literals.{literal_faults}
+use Rattle.gql_rules_base.specs.UniqueInputValue.{unique_definitions}
 use Rattle.gql_schema_rules_types.specs.InputType.{input_type}
 use Rattle.gql_schema_rules_types.specs.ReservedName.{reserved_name}
 use Rattle.gql_schema_rules_types.specs.UndefinedDefinition.{undefined_definition}

@@ -15,3 +15,12 @@ pub mod SchemaRules
 pub mod TypeRules
 pub mod UndefinedDefinition
 pub mod UnionMemberObjectType
+pub mod Arguments
+pub mod ExtraRequiredImplementationFieldArgument
+pub mod InterfaceRules
+pub mod InvalidImplementationFieldArgumentType
+pub mod InvalidImplementationFieldType
+pub mod MissingInterfaceField
+pub mod MissingInterfaceFieldArgument
+pub mod Subtypes
+pub mod TransitiveImplementedInterfaces

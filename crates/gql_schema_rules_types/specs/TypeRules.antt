@@ -8,7 +8,7 @@ use Rattle.gql_ast_definitions.specs.declared.schema_definition.DirectiveLocatio
 use Rattle.gql_diag_messages.specs.declared.diagnostic_data.DiagnosticData.{DiagnosticData}
 use Rattle.gql_rules_base.specs.Written.{is_written}
 use Rattle.gql_rules_base.specs.declared.known.Defined.TheVariants.{TypesAndScalars}
-use Rattle.gql_rules_values.specs.Directives.{directive_faults}
+use Rattle.gql_rules_base.specs.Directives.{directive_faults}
 use Rattle.gql_schema_rules_types.specs.EmptyFieldSet.{empty_field_set}
 use Rattle.gql_schema_rules_types.specs.EmptyInputValueSet.{empty_input_value_set}
 use Rattle.gql_schema_rules_types.specs.EmptyMemberSet.{empty_member_set}

@@ -15,8 +15,8 @@ use Rattle.gql_schema_build.specs.Considered.{type_definitions}
 use Rattle.gql_schema_build.specs.SchemaDefinitions.{schema_definition}
 use Rattle.gql_schema_build.specs.TypeSystems.{with_definitions, no_definitions}
 use Rattle.gql_schema_build.specs.TypeTable.{types}
-use Rattle.gql_schema_merge.specs.declared.type_definition.TypeDefinition.{TypeDefinition}
-use Rattle.gql_schema_parts.specs.KindsBuilt.{object_type}
+use Rattle.gql_schema_build.specs.declared.type_definition.TypeDefinition.{TypeDefinition}
+use Rattle.gql_schema_build.specs.KindsBuilt.{object_type}
 use Rattle.gql_schema_rules.specs.Scalars.{validated_types}
 use Rattle.gql_schema_text.specs.SchemaText.{SchemaText}
 use Rattle.gql_schema_types.specs.Schemas.{field_on}

@@ -3,7 +3,7 @@ use Rattle.std.specs.Prelude.{◌≡◌, ℕ, List, ◌++◌, Some, None, codes}
 use Rattle.std.specs.Fmt.{decimal}
 use Rattle.std.specs.Str.{IsUtf8}
 use Rattle.std.specs.declared.ops.Range.{Range}
-use Rattle.jb_serve.specs.Reply.{line}
+use Rattle.jb_io.specs.Reply.{line}
 use Rattle.gql_cst_lexer.specs.Message.{message_of}
 use Rattle.gql_cst_lexer.specs.declared.error.CstError.{CstError}
 use Rattle.gql_cst_lexer.specs.declared.error.CstError.TheVariants.{Syntax, RecursionLimit, TokenLimit}

@@ -1,13 +1,12 @@
 //! The program over any source and sink.
 
-ghost use Rattle.jb_serve.specs.Run.{IsServed};
+ghost use Rattle.jb_io.specs.Run.{IsServed};
 ghost use Rattle.gql_syntax_tool.specs.Reply.{Accepts, Refuses, usage};
 ghost use Rattle.gql_syntax_tool.specs.Start.{start_asked};
 
 use crate::start::start_asked;
-use jb_io::{Sink, Source};
-use jb_serve::serve;
-pub use jb_serve::{ANSWERED, MISUSED, NO_MEMORY, REFUSED, SINK_FAILED, SOURCE_FAILED, TOO_LONG};
+use jb_io::{Sink, Source, serve};
+pub use jb_io::{ANSWERED, MISUSED, NO_MEMORY, REFUSED, SINK_FAILED, SOURCE_FAILED, TOO_LONG};
 use std::alloc::Global;
 
 const USAGE: &str = "usage: gql_syntax_program document | selection_set | type\n";

@@ -8,7 +8,7 @@ ghost use Rattle.gql_syntax_tool.specs.Start.{rule_of};
 use crate::start::Start;
 use bytes::Bytes;
 use gql_cst::{CstError, Limits, Memory, Parsed, parse_document, parse_selection_set, parse_type};
-use jb_serve::{Command, Reply};
+use jb_io::{Command, Reply};
 use std::alloc::Global;
 use std::ops::Range;
 

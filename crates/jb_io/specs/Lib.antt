@@ -4,3 +4,5 @@ pub mod Sink
 pub mod Source
 pub mod Stream
 pub mod Memory
+pub mod Reply
+pub mod Run

@@ -5,17 +5,24 @@
 //! a value was made of comes back from it.
 //! A [`Source`] and a [`Sink`] say what became of the bytes, where they tell them, and count their faults, so that
 //! a caller's contract can name the cause of each failure.
+//!
+//! A program that reads its input to the end and writes one line says by a [`Command`] what its words ask for and what it
+//! replies to the bytes of its input; [`serve`] does the rest in one order, and its contract names the cause of every exit
+//! status.
 #![tactic(auto)]
 
+mod command;
 mod failing;
 pub mod laws;
 mod memory_sink;
 mod memory_source;
+mod serving;
 mod sink;
 mod source;
 mod stream;
 mod value_bytes;
 
+pub use command::{Command, Reply};
 pub use jb_print::{to_bytes, to_pretty, to_text};
 pub use jb_read::{FaultKind, ReadFault, from_bytes, from_bytes_whole, from_str};
 pub use jb_shape::{
@@ -25,6 +32,9 @@ pub use jb_shape::{
 pub use jb_tree::Memory;
 pub use memory_sink::MemorySink;
 pub use memory_source::MemorySource;
+pub use serving::{
+    ANSWERED, MISUSED, NO_MEMORY, REFUSED, SINK_FAILED, SOURCE_FAILED, TOO_LONG, serve,
+};
 pub use sink::{Sink, SinkFault, SureSink, WriterSink};
 pub use source::{ReaderSource, Source, SourceFault, SureSource};
 pub use stream::{INPUT_LIMIT, InputFault, read_to_end, write_all};

@@ -1,7 +1,7 @@
 -- What the program writes of itself, and which inputs it refuses to read.
 use Rattle.std.specs.Prelude.{ℕ, ◌<◌, List, Option, IsSomeAnd, codes, length}
 use Rattle.jb_io.specs.declared.stream.TheConstants.{INPUT_LIMIT}
-use Rattle.jb_serve.specs.Reply.{line}
+use Rattle.jb_io.specs.Reply.{line}
 
 -- what is written where the words are no command
 abbrev pub usage : List ℕ

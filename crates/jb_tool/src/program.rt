@@ -1,15 +1,14 @@
 //! The program: its words, its input, its reply.
 
 ghost use Rattle.std.specs.Prelude.{◌≡◌, ◌≢◌, ◌⊎◌, ◌↔◌, None};
-ghost use Rattle.jb_serve.specs.Run.{IsServed};
+ghost use Rattle.jb_io.specs.Run.{IsServed};
 ghost use Rattle.jb_tool.specs.Program.{IsLong, usage};
 ghost use Rattle.jb_tool.specs.Reply.{Prints, Refuses};
 ghost use Rattle.jb_tool.specs.Style.{style_asked};
 
 use crate::style::style_asked;
-use jb_io::{Sink, Source, SureSink, SureSource};
-use jb_serve::serve;
-pub use jb_serve::{ANSWERED, MISUSED, NO_MEMORY, REFUSED, SINK_FAILED, SOURCE_FAILED, TOO_LONG};
+use jb_io::{Sink, Source, SureSink, SureSource, serve};
+pub use jb_io::{ANSWERED, MISUSED, NO_MEMORY, REFUSED, SINK_FAILED, SOURCE_FAILED, TOO_LONG};
 use std::alloc::Global;
 
 const USAGE: &str = "usage: jb_program compact | pretty\n";

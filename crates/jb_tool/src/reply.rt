@@ -6,9 +6,9 @@ ghost use Rattle.jb_tool.specs.Style.{printed};
 
 use crate::style::Style;
 use bytes::Bytes;
+use jb_io::{Command, Reply};
 use jb_print::{to_bytes, to_pretty};
 use jb_read::{ReadFault, from_bytes_whole};
-use jb_serve::{Command, Reply};
 use jb_tree::{Memory, Refused, Value};
 use std::alloc::{AllocError, Global};
 

@@ -1,4 +1,3 @@
-pub mod FromJson
 pub mod Index
 pub mod Pointer
 pub mod Rows

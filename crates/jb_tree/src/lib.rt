@@ -7,7 +7,6 @@
 
 mod compare;
 mod convert;
-mod from_json;
 mod index;
 mod kinds;
 pub mod laws;
@@ -17,7 +16,6 @@ mod pointer_put;
 mod sort;
 mod value;
 
-pub use from_json::FromJsonFault;
 pub use index::{Index, IndexError};
 pub use jb_map::{
     Entry, IntoIter, Iter, IterMut, Keys, OccupiedEntry, Pairs, TryClone, VacantEntry, Values,

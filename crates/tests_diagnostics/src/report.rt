@@ -1,6 +1,6 @@
 //! Whole reports, as they are written.
 
-use gql_diag_reports::CliReport;
+use gql_diag::CliReport;
 use gql_source::{FileId, SourceFile, SourceMap, SourceSpan};
 use jb_io::SureSink;
 use jb_text::Memory;

@@ -1,9 +1,9 @@
-//! Tests of requests that validation would have refused, or whose resolvers give what does not fit, and of what parsers make of
-//! texts (GraphQL October 2021, sections 2, 3 and 6).
+//! Tests of requests that validation would have refused, or whose resolvers give what does not fit, of what parsers make of texts,
+//! and of operations without spreads (GraphQL October 2021, sections 2, 3 and 6).
 //!
 //! They stand apart because a crate with tests is proved once with them and once without. Each expected answer was worked out
-//! by hand. What is parsed is held in a `ManuallyDrop` and not dropped: a test ends with its process, and a drop of a schema or a
-//! document on each way out of a function makes its proof dear.
+//! by hand. What is parsed or expanded is held in a `ManuallyDrop` and not dropped: a test ends with its process, and a drop of a
+//! schema or a document on each way out of a function makes its proof dear.
 #![tactic(auto)]
 
 #[cfg(test)]
@@ -12,6 +12,8 @@ mod documents;
 mod echo;
 #[cfg(test)]
 mod execution;
+#[cfg(test)]
+mod expansion;
 #[cfg(test)]
 mod fixtures;
 #[cfg(test)]

@@ -1,7 +1,8 @@
 //! Values: that calls succeed with ample memory, the sizes, and the standard's own examples.
 use crate::fixtures::{key, shown};
+use jb_from_json::{FromJson, FromJsonFault};
 use jb_read::{ReadFault, from_str};
-use jb_tree::{ByteString, FromJsonFault, Listed, Map, Memory, Number, Refused, Text, Value, laws};
+use jb_tree::{ByteString, Listed, Map, Memory, Number, Refused, Text, Value, laws};
 use serde_json as json;
 use std::alloc::Global;
 use std::mem::size_of;

@@ -3,9 +3,9 @@
 use crate::documents::faults;
 use crate::fixtures::{bytes_of, schema_of};
 use bytes::Bytes;
+use gql_diag::refusal_of_request;
 use gql_document_types::{ExecutableDocument, Operation};
 use gql_parser::Parser;
-use gql_refusal::refusal_of_request;
 use gql_source::FileIds;
 use jb_text::Refused;
 use std::alloc::Global;

@@ -8,7 +8,7 @@ use gql_ast_values::Argument;
 use gql_coerce::{ArgumentFault, InputCoercionError, coerce_arguments, coerce_variables};
 use gql_diag::{JsonMap, RequestError, Valid};
 use gql_document_types::{ExecutableDocument, Operation};
-use gql_exec_variables::coerce_variable_values;
+use gql_exec_plan::coerce_variable_values;
 use gql_schema_types::Schema;
 use gql_source::FileIds;
 use jb_print::append_object;

@@ -1,10 +1,10 @@
 use Rattle.std.proofs.Common.{◌++◌, map, sym, ap, ◌∙◌}
 use Rattle.std.proofs.lemmas.List.{map-append, append_assoc}
 use Rattle.gql_schema_types.specs.Entries.{put_new, joined, repeat, repeats}
-use Rattle.gql_schema_merge.specs.DefinitionNames.{definition_name}
+use Rattle.gql_schema_build.specs.DefinitionNames.{definition_name}
 use Rattle.gql_schema_build.specs.TypeDefinitionCollision as spec
 use Rattle.gql_schema_build.proofs.Firsts.{with_type-named, second-named}
-use Rattle.gql_schema_merge.specs.declared.type_definition.TypeDefinition.{TypeDefinition}
+use Rattle.gql_schema_build.specs.declared.type_definition.TypeDefinition.{TypeDefinition}
 use Rattle.gql_diag_messages.specs.declared.diagnostic_data.DiagnosticData.{DiagnosticData}
 use Rattle.gql_schema_build.proofs.type_definition_collision.first_types.Goals as goal
 

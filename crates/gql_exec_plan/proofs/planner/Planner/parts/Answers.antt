@@ -1,10 +1,10 @@
 use Rattle.std.proofs.Common.{List, ◌++◌, sym, subst}
 use Rattle.std.proofs.lemmas.Result.{IfOk-weaker}
-use Rattle.gql_exec_groups.specs.Collected.{setting, sets_of}
-use Rattle.gql_exec_groups.specs.Grouping.{fields_in_groups, groups_seen}
-use Rattle.gql_exec_groups.specs.Groups.{SameGroups, applying}
-use Rattle.gql_exec_groups.specs.Standing.{NoneMoreOften, fields_in_all, fields_in_fragments}
-use Rattle.gql_exec_groups.specs.declared.group.Group.{Group}
+use Rattle.gql_exec_plan.specs.Collected.{setting, sets_of}
+use Rattle.gql_exec_plan.specs.Grouping.{fields_in_groups, groups_seen}
+use Rattle.gql_exec_plan.specs.Groups.{SameGroups, applying}
+use Rattle.gql_exec_plan.specs.Standing.{NoneMoreOften, fields_in_all, fields_in_fragments}
+use Rattle.gql_exec_plan.specs.declared.group.Group.{Group}
 use Rattle.gql_exec_plan.specs.Growth.{AreBegun, AreFresh}
 use Rattle.gql_exec_plan.specs.Plan.{ArePartsOf, ground_of}
 use Rattle.gql_exec_plan.proofs.Nodes.{HasGroups, begun-parts}

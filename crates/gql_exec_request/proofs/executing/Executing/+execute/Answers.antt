@@ -3,7 +3,7 @@ use Rattle.std.proofs.lemmas.List.{append-nil, length-map}
 use Rattle.gql_ast_definitions.specs.declared.field_definition.FieldDefinition.{FieldDefinition}
 use Rattle.gql_schema_types.specs.declared.schema.Schema.{Schema}
 use Rattle.gql_schema_types.specs.Schemas.{type_named}
-use Rattle.gql_exec_complete.specs.Seen.{seen, misfit_seen, IsFitOfObject}
+use Rattle.gql_exec_resolve.specs.Seen.{seen, misfit_seen, IsFitOfObject}
 use Rattle.jb_tree.specs.declared.value.Value.TheVariants as json
 use Rattle.gql_exec_places.specs.Execute.{completed, items_made, one_array, one_object, settled}
 use Rattle.gql_exec_places.specs.Resolved.{gives_leaf, gives_list, gives_object, gives_skip}
@@ -36,7 +36,7 @@ use Rattle.gql_exec_request.proofs.Values.{meaning-leaf, meaning-object, meaning
 use Rattle.gql_exec_request.proofs.Ways.{item-place, item_in}
 use Rattle.gql_exec_request.proofs.executing.Executing.+execute.Goals as goal
 use Rattle.gql_exec_request.proofs.executing.Executing.+execute.Goals.{complete_items-in-Value+in_ok-add_item-in-Value, complete_items-in-LeftOut, execute_parts-in-Value+in_ok-add_member-in-Value, execute_parts-in-LeftOut}
-use Rattle.gql_exec_groups.specs.Ranks.{AreRanked}
+use Rattle.gql_exec_plan.specs.Ranks.{AreRanked}
 use Rattle.gql_exec_plan.specs.Plan.{Ground, ground_of, AreNodes, IsTyped, field_in, fields_in, groups_in, sets_below, group_in, most_looks}
 use Rattle.gql_exec_plan.specs.Ways.{ways_to}
 use Rattle.gql_exec_plan.proofs.Growing.{grows-none}

@@ -1,6 +1,6 @@
 use Rattle.std.proofs.Common.{[], ◌∷◌, Some, refl, sym, ap, ◌∙◌}
-use Rattle.gql_exec_complete.specs.Fit.{leaf_misfit_at}
-use Rattle.gql_exec_complete.specs.Seen.{seen, misfit_seen}
+use Rattle.gql_exec_resolve.specs.Fit.{leaf_misfit_at}
+use Rattle.gql_exec_resolve.specs.Seen.{seen, misfit_seen}
 use Rattle.gql_exec_places.specs.Execute.{execute}
 use Rattle.gql_exec_places.specs.Resolved.{gives_leaf}
 use Rattle.gql_exec_request.specs.Executing.{world_of}

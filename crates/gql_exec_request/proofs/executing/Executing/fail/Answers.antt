@@ -1,6 +1,6 @@
 use Rattle.std.proofs.Common.{refl}
-use Rattle.gql_exec_complete.specs.Fit.{wrong}
-use Rattle.gql_exec_complete.specs.Messages as message
+use Rattle.gql_exec_resolve.specs.Fit.{wrong}
+use Rattle.gql_exec_resolve.specs.Messages as message
 use Rattle.gql_exec_places.specs.Fault.{told_at}
 use Rattle.gql_exec_places.specs.Resolved.{fails_with}
 use Rattle.gql_exec_request.specs.Executing.{world_of}

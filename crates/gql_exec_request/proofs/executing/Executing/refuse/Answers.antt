@@ -1,5 +1,5 @@
 use Rattle.std.proofs.Common.{rules, ◌≡◌, [], ◌∷◌, ◌++◌}
-use Rattle.gql_exec_complete.specs.Seen.{seen}
+use Rattle.gql_exec_resolve.specs.Seen.{seen}
 use Rattle.gql_exec_places.specs.Fault.{fault_error, told_at}
 use Rattle.gql_exec_request.specs.Executing.{world_of}
 use Rattle.gql_exec_request.specs.Trails.{spot_of}

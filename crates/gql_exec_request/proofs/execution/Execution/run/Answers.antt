@@ -1,7 +1,7 @@
 use Rattle.std.proofs.Common.{◌≡◌, ◌≤◌, ◌+◌, [], ◌∷◌, sym, subst}
 use Rattle.gql_document_types.specs.Spreads.{spread_graph}
-use Rattle.gql_exec_groups.specs.Ranks.{AreRanked}
-use Rattle.gql_exec_groups.specs.Collected.{sets_of}
+use Rattle.gql_exec_plan.specs.Ranks.{AreRanked}
+use Rattle.gql_exec_plan.specs.Collected.{sets_of}
 use Rattle.gql_exec_plan.specs.Plan.{Ground, ArePartsOf, IsWithin, groups_in, most_looks}
 use Rattle.gql_exec_plan.specs.Room.{HasRoom}
 use Rattle.gql_exec_plan.proofs.Room.{room-root}

@@ -1,3 +1,0 @@
-mod Mixed
-mod Sorts
-mod Steps

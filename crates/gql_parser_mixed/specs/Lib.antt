@@ -1,2 +1,0 @@
-pub mod MixedRead
-pub mod MixedBuilt

@@ -1,3 +1,0 @@
-mod CycleTold
-mod FromStarts
-mod OneName

@@ -1,6 +1,0 @@
-pub mod Reached
-pub mod RecursiveFragmentDefinition
-pub mod SpreadFaults
-pub mod UndefinedFragment
-pub mod UnusedFragment
-pub mod WayRound

@@ -1,0 +1,5 @@
+mod CycleTold
+mod FromStarts
+mod OneName
+mod OneSelection
+mod Possible

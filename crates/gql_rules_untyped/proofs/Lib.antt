@@ -1,3 +1,0 @@
-pub mod Layers
-mod Sizes
-mod Untyped

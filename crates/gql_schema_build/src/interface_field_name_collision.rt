@@ -1,0 +1,34 @@
+//! The fields of an interface have distinct names (GraphQL October 2021, sections 3.7 and 3.7.1).
+
+ghost use Rattle.std.specs.Prelude.{◌≡◌, ◌++◌, [], IfOk, OnOk};
+ghost use Rattle.gql_schema_types.specs.Entries.{joined};
+ghost use Rattle.gql_schema_build.specs.InterfaceFieldNameCollision.{interface_field_name_collisions};
+ghost use Rattle.gql_schema_build.specs.PartNames.{field_name};
+
+use crate::distinct::distinct;
+use crate::parts_listed::shared;
+use gql_ast_definitions::FieldDefinition;
+use gql_diag_messages::{DiagnosticData, Rule};
+use gql_schema_types::{Shared, Table};
+use jb_text::{Listed, Memory};
+use std::alloc::Global;
+
+/// The fields of an interface, of each name the first, and a fault for each other.
+pub(crate) fn interface_fields(
+    alloc: Global,
+    owner: &str,
+    fields: Listed<FieldDefinition>,
+    faults: &mut Listed<DiagnosticData>,
+) -> Result<Table<Shared<FieldDefinition>>, Memory>
+    ensures table { IfOk result (λ table. table ≡ joined field_name [] fields) }
+    ensures faults { OnOk result (faults.new ≡ faults.old ++ interface_field_name_collisions owner.now fields) }
+{
+    let fields = shared(alloc, fields)?;
+    distinct(
+        alloc,
+        Rule::InterfaceFieldNameCollision,
+        owner,
+        fields,
+        faults,
+    )
+}

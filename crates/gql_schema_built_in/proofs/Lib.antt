@@ -1,7 +1,0 @@
-mod Found
-mod Tokens
-mod Readings
-mod Forests
-pub mod Cut
-pub mod Types
-pub mod Known

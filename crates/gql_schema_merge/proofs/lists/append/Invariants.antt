@@ -1,6 +1,0 @@
-use Rattle.std.proofs.Common.{◌≡◌, ◌++◌}
-use Rattle.gql_schema_merge.proofs.lists.append.Given as goal
-
--- what is there and what is left make the whole
-abbrev pub invariant-loop-item : goal.invariant-loop-item
-invariant-loop-item g l = l.list ++ l.item-iterator ≡ l.fn.list ++ l.fn.more

@@ -1,4 +1,0 @@
-pub mod CycleFaults
-pub mod RecursiveDirectiveDefinition
-pub mod RecursiveInputObjectDefinition
-pub mod RecursiveInterfaceDefinition

@@ -1,9 +1,0 @@
-pub mod Arguments
-pub mod ExtraRequiredImplementationFieldArgument
-pub mod InterfaceRules
-pub mod InvalidImplementationFieldArgumentType
-pub mod InvalidImplementationFieldType
-pub mod MissingInterfaceField
-pub mod MissingInterfaceFieldArgument
-pub mod Subtypes
-pub mod TransitiveImplementedInterfaces
