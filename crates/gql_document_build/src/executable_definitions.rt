@@ -71,7 +71,10 @@ impl ExecutableDefinitions {
         match definition {
             Definition::OperationDefinition(it) => self.operations.push(it),
             Definition::FragmentDefinition(it) => self.fragments.push(it),
-            _ => Ok(()),
+            other => {
+                drop(other);
+                Ok(())
+            }
         }
     }
 }

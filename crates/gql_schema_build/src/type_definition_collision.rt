@@ -39,16 +39,23 @@ fn add_first(
     ensures faults { OnOk result (faults.new ≡ faults.old ++ spec.second_of types.old definition) }
 {
     match types.get(definition.own_name().as_str()) {
-        Some(first) => list_name(
-            alloc,
-            Rule::TypeDefinitionCollision,
-            definition.own_name(),
-            first.own_name().location(),
-            faults,
-        ),
-        None => {
-            let name = definition.own_name().text().copy(alloc)?;
-            types.insert_new(name, definition)
+        Some(first) => {
+            let told = list_name(
+                alloc,
+                Rule::TypeDefinitionCollision,
+                definition.own_name(),
+                first.own_name().location(),
+                faults,
+            );
+            drop(definition);
+            told
         }
+        None => match definition.own_name().text().copy(alloc) {
+            Ok(name) => types.insert_new(name, definition),
+            Err(memory) => {
+                drop(definition);
+                Err(memory)
+            }
+        },
     }
 }

@@ -10,6 +10,6 @@ none_of (Some i) none = absurd cc
 
 pub insert_new-requires : goal.insert_new-requires
 insert_new-requires c =
-    let t = bytes_eq c.in_ok-name-in-None.name in
-    let same = c.in_ok-name-in-None.ensures ∙ c.text.ensures ∙ ap (λ n. n.text) c.own_name-in-None.ensures ∙ sym (ap (λ n. n.text) c.own_name.ensures) ∙ sym c.as_str.ensures.text in
+    let t = bytes_eq c.in-Ok.name in
+    let same = c.in-Ok.ensures ∙ c.text.ensures ∙ ap (λ n. n.text) c.own_name-in-None.ensures ∙ sym (ap (λ n. n.text) c.own_name.ensures) ∙ sym c.as_str.ensures.text in
     none_of (position t (keys_of c.args.types.now)) (some_index t c.args.types.now ∙ ap (λ k. is_some (lookup (bytes_eq k) c.args.types.now)) same ∙ ap is_some (sym c.in-None.ensures))
