@@ -3,9 +3,9 @@ use Rattle.std.specs.Prelude.{ℕ, true, false, List, ◌++◌, map, codes}
 use Rattle.std.specs.List.{join_by}
 use Rattle.jb_print.specs.Quoted.{quoted}
 use Rattle.gql_ast_base.specs.Names.{Named}
-use Rattle.gql_ast_values.specs.declared.value.Value.{Value}
-use Rattle.gql_ast_values.specs.declared.value.ValueKind.{ValueKind, fold-ValueKind}
-use Rattle.gql_ast_values.specs.declared.value.ValueKind.TheOpen.{ValueKind-F, Value-F}
+use Rattle.gql_ast_base.specs.declared.value.Value.{Value}
+use Rattle.gql_ast_base.specs.declared.value.ValueKind.{ValueKind, fold-ValueKind}
+use Rattle.gql_ast_base.specs.declared.value.ValueKind.TheOpen.{ValueKind-F, Value-F}
 
 -- the texts with `, ` between them
 abbrev pub separated : List (List ℕ) → List ℕ

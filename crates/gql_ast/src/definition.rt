@@ -7,12 +7,12 @@ ghost use Rattle.gql_ast.specs.Documents as spec;
 
 use gql_ast_base::{Convert, Copying, Source, is_of, nth_text};
 use gql_ast_definitions::{
-    DirectiveDefinition, EnumTypeDefinition, EnumTypeExtension, InputObjectTypeDefinition,
-    InputObjectTypeExtension, InterfaceTypeDefinition, InterfaceTypeExtension,
-    ObjectTypeDefinition, ObjectTypeExtension, ScalarTypeDefinition, ScalarTypeExtension,
-    SchemaDefinition, SchemaExtension, UnionTypeDefinition, UnionTypeExtension,
+    DirectiveDefinition, EnumTypeDefinition, EnumTypeExtension, FragmentDefinition,
+    InputObjectTypeDefinition, InputObjectTypeExtension, InterfaceTypeDefinition,
+    InterfaceTypeExtension, ObjectTypeDefinition, ObjectTypeExtension, OperationDefinition,
+    ScalarTypeDefinition, ScalarTypeExtension, SchemaDefinition, SchemaExtension,
+    UnionTypeDefinition, UnionTypeExtension,
 };
-use gql_ast_operations::{FragmentDefinition, OperationDefinition};
 use gql_cst::{SyntaxKind, Tree};
 use jb_text::Memory;
 use std::alloc::Global;

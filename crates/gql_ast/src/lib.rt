@@ -18,18 +18,17 @@ mod value_text;
 
 pub use definition::Definition;
 pub use document::Document;
-pub use gql_ast_base::{Convert, Copying, Name, NameFault, OperationType, Source};
+pub use gql_ast_base::{
+    Argument, Boxed, Convert, Copying, Directive, Name, NameFault, OperationType, Source, TypeRef,
+    Value, ValueKind,
+};
 pub use gql_ast_definitions::{
     DirectiveDefinition, DirectiveLocation, EnumTypeDefinition, EnumTypeExtension,
-    EnumValueDefinition, FieldDefinition, InputObjectTypeDefinition, InputObjectTypeExtension,
-    InputValueDefinition, InterfaceTypeDefinition, InterfaceTypeExtension, ObjectTypeDefinition,
-    ObjectTypeExtension, ScalarTypeDefinition, ScalarTypeExtension, SchemaDefinition,
-    SchemaExtension, UnionTypeDefinition, UnionTypeExtension,
+    EnumValueDefinition, Field, FieldDefinition, FragmentDefinition, FragmentSpread,
+    InlineFragment, InputObjectTypeDefinition, InputObjectTypeExtension, InputValueDefinition,
+    InterfaceTypeDefinition, InterfaceTypeExtension, ObjectTypeDefinition, ObjectTypeExtension,
+    OperationDefinition, ScalarTypeDefinition, ScalarTypeExtension, SchemaDefinition,
+    SchemaExtension, Selection, UnionTypeDefinition, UnionTypeExtension, VariableDefinition,
 };
-pub use gql_ast_operations::{
-    Field, FragmentDefinition, FragmentSpread, InlineFragment, OperationDefinition, Selection,
-    VariableDefinition,
-};
-pub use gql_ast_values::{Argument, Boxed, Directive, TypeRef, Value, ValueKind};
 pub use type_text::print_type;
 pub use value_text::print_value;

@@ -3,7 +3,7 @@
 ghost use Rattle.std.specs.Prelude.{◌≡◌, ◌++◌, IfOk, OnOk, string_bytes};
 ghost use Rattle.gql_ast.specs.TypeText.{type_text};
 
-use gql_ast_values::TypeRef;
+use gql_ast_base::TypeRef;
 use jb_text::{Memory, Text};
 use std::alloc::Global;
 

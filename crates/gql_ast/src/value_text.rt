@@ -4,8 +4,7 @@ ghost use Rattle.std.specs.Prelude.{◌≡◌, ◌++◌, false, codes, map, IfOk
 ghost use Rattle.gql_ast.specs.ValueText as spec;
 ghost use Rattle.gql_ast.specs.Pieces.{pieces_text, comma_after};
 
-use gql_ast_base::Name;
-use gql_ast_values::{Value, ValueKind};
+use gql_ast_base::{Name, Value, ValueKind};
 use jb_print::append_string;
 use jb_text::{Listed, Memory, Text};
 use std::alloc::Global;

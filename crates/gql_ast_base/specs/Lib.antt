@@ -7,3 +7,8 @@ pub mod Parts
 pub mod Literals
 pub mod NamedTypes
 pub mod OperationTypes
+pub mod Values
+pub mod Types
+pub mod TypeParts
+pub mod Directives
+pub mod formers

@@ -1,4 +1,5 @@
-//! The trait [`Convert`], and what the syntax trees of GraphQL documents begin with: names, texts and operation types.
+//! The trait [`Convert`], and what the syntax trees of GraphQL documents begin with: names, texts, operation types, values,
+//! references to types, arguments and directives, each with its conversion.
 //!
 //! What a concrete tree stands for is a definition, kind by kind of its nodes, and a conversion gives exactly that. A
 //! [`Source`] is what trees are read by: their text, the number of its file, and where memory comes from.
@@ -6,11 +7,17 @@
 //! like find one by its place among the names. [`location`] runs from the first to the last token that is not ignored.
 //! [`both`] and its like bring together the parts of a tree. [`Copying`] gives an equal tree, locations included. The kinds of nodes
 //! and the concrete trees themselves are passed on.
+//!
+//! Each tree is plain data with public fields. A tree has a `location` where it was read from a text, and none where
+//! it was made.
 #![tactic(auto)]
 
+mod boxed;
 mod convert;
 mod copying;
+mod directive;
 mod literal;
+mod literal_value;
 mod name;
 mod named_type;
 mod node;
@@ -18,9 +25,14 @@ mod operation_type;
 mod source;
 mod together;
 mod token;
+mod type_parts;
+mod type_ref;
+mod value;
 
+pub use boxed::Boxed;
 pub use convert::{Convert, first, gather, push_found};
 pub use copying::Copying;
+pub use directive::{Argument, Directive, arguments, directives};
 pub use gql_cst::{SyntaxKind, Tree};
 pub use literal::{description, has_part, opens_number, opens_string, string_text};
 pub use name::{Name, NameFault};
@@ -30,3 +42,5 @@ pub use operation_type::{OperationType, operation_type_in};
 pub use source::Source;
 pub use together::{all_four, all_three, both};
 pub use token::{after_word, is_word, nth_name, nth_text, token_text, word};
+pub use type_ref::TypeRef;
+pub use value::{Value, ValueKind, default_value};

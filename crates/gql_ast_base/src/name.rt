@@ -28,10 +28,18 @@ pub enum NameFault {
 /// A name (GraphQL October 2021, section 2.1.9), and the place that it was read from.
 ///
 /// A contract sees a record with `text` and `location`.
-#[derive(Drop)]
 pub struct Name {
     text: ByteString,
     location: Option<SourceSpan>,
+}
+
+impl Drop for Name {
+    fn drop(self) {
+        let Name {
+            text: _,
+            location: _,
+        } = self;
+    }
 }
 
 impl Model for Name {

@@ -29,10 +29,10 @@ use Rattle.gql_ast_definitions.specs.Extensions.{union_extension_of, enum_extens
 use Rattle.gql_ast_definitions.specs.Fields.{input_value_of, input_fields}
 use Rattle.gql_ast_definitions.specs.Schemas.{directive_definition_of, schema_of}
 use Rattle.gql_ast_laws.specs.Meant.{IsDocumentOf}
-use Rattle.gql_ast_operations.specs.declared.operation.OperationDefinition.{OperationDefinition}
-use Rattle.gql_ast_operations.specs.declared.operation.VariableDefinition.{VariableDefinition}
-use Rattle.gql_ast_operations.specs.Operations.{variable_of, variables, operation_of, fragment_of}
-use Rattle.gql_ast_values.specs.Types.{type_of}
+use Rattle.gql_ast_definitions.specs.declared.operation.OperationDefinition.{OperationDefinition}
+use Rattle.gql_ast_definitions.specs.declared.operation.VariableDefinition.{VariableDefinition}
+use Rattle.gql_ast_definitions.specs.Operations.{variable_of, variables, operation_of, fragment_of}
+use Rattle.gql_ast_base.specs.Types.{type_of}
 use Rattle.gql_ast_default_laws.specs.Defaults.{IsIn, IsConstantVariable, IsConstantField, HasConstantDefaults}
 use Rattle.gql_ast_default_laws.proofs.Kept.{IfAny, IsKnown, all-of, head-any, or-any, map-any, map-always, then-always, gather-each, kind-any, kind-also-any, inside-allowed}
 use Rattle.gql_ast_default_laws.proofs.Values.{default-constant}

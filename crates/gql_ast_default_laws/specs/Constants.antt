@@ -2,9 +2,9 @@
 use Rattle.std.specs.Prelude.{Bool, true, false, ◌&&◌, List, [], ◌∷◌, Option}
 use Rattle.std.specs.Option.{option_map_or}
 use Rattle.gql_ast_base.specs.Names.{Named}
-use Rattle.gql_ast_values.specs.declared.value.Value.{Value}
-use Rattle.gql_ast_values.specs.declared.value.ValueKind.{ValueKind, fold-ValueKind}
-use Rattle.gql_ast_values.specs.declared.value.ValueKind.TheOpen.{ValueKind-F, Value-F}
+use Rattle.gql_ast_base.specs.declared.value.Value.{Value}
+use Rattle.gql_ast_base.specs.declared.value.ValueKind.{ValueKind, fold-ValueKind}
+use Rattle.gql_ast_base.specs.declared.value.ValueKind.TheOpen.{ValueKind-F, Value-F}
 
 abbrev pub all_true : List Bool → Bool
 all_true [] = true

@@ -7,7 +7,7 @@ use Rattle.gql_ast.specs.declared.definition.Definition.{Definition}
 use Rattle.gql_ast.specs.declared.definition.Definition.TheVariants.{OperationDefinition, InputObjectTypeDefinition, InputObjectTypeExtension}
 use Rattle.gql_ast_default_laws.specs.Constants.{is_constant_default}
 use Rattle.gql_ast_definitions.specs.declared.field_definition.InputValueDefinition.{InputValueDefinition}
-use Rattle.gql_ast_operations.specs.declared.operation.VariableDefinition.{VariableDefinition}
+use Rattle.gql_ast_definitions.specs.declared.operation.VariableDefinition.{VariableDefinition}
 
 -- a place, if there is one, that is in the file
 abbrev pub IsIn : FileId → Option Span → Type 0

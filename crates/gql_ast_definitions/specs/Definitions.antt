@@ -13,7 +13,7 @@ use Rattle.gql_ast_definitions.specs.declared.type_definition.UnionTypeDefinitio
 use Rattle.gql_ast_definitions.specs.declared.type_definition.EnumTypeDefinition.{EnumTypeDefinition}
 use Rattle.gql_ast_definitions.specs.declared.type_definition.InputObjectTypeDefinition.{InputObjectTypeDefinition}
 use Rattle.gql_ast_base.specs.Kinds.{is_kind}
-use Rattle.gql_ast_values.specs.Directives.{directives}
+use Rattle.gql_ast_base.specs.Directives.{directives}
 use Rattle.gql_ast_definitions.specs.Fields.{fields, input_fields, enum_values}
 use Rattle.gql_ast_base.specs.Literals.{description}
 use Rattle.gql_ast_base.specs.Parts.{Text, gather, inside, nth_name, location}

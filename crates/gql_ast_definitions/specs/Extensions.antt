@@ -14,7 +14,7 @@ use Rattle.gql_ast_definitions.specs.declared.extension.EnumTypeExtension.{EnumT
 use Rattle.gql_ast_definitions.specs.declared.extension.InputObjectTypeExtension.{InputObjectTypeExtension}
 use Rattle.gql_ast_base.specs.Kinds.{is_kind}
 use Rattle.gql_ast_definitions.specs.Definitions.{interfaces, members}
-use Rattle.gql_ast_values.specs.Directives.{directives}
+use Rattle.gql_ast_base.specs.Directives.{directives}
 use Rattle.gql_ast_definitions.specs.Fields.{fields, input_fields, enum_values}
 use Rattle.gql_ast_base.specs.Parts.{Text, nth_name, nth_text, is_word, location}
 use Rattle.gql_ast_definitions.specs.Schemas.{root_operations}

@@ -9,11 +9,11 @@ use Rattle.gql_ast_definitions.specs.declared.field_definition.FieldDefinition.{
 use Rattle.gql_ast_definitions.specs.declared.field_definition.InputValueDefinition.{InputValueDefinition}
 use Rattle.gql_ast_definitions.specs.declared.field_definition.EnumValueDefinition.{EnumValueDefinition}
 use Rattle.gql_ast_base.specs.Kinds.{is_kind}
-use Rattle.gql_ast_values.specs.Directives.{directives}
+use Rattle.gql_ast_base.specs.Directives.{directives}
 use Rattle.gql_ast_base.specs.Literals.{description}
-use Rattle.gql_ast_values.specs.Values.{default_value}
+use Rattle.gql_ast_base.specs.Values.{default_value}
 use Rattle.gql_ast_base.specs.Parts.{Text, gather, first, inside, nth_name, location}
-use Rattle.gql_ast_values.specs.Types.{type_of}
+use Rattle.gql_ast_base.specs.Types.{type_of}
 
 module _ (text : Text) (file : FileId) where
   -- a name and a type, and a description, a default value and directives or none

@@ -1,3 +1,5 @@
+pub mod Selections
+pub mod Operations
 pub mod Fields
 pub mod Definitions
 pub mod Schemas

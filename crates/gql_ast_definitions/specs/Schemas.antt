@@ -12,7 +12,7 @@ use Rattle.gql_ast_definitions.specs.declared.schema_definition.DirectiveDefinit
 use Rattle.gql_ast_definitions.specs.declared.schema_definition.DirectiveLocation.{DirectiveLocation}
 use Rattle.gql_ast_definitions.specs.declared.schema_definition.DirectiveLocation.TheVariants as at
 use Rattle.gql_ast_base.specs.Kinds.{is_kind}
-use Rattle.gql_ast_values.specs.Directives.{directives}
+use Rattle.gql_ast_base.specs.Directives.{directives}
 use Rattle.gql_ast_definitions.specs.Fields.{argument_definitions}
 use Rattle.gql_ast_base.specs.Literals.{description}
 use Rattle.gql_ast_base.specs.OperationTypes.{root_operation_of}

@@ -10,10 +10,9 @@ use crate::field_definition::{
 use crate::schema_definition::root_operations;
 use crate::type_definition::{interfaces, members};
 use gql_ast_base::{
-    Convert, Name, OperationType, Source, SyntaxKind, Tree, all_three, both, is_of, is_word,
-    location, nth_name,
+    Convert, Directive, Name, OperationType, Source, SyntaxKind, Tree, all_three, both, directives,
+    is_of, is_word, location, nth_name,
 };
-use gql_ast_values::{Directive, directives};
 use gql_source::SourceSpan;
 use jb_text::{Listed, Memory};
 

@@ -5,10 +5,9 @@ ghost use Rattle.gql_ast_base.specs.Forest.{forest};
 ghost use Rattle.gql_ast_definitions.specs.Fields as spec;
 
 use gql_ast_base::{
-    Convert, Copying, Name, Source, SyntaxKind, Tree, all_three, both, description, first, gather,
-    inside, is_of, location, nth_name,
+    Convert, Copying, Directive, Name, Source, SyntaxKind, Tree, TypeRef, Value, all_three, both,
+    default_value, description, directives, first, gather, inside, is_of, location, nth_name,
 };
-use gql_ast_values::{Directive, TypeRef, Value, default_value, directives};
 use gql_source::SourceSpan;
 use jb_text::{Listed, Memory, Text};
 use std::alloc::Global;

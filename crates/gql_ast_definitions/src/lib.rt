@@ -1,9 +1,12 @@
-//! Definitions of the type system and their extensions as syntax trees, each with its conversion.
+//! Definitions as syntax trees, each with its conversion: operations and fragments with their selections, and those of the type
+//! system with their extensions.
 #![tactic(auto)]
 
 mod extension;
 mod field_definition;
+mod operation;
 mod schema_definition;
+mod selection;
 mod type_definition;
 
 pub use extension::{
@@ -11,7 +14,9 @@ pub use extension::{
     ScalarTypeExtension, SchemaExtension, UnionTypeExtension,
 };
 pub use field_definition::{EnumValueDefinition, FieldDefinition, InputValueDefinition};
+pub use operation::{FragmentDefinition, OperationDefinition, VariableDefinition};
 pub use schema_definition::{DirectiveDefinition, DirectiveLocation, SchemaDefinition};
+pub use selection::{Field, FragmentSpread, InlineFragment, Selection};
 pub use type_definition::{
     EnumTypeDefinition, InputObjectTypeDefinition, InterfaceTypeDefinition, ObjectTypeDefinition,
     ScalarTypeDefinition, UnionTypeDefinition,

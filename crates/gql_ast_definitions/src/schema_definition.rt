@@ -6,10 +6,9 @@ ghost use Rattle.gql_ast_definitions.specs.Schemas as spec;
 
 use crate::field_definition::{InputValueDefinition, argument_definitions};
 use gql_ast_base::{
-    Convert, Copying, Name, OperationType, Source, SyntaxKind, Tree, after_word, all_four,
-    all_three, description, gather, is_of, is_word, location, nth_name, word,
+    Convert, Copying, Directive, Name, OperationType, Source, SyntaxKind, Tree, after_word,
+    all_four, all_three, description, directives, gather, is_of, is_word, location, nth_name, word,
 };
-use gql_ast_values::{Directive, directives};
 use gql_source::SourceSpan;
 use jb_text::{Listed, Memory, Text};
 use std::alloc::Global;

@@ -8,10 +8,9 @@ use crate::field_definition::{
     EnumValueDefinition, FieldDefinition, InputValueDefinition, enum_values, fields, input_fields,
 };
 use gql_ast_base::{
-    Convert, Name, Source, SyntaxKind, Tree, all_four, all_three, both, description, inside, is_of,
-    location, named_types, nth_name,
+    Convert, Directive, Name, Source, SyntaxKind, Tree, all_four, all_three, both, description,
+    directives, inside, is_of, location, named_types, nth_name,
 };
-use gql_ast_values::{Directive, directives};
 use gql_source::SourceSpan;
 use jb_text::{Listed, Memory, Text};
 

@@ -4,7 +4,7 @@ use Rattle.gql_source.specs.declared.file_id.FileId.{FileId}
 use Rattle.gql_cst_grammar.specs.declared.syntax_kind.SyntaxKind.TheVariants as kind
 use Rattle.gql_cst.specs.Forest.{Forest}
 use Rattle.gql_cst_laws.specs.Bare.{bare, TokensEnd}
-use Rattle.gql_ast_values.specs.Directives.{argument_of, arguments, directive_of, directives}
+use Rattle.gql_ast_base.specs.Directives.{argument_of, arguments, directive_of, directives}
 use Rattle.gql_ast_base.specs.Literals.{string_of, description}
 use Rattle.gql_ast_base.specs.Parts.{Text, first}
 use Rattle.gql_ast_laws.proofs.Blind.{Blind, none_at, choice_at, then_at}

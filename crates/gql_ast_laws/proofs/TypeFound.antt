@@ -18,7 +18,7 @@ use Rattle.gql_cst.specs.Words.{word_of}
 use Rattle.std.specs.Prelude.{slice_range}
 use Rattle.gql_ast_base.specs.Kinds.{is_kind}
 use Rattle.gql_ast_base.specs.Parts.{Text, head}
-use Rattle.gql_ast_values.specs.Types.{form_step, type_step, types, forms, type_of}
+use Rattle.gql_ast_base.specs.Types.{form_step, type_step, types, forms, type_of}
 use Rattle.gql_ast_laws.proofs.TokenKinds.{kind_is}
 use Rattle.gql_ast_laws.proofs.Blind.{tree as plain_tree}
 use Rattle.gql_ast_laws.proofs.Inner.{both_ways}

@@ -6,10 +6,10 @@ use Rattle.gql_cst_grammar.specs.declared.syntax_kind.SyntaxKind.{SyntaxKind}
 use Rattle.gql_cst_grammar.specs.declared.syntax_kind.SyntaxKind.TheVariants as kind
 use Rattle.gql_cst.specs.Forest.{Forest, nothing, tree_then}
 use Rattle.gql_cst_laws.specs.Bare.{bare, TokensEnd}
-use Rattle.gql_ast_values.specs.declared.type_ref.TypeRef.{List as ListOf}
-use Rattle.gql_ast_values.specs.declared.type_ref.TypeRef.TheVariants.{Named as NamedType}
+use Rattle.gql_ast_base.specs.declared.type_ref.TypeRef.{List as ListOf}
+use Rattle.gql_ast_base.specs.declared.type_ref.TypeRef.TheVariants.{Named as NamedType}
 use Rattle.gql_ast_base.specs.Parts.{Text, head, gather, nth_name}
-use Rattle.gql_ast_values.specs.Types.{non_null, form_step, type_step, types, forms, type_of, form_of}
+use Rattle.gql_ast_base.specs.Types.{non_null, form_step, type_step, types, forms, type_of, form_of}
 use Rattle.gql_ast_base.specs.NamedTypes.{named_type_in, named_type_of}
 use Rattle.gql_ast_laws.proofs.Blind.{EndsAt, BlindAt, Blind, none_at, choice_at}
 use Rattle.gql_ast_laws.proofs.Gathered.{gather_then}

@@ -6,11 +6,11 @@ use Rattle.gql_cst_grammar.specs.declared.syntax_kind.SyntaxKind.TheVariants as 
 use Rattle.gql_cst.specs.Forest.{Forest}
 use Rattle.gql_cst_laws.specs.TreeOf.{IsTreeOf}
 use Rattle.gql_ast.specs.declared.definition.Definition.{Definition}
-use Rattle.gql_ast_operations.specs.declared.selection.Selection.{Selection}
-use Rattle.gql_ast_values.specs.declared.type_ref.TypeRef.{TypeRef}
+use Rattle.gql_ast_definitions.specs.declared.selection.Selection.{Selection}
+use Rattle.gql_ast_base.specs.declared.type_ref.TypeRef.{TypeRef}
 use Rattle.gql_ast.specs.Documents.{definitions}
-use Rattle.gql_ast_operations.specs.Selections.{selections, selected}
-use Rattle.gql_ast_values.specs.Types.{type_of}
+use Rattle.gql_ast_definitions.specs.Selections.{selections, selected}
+use Rattle.gql_ast_base.specs.Types.{type_of}
 
 -- the text is a document with these definitions
 pub record IsDocumentOf (text : List ℕ) (file : FileId) (meant : List Definition) : Type 0 where

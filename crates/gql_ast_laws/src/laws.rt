@@ -10,11 +10,11 @@ ghost use Rattle.gql_cst.specs.Forest.{Forest, Plain, plain};
 ghost use Rattle.gql_cst.specs.Parses.{IsParse};
 ghost use Rattle.gql_cst_laws.specs.TreeOf.{IsTreeOf};
 ghost use Rattle.gql_ast.specs.declared.definition.Definition.{Definition};
-ghost use Rattle.gql_ast_operations.specs.declared.selection.Selection.{Selection};
-ghost use Rattle.gql_ast_values.specs.declared.type_ref.TypeRef.{TypeRef};
+ghost use Rattle.gql_ast_definitions.specs.declared.selection.Selection.{Selection};
+ghost use Rattle.gql_ast_base.specs.declared.type_ref.TypeRef.{TypeRef};
 ghost use Rattle.gql_ast.specs.Documents.{definitions, definition_of};
-ghost use Rattle.gql_ast_operations.specs.Selections.{selections, selected};
-ghost use Rattle.gql_ast_values.specs.Types.{type_of};
+ghost use Rattle.gql_ast_definitions.specs.Selections.{selections, selected};
+ghost use Rattle.gql_ast_base.specs.Types.{type_of};
 ghost use Rattle.gql_ast_laws.specs.Complete.{EachNode};
 ghost use Rattle.gql_ast_laws.specs.Meant.{IsDocumentOf, AreSelectionsOf, IsTypeOf};
 

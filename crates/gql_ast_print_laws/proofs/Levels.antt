@@ -24,9 +24,9 @@ use Rattle.gql_ast_base.specs.Kinds.{is_kind}
 use Rattle.gql_ast_base.specs.Names.{Named, is_name}
 use Rattle.gql_ast_base.specs.Parts.{Text, head, piece, token_text, word as name_text, name_of, nth_name, location}
 use Rattle.gql_ast_laws.proofs.Spelled.{word_of_name-names}
-use Rattle.gql_ast_values.specs.declared.type_ref.TypeRef.{TypeRef, List as ListOf, NonNullList, the_lemmas}
-use Rattle.gql_ast_values.specs.declared.type_ref.TypeRef.TheVariants.{Named as NamedType, NonNullNamed}
-use Rattle.gql_ast_values.specs.Types.{non_null, form_step, type_step, forms}
+use Rattle.gql_ast_base.specs.declared.type_ref.TypeRef.{TypeRef, List as ListOf, NonNullList, the_lemmas}
+use Rattle.gql_ast_base.specs.declared.type_ref.TypeRef.TheVariants.{Named as NamedType, NonNullNamed}
+use Rattle.gql_ast_base.specs.Types.{non_null, form_step, type_step, forms}
 use Rattle.gql_ast_print_laws.specs.Printed.{from_nowhere, unplaced}
 use Rattle.gql_ast_print_laws.proofs.Rest.{Rest, Follows, cut, boundary, name_begins, name_leaf, word_at}
 

@@ -7,10 +7,10 @@ use Rattle.gql_cst_grammar.specs.Word.{is_same}
 use Rattle.gql_cst.specs.Words.{word_of}
 use Rattle.gql_ast_base.specs.Names.{Named, is_name}
 use Rattle.gql_ast_base.specs.Parts.{Text}
-use Rattle.gql_ast_values.specs.declared.type_ref.TypeRef.{TypeRef, roll-TypeRef, List as ListOf, NonNullList, the_lemmas}
-use Rattle.gql_ast_values.specs.declared.type_ref.TypeRef.TheFolds.{ind-TypeRef, map-TypeRef}
-use Rattle.gql_ast_values.specs.declared.type_ref.TypeRef.TheOpen.{TypeRef-F}
-use Rattle.gql_ast_values.specs.declared.type_ref.TypeRef.TheVariants.{Named as NamedType, NonNullNamed}
+use Rattle.gql_ast_base.specs.declared.type_ref.TypeRef.{TypeRef, roll-TypeRef, List as ListOf, NonNullList, the_lemmas}
+use Rattle.gql_ast_base.specs.declared.type_ref.TypeRef.TheFolds.{ind-TypeRef, map-TypeRef}
+use Rattle.gql_ast_base.specs.declared.type_ref.TypeRef.TheOpen.{TypeRef-F}
+use Rattle.gql_ast_base.specs.declared.type_ref.TypeRef.TheVariants.{Named as NamedType, NonNullNamed}
 use Rattle.gql_ast.specs.TypeText.{type_text}
 use Rattle.gql_ast_print_laws.specs.Printed.{has_names}
 use Rattle.gql_ast_print_laws.proofs.Rest.{Rest, Follows, after, cut, name_low, mark_leaf}

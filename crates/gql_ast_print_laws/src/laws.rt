@@ -2,7 +2,7 @@
 
 ghost use Rattle.std.specs.Prelude.{◌≡◌, true};
 ghost use Rattle.gql_source.specs.declared.file_id.FileId.{FileId};
-ghost use Rattle.gql_ast_values.specs.declared.type_ref.TypeRef.{TypeRef};
+ghost use Rattle.gql_ast_base.specs.declared.type_ref.TypeRef.{TypeRef};
 ghost use Rattle.gql_ast_laws.specs.Meant.{IsTypeOf};
 ghost use Rattle.gql_ast.specs.TypeText.{type_text};
 ghost use Rattle.gql_ast_print_laws.specs.Printed.{has_names, unplaced, RefersTo};

@@ -6,7 +6,7 @@ use denote.Param.Weighed.{most}
 use Rattle.jb_tree.specs.declared.value.Value.{Value, Null, Bool as Truth, Number, String, Array, Object, roll-Value, out-Value, size-Value, the_lemmas}
 use Rattle.jb_tree.specs.declared.value.Value.TheOpen.{Value-F}
 use Rattle.gql_ast_base.specs.Names.{Named}
-use Rattle.gql_ast_values.specs.declared.type_ref.TypeRef.{TypeRef}
+use Rattle.gql_ast_base.specs.declared.type_ref.TypeRef.{TypeRef}
 use Rattle.gql_ast_definitions.specs.declared.field_definition.InputValueDefinition.{InputValueDefinition}
 use Rattle.gql_schema_types.specs.declared.types.ExtendedType.{ExtendedType}
 use Rattle.gql_schema_types.specs.declared.types.InputObjectType.{InputObjectType}
@@ -14,7 +14,7 @@ use Rattle.gql_coerce.specs.Outcome.{mapped, all_of}
 use Rattle.gql_coerce.specs.Faults.{fault}
 use Rattle.gql_coerce.specs.Messages.{missing_field, null_value}
 use Rattle.gql_coerce.specs.Subject.{field_words}
-use Rattle.gql_ast_values.specs.TypeParts.{named_type, is_non_null, item_type}
+use Rattle.gql_ast_base.specs.TypeParts.{named_type, is_non_null, item_type}
 use Rattle.gql_coerce.specs.Wrapped.{wrap}
 use Rattle.gql_coerce.specs.Filled.{Members, not_given, filled}
 use Rattle.gql_coerce.specs.InputTypes.{input_object_called, field_name}

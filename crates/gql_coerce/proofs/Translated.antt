@@ -5,8 +5,8 @@ use Rattle.indexmap.specs.IndexMap.{insert_all}
 use Rattle.jb_tree.specs.declared.value.Value.{Value as JsonValue, Array, Object}
 use Rattle.gql_source.specs.Span.{Span}
 use Rattle.gql_ast_base.specs.Names.{Named}
-use Rattle.gql_ast_values.specs.declared.value.Value.{Value}
-use Rattle.gql_ast_values.specs.declared.value.ValueKind.{ValueKind, List as ListKind, Object as ObjectKind, the_lemmas}
+use Rattle.gql_ast_base.specs.declared.value.Value.{Value}
+use Rattle.gql_ast_base.specs.declared.value.ValueKind.{ValueKind, List as ListKind, Object as ObjectKind, the_lemmas}
 use Rattle.gql_coerce.specs.Outcome.{Outcome, mapped, all_of}
 use Rattle.gql_coerce.specs.Translation.{translated, translated_kind, translated_member, member_of}
 

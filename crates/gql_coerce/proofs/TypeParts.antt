@@ -1,8 +1,8 @@
 -- The items of a list have the name of the list.
 use Rattle.std.proofs.Common.{◌≡◌, Option, Some, None, sym, ap, ◌∙◌, rules}
-use Rattle.gql_ast_values.specs.declared.type_ref.TypeRef.{TypeRef, roll-TypeRef, out-TypeRef, the_lemmas}
-use Rattle.gql_ast_values.specs.declared.type_ref.TypeRef.TheOpen.{TypeRef-F}
-use Rattle.gql_ast_values.specs.TypeParts.{named_type, item_type, item_level}
+use Rattle.gql_ast_base.specs.declared.type_ref.TypeRef.{TypeRef, roll-TypeRef, out-TypeRef, the_lemmas}
+use Rattle.gql_ast_base.specs.declared.type_ref.TypeRef.TheOpen.{TypeRef-F}
+use Rattle.gql_ast_base.specs.TypeParts.{named_type, item_type, item_level}
 
 innermost-level : (x : TypeRef-F TypeRef) (item : TypeRef) → item_level x ≡ Some item → named_type (roll-TypeRef x) ≡ named_type item
 innermost-level (TypeRef-F.Named name) item is = absurd cc

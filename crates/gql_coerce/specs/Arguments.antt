@@ -4,17 +4,17 @@ use Rattle.std.specs.Str.{bytes_eq}
 use Rattle.std.specs.Map.{lookup}
 use Rattle.jb_tree.specs.declared.value.Value.{Value as JsonValue, Null}
 use Rattle.jb_tree.specs.Value.{is_null}
-use Rattle.gql_ast_values.specs.declared.directive.Argument.{Argument}
-use Rattle.gql_ast_values.specs.declared.value.Value.{Value}
-use Rattle.gql_ast_values.specs.declared.value.ValueKind.{ValueKind, out-ValueKind}
-use Rattle.gql_ast_values.specs.declared.value.ValueKind.TheOpen.{ValueKind-F}
+use Rattle.gql_ast_base.specs.declared.directive.Argument.{Argument}
+use Rattle.gql_ast_base.specs.declared.value.Value.{Value}
+use Rattle.gql_ast_base.specs.declared.value.ValueKind.{ValueKind, out-ValueKind}
+use Rattle.gql_ast_base.specs.declared.value.ValueKind.TheOpen.{ValueKind-F}
 use Rattle.gql_ast_definitions.specs.declared.field_definition.InputValueDefinition.{InputValueDefinition}
 use Rattle.gql_schema_types.specs.declared.types.ExtendedType.{ExtendedType}
 use Rattle.gql_coerce.specs.Outcome.{Outcome, mapped}
 use Rattle.gql_coerce.specs.Faults.{fault_at}
 use Rattle.gql_coerce.specs.Subject.{argument_words}
 use Rattle.gql_coerce.specs.Messages.{null_argument, missing_argument}
-use Rattle.gql_ast_values.specs.TypeParts.{is_non_null}
+use Rattle.gql_ast_base.specs.TypeParts.{is_non_null}
 use Rattle.gql_coerce.specs.Filled.{Members, filled, not_given}
 use Rattle.gql_coerce.specs.InputTypes.{field_name}
 use Rattle.gql_coerce.specs.LiteralValue.{coerced_literal}

@@ -3,7 +3,7 @@ use Rattle.std.specs.Prelude.{◌≡◌, ℕ, List}
 use Rattle.std.specs.Option.{option_copied}
 use Rattle.std.specs.Str.{bytes_eq}
 use Rattle.std.specs.Map.{lookup}
-use Rattle.gql_ast_values.specs.declared.directive.Argument.{Argument}
+use Rattle.gql_ast_base.specs.declared.directive.Argument.{Argument}
 use Rattle.gql_coerce.specs.declared.literal_members.LiteralMembers.{LiteralMembers}
 use Rattle.gql_coerce.specs.declared.literal_members.LiteralMembers.TheVariants as members
 use Rattle.gql_coerce.specs.declared.given_arguments.GivenArguments.{GivenArguments}

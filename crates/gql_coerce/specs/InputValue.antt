@@ -7,7 +7,7 @@ use Rattle.jb_tree.specs.declared.value.Value.{Value, Null, Array, Object, out-V
 use Rattle.jb_tree.specs.declared.value.Value.TheOpen.{Value-F}
 use Rattle.jb_print.specs.Compact.{compact}
 use Rattle.gql_ast_base.specs.Names.{Named}
-use Rattle.gql_ast_values.specs.declared.type_ref.TypeRef.{TypeRef}
+use Rattle.gql_ast_base.specs.declared.type_ref.TypeRef.{TypeRef}
 use Rattle.gql_ast_definitions.specs.declared.field_definition.InputValueDefinition.{InputValueDefinition}
 use Rattle.gql_schema_types.specs.Types.{type_called}
 use Rattle.gql_schema_types.specs.declared.types.ExtendedType.{ExtendedType}
@@ -17,7 +17,7 @@ use Rattle.gql_coerce.specs.Outcome.{Outcome, mapped, all_of}
 use Rattle.gql_coerce.specs.Faults.{fault, bug_at}
 use Rattle.gql_coerce.specs.Subject.{field_words}
 use Rattle.gql_coerce.specs.Messages.{null_value, could_not_coerce, undefined_type, non_input_type, unknown_key, missing_field}
-use Rattle.gql_ast_values.specs.TypeParts.{named_type, is_non_null, item_type}
+use Rattle.gql_ast_base.specs.TypeParts.{named_type, is_non_null, item_type}
 use Rattle.gql_coerce.specs.Wrapped.{wrap}
 use Rattle.gql_coerce.specs.Scalars.{scalar_takes, enum_takes}
 use Rattle.gql_coerce.specs.InputTypes.{input_object_called, field_name, is_field}

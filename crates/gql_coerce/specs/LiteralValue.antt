@@ -9,10 +9,10 @@ use Rattle.jb_tree.specs.declared.value.Value.{Value as JsonValue, Null, Array, 
 use Rattle.jb_tree.specs.Value.{is_null}
 use Rattle.gql_source.specs.Span.{Span}
 use Rattle.gql_ast_base.specs.Names.{Named}
-use Rattle.gql_ast_values.specs.declared.value.Value.{Value}
-use Rattle.gql_ast_values.specs.declared.value.ValueKind.{ValueKind, out-ValueKind, fold-ValueKind}
-use Rattle.gql_ast_values.specs.declared.value.ValueKind.TheOpen.{ValueKind-F, Value-F}
-use Rattle.gql_ast_values.specs.declared.type_ref.TypeRef.{TypeRef}
+use Rattle.gql_ast_base.specs.declared.value.Value.{Value}
+use Rattle.gql_ast_base.specs.declared.value.ValueKind.{ValueKind, out-ValueKind, fold-ValueKind}
+use Rattle.gql_ast_base.specs.declared.value.ValueKind.TheOpen.{ValueKind-F, Value-F}
+use Rattle.gql_ast_base.specs.declared.type_ref.TypeRef.{TypeRef}
 use Rattle.gql_ast.specs.ValueText.{value_text}
 use Rattle.gql_ast_definitions.specs.declared.field_definition.InputValueDefinition.{InputValueDefinition}
 use Rattle.gql_schema_types.specs.Types.{type_called}
@@ -22,7 +22,7 @@ use Rattle.gql_coerce.specs.Outcome.{Outcome, mapped, all_of}
 use Rattle.gql_coerce.specs.Faults.{fault_at, bug_at}
 use Rattle.gql_coerce.specs.Subject.{field_words}
 use Rattle.gql_coerce.specs.Messages.{null_literal, null_variable, absent_variable, could_not_coerce, undefined_type, unknown_literal_key, missing_field}
-use Rattle.gql_ast_values.specs.TypeParts.{named_type, is_non_null, item_type}
+use Rattle.gql_ast_base.specs.TypeParts.{named_type, is_non_null, item_type}
 use Rattle.gql_coerce.specs.Wrapped.{wrap}
 use Rattle.gql_coerce.specs.Filled.{Members, filled, not_given}
 use Rattle.gql_coerce.specs.InputTypes.{as_input_object, input_object_called, field_name}

@@ -1,6 +1,6 @@
 -- The messages of coercion, where d says what a value is coerced for.
 use Rattle.std.specs.Prelude.{ℕ, List, ◌++◌, codes}
-use Rattle.gql_ast_values.specs.declared.type_ref.TypeRef.{TypeRef}
+use Rattle.gql_ast_base.specs.declared.type_ref.TypeRef.{TypeRef}
 use Rattle.gql_ast.specs.TypeText.{type_text}
 
 abbrev pub null_value : List ℕ → TypeRef → List ℕ

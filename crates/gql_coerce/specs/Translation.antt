@@ -9,9 +9,9 @@ use Rattle.indexmap.specs.IndexMap.{insert_all}
 use Rattle.jb_tree.specs.declared.value.Value.{Value as JsonValue, Null, Bool as Truth, Number, String, Array, Object}
 use Rattle.gql_source.specs.Span.{Span}
 use Rattle.gql_ast_base.specs.Names.{Named}
-use Rattle.gql_ast_values.specs.declared.value.Value.{Value}
-use Rattle.gql_ast_values.specs.declared.value.ValueKind.{ValueKind, fold-ValueKind}
-use Rattle.gql_ast_values.specs.declared.value.ValueKind.TheOpen.{ValueKind-F, Value-F}
+use Rattle.gql_ast_base.specs.declared.value.Value.{Value}
+use Rattle.gql_ast_base.specs.declared.value.ValueKind.{ValueKind, fold-ValueKind}
+use Rattle.gql_ast_base.specs.declared.value.ValueKind.TheOpen.{ValueKind-F, Value-F}
 use Rattle.gql_coerce.specs.Outcome.{Outcome, mapped, all_of}
 use Rattle.gql_coerce.specs.Faults.{fault_at, bug_at}
 use Rattle.gql_coerce.specs.Messages.{int_overflow, float_overflow, variable_in_default}

@@ -1,8 +1,8 @@
 -- Values in lists of their own: section 3.11 of GraphQL October 2021.
 use Rattle.std.specs.Prelude.{[], ◌∷◌}
 use Rattle.jb_tree.specs.declared.value.Value.{Value, Array}
-use Rattle.gql_ast_values.specs.declared.type_ref.TypeRef.{TypeRef, fold-TypeRef}
-use Rattle.gql_ast_values.specs.declared.type_ref.TypeRef.TheOpen.{TypeRef-F}
+use Rattle.gql_ast_base.specs.declared.type_ref.TypeRef.{TypeRef, fold-TypeRef}
+use Rattle.gql_ast_base.specs.declared.type_ref.TypeRef.TheOpen.{TypeRef-F}
 
 abbrev pub wrap_step : TypeRef-F (Value → Value) → Value → Value
 wrap_step (TypeRef-F.Named name) value = value

@@ -4,12 +4,12 @@ ghost use Rattle.std.specs.Prelude.{◌≡◌, ℕ, List, IfOk};
 ghost use Rattle.std.specs.Option.{option_copied};
 ghost use Rattle.std.specs.Str.{bytes_eq};
 ghost use Rattle.std.specs.Map.{lookup};
-ghost use Rattle.gql_ast_values.specs.declared.directive.Argument.{Argument as Given};
+ghost use Rattle.gql_ast_base.specs.declared.directive.Argument.{Argument as Given};
 ghost use Rattle.gql_coerce.specs.ByName.{FindsFirst};
 ghost use Rattle.gql_coerce.specs.Arguments.{first_named};
 
 use crate::outcome::insert;
-use gql_ast_values::Argument;
+use gql_ast_base::Argument;
 use jb_map::Pairs;
 use jb_text::{ByteString, Memory};
 use std::alloc::Global;

@@ -2,11 +2,11 @@
 
 ghost use Rattle.std.specs.Prelude.{◌≡◌, List, ℕ};
 ghost use Rattle.jb_tree.specs.declared.value.Value.{Value};
-ghost use Rattle.gql_ast_values.specs.declared.directive.Argument.{Argument};
-ghost use Rattle.gql_ast_values.specs.declared.type_ref.TypeRef.{TypeRef};
-ghost use Rattle.gql_ast_values.specs.declared.value.Value.{Value as Literal};
+ghost use Rattle.gql_ast_base.specs.declared.directive.Argument.{Argument};
+ghost use Rattle.gql_ast_base.specs.declared.type_ref.TypeRef.{TypeRef};
+ghost use Rattle.gql_ast_base.specs.declared.value.Value.{Value as Literal};
 ghost use Rattle.gql_ast_definitions.specs.declared.field_definition.InputValueDefinition.{InputValueDefinition};
-ghost use Rattle.gql_ast_operations.specs.declared.operation.VariableDefinition.{VariableDefinition};
+ghost use Rattle.gql_ast_definitions.specs.declared.operation.VariableDefinition.{VariableDefinition};
 ghost use Rattle.gql_schema_types.specs.declared.types.ExtendedType.{ExtendedType};
 ghost use Rattle.gql_coerce.specs.Filled.{Members};
 ghost use Rattle.gql_coerce.specs.InputValue as values;

@@ -8,8 +8,7 @@ ghost use Rattle.gql_coerce.specs.ByName.{FindsLast};
 ghost use Rattle.gql_coerce.specs.LiteralValue.{Literals, last_named};
 
 use crate::outcome::insert;
-use gql_ast_base::Name;
-use gql_ast_values::Value as Literal;
+use gql_ast_base::{Name, Value as Literal};
 use jb_map::Pairs;
 use jb_text::{ByteString, Memory};
 use std::alloc::Global;

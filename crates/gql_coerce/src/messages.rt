@@ -8,7 +8,7 @@ ghost use Rattle.gql_coerce.specs.Subject.{subject_text};
 
 use crate::subject::Subject;
 use gql_ast::{print_type, print_value};
-use gql_ast_values::{TypeRef, Value as Literal};
+use gql_ast_base::{TypeRef, Value as Literal};
 use jb_print::to_text;
 use jb_text::{Memory, Text};
 use jb_tree::Value;

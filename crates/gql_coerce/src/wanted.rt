@@ -3,11 +3,11 @@
 ghost use Rattle.std.specs.Prelude.{◌≡◌, IfSome};
 ghost use Rattle.std.specs.Option.{option_copied, option_map, option_and_then};
 ghost use Rattle.gql_coerce.specs.InputTypes.{as_input_object as input_object_of};
-ghost use Rattle.gql_ast_values.specs.TypeParts.{item_type as item_of};
+ghost use Rattle.gql_ast_base.specs.TypeParts.{item_type as item_of};
 ghost use Rattle.gql_coerce.specs.Wanted.{IsFound};
 
 use crate::input_types::as_input_object;
-use gql_ast_values::TypeRef;
+use gql_ast_base::TypeRef;
 use gql_schema_types::{ExtendedType, InputObjectType, Table};
 
 /// A type, and what the schema has under the name within all its lists: it is looked up once, however many items a list has.

@@ -3,7 +3,7 @@
 ghost use Rattle.std.specs.Prelude.{◌≡◌, [], ◌∷◌, IfOk};
 ghost use Rattle.gql_coerce.specs.Wrapped.{wrap};
 
-use gql_ast_values::TypeRef;
+use gql_ast_base::TypeRef;
 use jb_text::{Listed, Memory};
 use jb_tree::Value;
 use std::alloc::Global;

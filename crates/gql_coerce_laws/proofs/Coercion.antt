@@ -7,10 +7,10 @@ use Rattle.std.proofs.lemmas.List.Elements.{All-head, All-tail, All-weaker}
 use Rattle.jb_tree.specs.declared.value.Value.{Value, Null, Array, Object, out-Value, size-Value}
 use Rattle.jb_tree.specs.declared.value.Value.TheOpen.{Value-F}
 use Rattle.gql_ast_base.specs.Names.{Named}
-use Rattle.gql_ast_values.specs.declared.type_ref.TypeRef.{TypeRef}
-use Rattle.gql_ast_values.specs.declared.value.Value.{Value as Literal}
+use Rattle.gql_ast_base.specs.declared.type_ref.TypeRef.{TypeRef}
+use Rattle.gql_ast_base.specs.declared.value.Value.{Value as Literal}
 use Rattle.gql_ast_definitions.specs.declared.field_definition.InputValueDefinition.{InputValueDefinition}
-use Rattle.gql_ast_operations.specs.declared.operation.VariableDefinition.{VariableDefinition}
+use Rattle.gql_ast_definitions.specs.declared.operation.VariableDefinition.{VariableDefinition}
 use Rattle.gql_schema_types.specs.Types.{type_called, is_composite}
 use Rattle.gql_schema_types.specs.declared.types.ExtendedType.{ExtendedType}
 use Rattle.gql_schema_types.specs.declared.types.ExtendedType.TheVariants as type
@@ -22,7 +22,7 @@ use Rattle.gql_coerce.specs.Filled.{Members, with_value, filled, absent, not_giv
 use Rattle.gql_coerce.specs.InputTypes.{input_object_called, field_name}
 use Rattle.gql_coerce.specs.Messages.{missing_field, missing_variable}
 use Rattle.gql_coerce.specs.Subject.{field_words, variable_words, default_words}
-use Rattle.gql_ast_values.specs.TypeParts.{named_type, is_non_null, item_type}
+use Rattle.gql_ast_base.specs.TypeParts.{named_type, is_non_null, item_type}
 use Rattle.gql_coerce.specs.Wrapped.{wrap}
 use Rattle.gql_coerce.specs.Scalars.{scalar_takes, enum_takes}
 use Rattle.gql_coerce.specs.Translation.{translated}

@@ -5,9 +5,9 @@ use Rattle.indexmap.specs.IndexMap.{insert_all}
 use Rattle.jb_tree.specs.declared.value.Value.{Null as JsonNull, Bool as Truth, String as JsonString, Array, Object}
 use Rattle.gql_source.specs.Span.{Span}
 use Rattle.gql_ast_base.specs.Names.{Named}
-use Rattle.gql_ast_values.specs.declared.value.Value.{Value}
-use Rattle.gql_ast_values.specs.declared.value.ValueKind.{ValueKind, roll-ValueKind, out-ValueKind, Null as NullKind, Variable, Int, Float, String as StringKind, Boolean, Enum, List as ListKind, Object as ObjectKind, the_lemmas}
-use Rattle.gql_ast_values.specs.declared.value.ValueKind.TheOpen.{ValueKind-F}
+use Rattle.gql_ast_base.specs.declared.value.Value.{Value}
+use Rattle.gql_ast_base.specs.declared.value.ValueKind.{ValueKind, roll-ValueKind, out-ValueKind, Null as NullKind, Variable, Int, Float, String as StringKind, Boolean, Enum, List as ListKind, Object as ObjectKind, the_lemmas}
+use Rattle.gql_ast_base.specs.declared.value.ValueKind.TheOpen.{ValueKind-F}
 use Rattle.gql_coerce.specs.LiteralValue.{greatest, greatest_member, depth_of, depth}
 use Rattle.gql_coerce.specs.Messages.{float_overflow}
 use Rattle.gql_coerce.specs.Outcome.{Outcome, mapped, and_then, all_of}

@@ -2,7 +2,7 @@
 
 ghost use Rattle.std.specs.Prelude.{List};
 ghost use Rattle.std.specs.List.{All};
-ghost use Rattle.gql_ast_operations.specs.declared.operation.VariableDefinition.{VariableDefinition};
+ghost use Rattle.gql_ast_definitions.specs.declared.operation.VariableDefinition.{VariableDefinition};
 ghost use Rattle.gql_coerce.specs.Filled.{Members};
 ghost use Rattle.gql_coerce.specs.Variables.{coerced_variables};
 ghost use Rattle.gql_coerce_laws.specs.Inputs.{AreInputFields, IsInputVariable};

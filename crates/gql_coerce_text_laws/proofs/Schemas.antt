@@ -18,7 +18,7 @@ use Rattle.gql_diag_messages.specs.declared.rule.Rule.TheVariants.{UndefinedDefi
 use Rattle.gql_parser.specs.Parsers.{its_file}
 use Rattle.gql_rules_base.specs.Faults.{fault, name_fault}
 use Rattle.gql_rules_base.specs.Known.{is_built_in_scalar, is_known}
-use Rattle.gql_ast_values.specs.TypeParts.{named_type}
+use Rattle.gql_ast_base.specs.TypeParts.{named_type}
 use Rattle.gql_rules_base.specs.Written.{is_written}
 use Rattle.gql_rules_base.specs.declared.known.Defined.TheVariants.{TypesAndScalars}
 use Rattle.gql_rules_base.specs.Directives.{directive_faults}

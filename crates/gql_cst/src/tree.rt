@@ -12,12 +12,23 @@ pub type Nodes = Vec<Tree>;
 ///
 /// A token has the kind `Token`, or `Ignored` where the grammar ignores it, and no children. A contract sees a
 /// tree as its kind, its range and the row of its children.
-#[derive(Debug, Drop)]
+#[derive(Debug)]
 pub struct Tree {
     kind: SyntaxKind,
     start: usize,
     end: usize,
     children: Nodes,
+}
+
+impl Drop for Tree {
+    fn drop(self) {
+        let Tree {
+            kind: _,
+            start: _,
+            end: _,
+            children: _,
+        } = self;
+    }
 }
 
 impl Tree {

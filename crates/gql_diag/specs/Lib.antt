@@ -3,5 +3,4 @@ pub mod Order
 pub mod List
 pub mod Reported
 pub mod Walk
-pub mod RequestFault
 pub mod Refusal

@@ -1,7 +1,7 @@
 -- The errors of refusals, which are those of responses (GraphQL October 2021, section 7.1.2).
 use Rattle.std.specs.Prelude.{ℕ, Bool, if◌then◌else◌, List, [], map}
 use Rattle.gql_diag.specs.List.{Diagnostics}
-use Rattle.gql_diag.specs.RequestFault.{suspected_bug}
+use Rattle.gql_response.specs.RequestFault.{suspected_bug}
 use Rattle.gql_diag_messages.specs.Details.{message_of}
 use Rattle.gql_diag_messages.specs.declared.diagnostic_data.DiagnosticData.{DiagnosticData}
 use Rattle.gql_response.specs.ErrorAt.{error_at}

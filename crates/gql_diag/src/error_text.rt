@@ -4,13 +4,13 @@ ghost use Rattle.std.specs.Prelude.{◌≡◌, ◌++◌, [], ◌∷◌, true, po
 ghost use Rattle.jb_tree.specs.declared.value.Value.TheVariants as json;
 ghost use Rattle.jb_print.specs.Compact.{compact};
 ghost use Rattle.jb_print.specs.Pieces.{member_piece, pieces_text};
-ghost use Rattle.gql_diag.specs.RequestFault.{request_error, suspected_bug};
+ghost use Rattle.gql_response.specs.RequestFault.{request_error, suspected_bug};
 ghost use Rattle.gql_response.specs.ErrorAt.{place_in};
 ghost use Rattle.gql_response.specs.Response.{error_value, list_member, location_value, object_member};
 ghost use Rattle.gql_diag.specs.Refusal.{error_marked, error_of, extensions_marked};
 
-use crate::request_error::RequestError;
 use gql_diag_messages::DiagnosticData;
+use gql_response::RequestError;
 use gql_source::{LineColumn, SourceMap, SourceSpan};
 use jb_print::{append_string, append_value};
 use jb_text::{Memory, Number};

@@ -21,7 +21,6 @@ mod order;
 mod refusal_text;
 mod report;
 mod report_text;
-mod request_error;
 mod to_cli_report;
 mod valid;
 
@@ -33,10 +32,10 @@ pub use gql_diag_guards::{
 };
 pub use gql_diag_messages::{Details, DiagnosticData, Rule, RuleFault};
 pub use gql_response::{
-    ExecutionResponse, GraphQLError, JsonMap, JsonValue, ResponseDataPathSegment, ResponseFault,
+    ExecutionResponse, GraphQLError, JsonMap, JsonValue, RequestError, ResponseDataPathSegment,
+    ResponseFault,
 };
 pub use refusal_text::{refusal_of_diagnostics, refusal_of_message, refusal_of_request};
 pub use report::CliReport;
-pub use request_error::RequestError;
 pub use to_cli_report::ToCliReport;
 pub use valid::{Valid, WithErrors};

@@ -4,15 +4,15 @@ ghost use Rattle.std.specs.Prelude.{◌≡◌, ◌++◌, [], ◌∷◌, map, IfO
 ghost use Rattle.jb_tree.specs.declared.value.Value.TheVariants as json;
 ghost use Rattle.jb_print.specs.Compact.{compact};
 ghost use Rattle.jb_print.specs.Pieces.{comma_after};
-ghost use Rattle.gql_diag.specs.RequestFault.{request_error};
+ghost use Rattle.gql_response.specs.RequestFault.{request_error};
 ghost use Rattle.gql_response.specs.Response.{error_value};
 ghost use Rattle.gql_diag.specs.Refusal.{error_of, errors_of, message_error, refusal_value};
 
 use crate::diagnostic_list::DiagnosticList;
 use crate::error_text::{append_diagnostic, append_request};
-use crate::request_error::RequestError;
 use bytes::Bytes;
 use gql_diag_messages::DiagnosticData;
+use gql_response::RequestError;
 use gql_source::SourceMap;
 use jb_print::append_string;
 use jb_text::Memory;

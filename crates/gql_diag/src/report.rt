@@ -17,7 +17,6 @@ use std::marker::Model;
 ///
 /// A contract sees a record with `sources`, `message`, `labels`, `help`, `note` and `refused`. A report that was refused
 /// when out of memory answers that from then on.
-#[derive(Drop)]
 pub struct CliReport<'s> {
     alloc: Global,
     sources: &'s SourceMap,
@@ -26,6 +25,20 @@ pub struct CliReport<'s> {
     help: Option<Text>,
     note: Option<Text>,
     refused: bool,
+}
+
+impl Drop for CliReport<'_> {
+    fn drop(self) {
+        let CliReport {
+            alloc: _,
+            sources: _,
+            message: _,
+            labels: _,
+            help: _,
+            note: _,
+            refused: _,
+        } = self;
+    }
 }
 
 impl<'s> Model for CliReport<'s> {

@@ -18,11 +18,21 @@ use std::alloc::Global;
 ///
 /// There are as many names as the two messages of the rule ask for. A name that is lacking, as that of an unnamed
 /// operation, is the empty text.
-#[derive(Debug, Drop)]
+#[derive(Debug)]
 pub struct RuleFault {
     pub rule: Rule,
     pub names: Listed<Text>,
     pub other: Option<SourceSpan>,
+}
+
+impl Drop for RuleFault {
+    fn drop(self) {
+        let RuleFault {
+            rule: _,
+            names: _,
+            other: _,
+        } = self;
+    }
 }
 
 impl RuleFault {

@@ -3,12 +3,12 @@ use Rattle.std.proofs.Common.{rules, ◌≡◌, Bool, List, [], ◌∷◌, map, 
 use Rattle.std.specs.Option.{option_map_or}
 use Rattle.gql_ast_base.specs.Names.{Named}
 use Rattle.gql_ast_definitions.specs.declared.field_definition.FieldDefinition.{FieldDefinition}
-use Rattle.gql_ast_operations.specs.declared.selection.Field.{Field}
-use Rattle.gql_ast_operations.specs.declared.selection.FragmentSpread.{FragmentSpread}
-use Rattle.gql_ast_operations.specs.declared.selection.InlineFragment.{InlineFragment}
-use Rattle.gql_ast_operations.specs.declared.selection.Selection.{the_lemmas}
-use Rattle.gql_ast_operations.specs.declared.selection.Selection.TheVariants as selection
-use Rattle.gql_ast_values.specs.TypeParts.{named_type}
+use Rattle.gql_ast_definitions.specs.declared.selection.Field.{Field}
+use Rattle.gql_ast_definitions.specs.declared.selection.FragmentSpread.{FragmentSpread}
+use Rattle.gql_ast_definitions.specs.declared.selection.InlineFragment.{InlineFragment}
+use Rattle.gql_ast_definitions.specs.declared.selection.Selection.{the_lemmas}
+use Rattle.gql_ast_definitions.specs.declared.selection.Selection.TheVariants as selection
+use Rattle.gql_ast_base.specs.TypeParts.{named_type}
 use Rattle.gql_document_types.specs.declared.selection.Selection.{Selection as Built}
 use Rattle.gql_document_types.specs.declared.selection.Selection.TheVariants as built
 use Rattle.gql_schema_types.specs.Schemas.{field_of}

@@ -5,12 +5,12 @@ use Rattle.std.specs.Option.{option_map_or}
 use Rattle.std.specs.Str.{bytes_eq}
 use Rattle.std.proofs.lemmas.Slice.Eq.{bytes_eq-Decides}
 use Rattle.gql_ast_base.specs.Names.{Named}
-use Rattle.gql_ast_operations.specs.declared.operation.FragmentDefinition.{FragmentDefinition}
-use Rattle.gql_ast_operations.specs.declared.selection.Field.{Field}
-use Rattle.gql_ast_operations.specs.declared.selection.FragmentSpread.{FragmentSpread}
-use Rattle.gql_ast_operations.specs.declared.selection.InlineFragment.{InlineFragment}
-use Rattle.gql_ast_operations.specs.declared.selection.Selection.{Selection, the_lemmas}
-use Rattle.gql_ast_operations.specs.declared.selection.Selection.TheVariants as selection
+use Rattle.gql_ast_definitions.specs.declared.operation.FragmentDefinition.{FragmentDefinition}
+use Rattle.gql_ast_definitions.specs.declared.selection.Field.{Field}
+use Rattle.gql_ast_definitions.specs.declared.selection.FragmentSpread.{FragmentSpread}
+use Rattle.gql_ast_definitions.specs.declared.selection.InlineFragment.{InlineFragment}
+use Rattle.gql_ast_definitions.specs.declared.selection.Selection.{Selection, the_lemmas}
+use Rattle.gql_ast_definitions.specs.declared.selection.Selection.TheVariants as selection
 use Rattle.gql_schema_types.specs.Entries.{entry}
 use Rattle.gql_schema_types.specs.declared.schema.Schema.{Schema}
 use Rattle.gql_document_build.specs.FragmentNameCollision.{fragment_name}

@@ -5,13 +5,13 @@ use Rattle.std.specs.Option.{option_map_or}
 use Rattle.std.proofs.lemmas.Grind.{flat_map-append}
 use Rattle.gql_ast_base.specs.Names.{Named}
 use Rattle.gql_ast_definitions.specs.declared.field_definition.FieldDefinition.{FieldDefinition}
-use Rattle.gql_ast_operations.specs.declared.selection.Field.{Field}
-use Rattle.gql_ast_operations.specs.declared.selection.FragmentSpread.{FragmentSpread}
-use Rattle.gql_ast_operations.specs.declared.selection.InlineFragment.{InlineFragment}
-use Rattle.gql_ast_operations.specs.declared.selection.Selection.{Selection, the_lemmas}
-use Rattle.gql_ast_operations.specs.declared.selection.Selection.TheVariants as selection
+use Rattle.gql_ast_definitions.specs.declared.selection.Field.{Field}
+use Rattle.gql_ast_definitions.specs.declared.selection.FragmentSpread.{FragmentSpread}
+use Rattle.gql_ast_definitions.specs.declared.selection.InlineFragment.{InlineFragment}
+use Rattle.gql_ast_definitions.specs.declared.selection.Selection.{Selection, the_lemmas}
+use Rattle.gql_ast_definitions.specs.declared.selection.Selection.TheVariants as selection
 use Rattle.gql_diag_messages.specs.declared.diagnostic_data.DiagnosticData.{DiagnosticData}
-use Rattle.gql_ast_values.specs.TypeParts.{named_type}
+use Rattle.gql_ast_base.specs.TypeParts.{named_type}
 use Rattle.gql_schema_types.specs.Schemas.{field_of}
 use Rattle.gql_schema_types.specs.Types.{type_called}
 use Rattle.gql_schema_types.specs.declared.schema.Schema.{Schema}

@@ -1,11 +1,11 @@
 -- Selections, one variant after the other.
 use Rattle.std.proofs.Common.{rules, ◌≡◌, sym, subst}
-use Rattle.gql_ast_operations.specs.declared.selection.Field.{Field}
-use Rattle.gql_ast_operations.specs.declared.selection.FragmentSpread.{FragmentSpread}
-use Rattle.gql_ast_operations.specs.declared.selection.InlineFragment.{InlineFragment}
-use Rattle.gql_ast_operations.specs.declared.selection.Selection.{Selection, the_lemmas, out-Selection, roll-Selection}
-use Rattle.gql_ast_operations.specs.declared.selection.Selection.TheVariants as selection
-use Rattle.gql_ast_operations.specs.declared.selection.Selection.TheOpen.{Selection-F}
+use Rattle.gql_ast_definitions.specs.declared.selection.Field.{Field}
+use Rattle.gql_ast_definitions.specs.declared.selection.FragmentSpread.{FragmentSpread}
+use Rattle.gql_ast_definitions.specs.declared.selection.InlineFragment.{InlineFragment}
+use Rattle.gql_ast_definitions.specs.declared.selection.Selection.{Selection, the_lemmas, out-Selection, roll-Selection}
+use Rattle.gql_ast_definitions.specs.declared.selection.Selection.TheVariants as selection
+use Rattle.gql_ast_definitions.specs.declared.selection.Selection.TheOpen.{Selection-F}
 
 pub out-field : (f : Field) → out-Selection (selection.Field f) ≡ Selection-F.Field f
 out-field f = search (rules, the_lemmas)

@@ -4,11 +4,11 @@ use Rattle.std.specs.List.{flat_map}
 use Rattle.std.specs.Option.{option_map_or}
 use Rattle.gql_ast_base.specs.Names.{Named}
 use Rattle.gql_ast_definitions.specs.declared.field_definition.FieldDefinition.{FieldDefinition}
-use Rattle.gql_ast_operations.specs.declared.selection.Field.{Field}
-use Rattle.gql_ast_operations.specs.declared.selection.InlineFragment.{InlineFragment}
-use Rattle.gql_ast_operations.specs.declared.selection.Selection.{Selection}
+use Rattle.gql_ast_definitions.specs.declared.selection.Field.{Field}
+use Rattle.gql_ast_definitions.specs.declared.selection.InlineFragment.{InlineFragment}
+use Rattle.gql_ast_definitions.specs.declared.selection.Selection.{Selection}
 use Rattle.gql_diag_messages.specs.declared.diagnostic_data.DiagnosticData.{DiagnosticData}
-use Rattle.gql_ast_values.specs.TypeParts.{named_type}
+use Rattle.gql_ast_base.specs.TypeParts.{named_type}
 use Rattle.gql_schema_types.specs.Schemas.{field_of}
 use Rattle.gql_schema_types.specs.declared.schema.Schema.{Schema}
 use Rattle.gql_document_build.specs.Nodes.{is_of, is_open, is_nonempty, type_inside, nodes_of}

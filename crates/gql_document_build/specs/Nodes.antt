@@ -6,15 +6,15 @@ use Rattle.std.specs.Option.{option_map_or}
 use Rattle.gql_source.specs.Span.{Span}
 use Rattle.gql_ast_base.specs.Names.{Named}
 use Rattle.gql_ast_definitions.specs.declared.field_definition.FieldDefinition.{FieldDefinition}
-use Rattle.gql_ast_operations.specs.declared.selection.Selection.{Selection, fold-Selection}
-use Rattle.gql_ast_operations.specs.declared.selection.Selection.TheOpen.{Selection-F, Field-F, InlineFragment-F}
-use Rattle.gql_ast_values.specs.declared.type_ref.TypeRef.{TypeRef}
+use Rattle.gql_ast_definitions.specs.declared.selection.Selection.{Selection, fold-Selection}
+use Rattle.gql_ast_definitions.specs.declared.selection.Selection.TheOpen.{Selection-F, Field-F, InlineFragment-F}
+use Rattle.gql_ast_base.specs.declared.type_ref.TypeRef.{TypeRef}
 use Rattle.gql_schema_types.specs.Schemas.{field_of}
 use Rattle.gql_schema_types.specs.Types.{type_called}
 use Rattle.gql_schema_types.specs.declared.schema.Schema.{Schema}
 use Rattle.gql_schema_types.specs.declared.types.ExtendedType.{ExtendedType}
 use Rattle.gql_schema_types.specs.declared.types.ExtendedType.TheVariants.{Scalar, Enum}
-use Rattle.gql_ast_values.specs.TypeParts.{named_type}
+use Rattle.gql_ast_base.specs.TypeParts.{named_type}
 
 -- a field: the type of its set, its name, its definition if it has one, whether it has selections, and its place
 pub record FieldNode : Type 0 where

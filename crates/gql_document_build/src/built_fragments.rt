@@ -9,7 +9,7 @@ use crate::built_selections::built_set;
 use crate::fragment_tree::FragmentTree;
 use crate::type_kind::is_defined;
 use gql_ast_base::Copying;
-use gql_ast_operations::FragmentDefinition;
+use gql_ast_definitions::FragmentDefinition;
 use gql_document_types::Fragment;
 use gql_schema_types::{Schema, Table};
 use jb_text::{Listed, Memory};

@@ -6,8 +6,8 @@ ghost use Rattle.gql_document_build.specs.Made as made_by;
 
 use crate::type_kind::{Leaf, is_open, leaf_of, type_inside};
 use gql_ast_base::{Copying, Name, both};
+use gql_ast_definitions as ast;
 use gql_ast_definitions::FieldDefinition;
-use gql_ast_operations as ast;
 use gql_document_types::{Field, FragmentSpread, InlineFragment, Selection, SelectionSet};
 use gql_schema_types::{Schema, Shared};
 use jb_text::{Listed, Memory};

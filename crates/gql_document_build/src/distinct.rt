@@ -12,7 +12,7 @@ use crate::fragment_tree::FragmentTree;
 use crate::operation_name_collision::first_operations;
 use crate::type_system_definition::list_type_system_definitions;
 use gql_ast::Definition;
-use gql_ast_operations::{FragmentDefinition, OperationDefinition};
+use gql_ast_definitions::{FragmentDefinition, OperationDefinition};
 use gql_diag_messages::DiagnosticData;
 use jb_text::{Listed, Memory};
 use std::alloc::Global;

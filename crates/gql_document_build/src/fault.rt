@@ -4,7 +4,7 @@ ghost use Rattle.std.specs.Prelude.{◌≡◌, ◌++◌, [], ◌∷◌, IfOk, On
 ghost use Rattle.gql_document_build.specs.Faults as spec;
 
 use gql_ast_base::Name;
-use gql_ast_operations::OperationDefinition;
+use gql_ast_definitions::OperationDefinition;
 use gql_diag_messages::{Details, DiagnosticData, Rule, RuleFault};
 use gql_source::SourceSpan;
 use jb_text::{Listed, Memory, Text};

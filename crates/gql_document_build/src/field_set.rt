@@ -9,7 +9,7 @@ use crate::judged::judged;
 use crate::selection_faults::list_selection_faults;
 use crate::taking::take_items;
 use gql_ast_base::{Copying, Name};
-use gql_ast_operations::Selection;
+use gql_ast_definitions::Selection;
 use gql_diag::{DiagnosticList, WithErrors};
 use gql_document_types::FieldSet;
 use gql_schema_types::Schema;

@@ -5,7 +5,7 @@ ghost use Rattle.gql_document_build.specs.OperationNameCollision as spec;
 
 use crate::fault::list_name;
 use gql_ast_base::{Copying, Name};
-use gql_ast_operations::OperationDefinition;
+use gql_ast_definitions::OperationDefinition;
 use gql_diag_messages::{DiagnosticData, Rule};
 use gql_schema_types::Table;
 use jb_text::{Listed, Memory};

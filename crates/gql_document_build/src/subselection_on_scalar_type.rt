@@ -5,8 +5,7 @@ ghost use Rattle.gql_document_build.specs.SubselectionOnScalarType as spec;
 
 use crate::fault::list_words;
 use gql_ast::print_type;
-use gql_ast_base::Name;
-use gql_ast_values::TypeRef;
+use gql_ast_base::{Name, TypeRef};
 use gql_diag_messages::{DiagnosticData, Rule};
 use gql_source::SourceSpan;
 use jb_text::{Listed, Memory};

@@ -4,8 +4,7 @@ ghost use Rattle.std.specs.Prelude.{◌≡◌};
 ghost use Rattle.gql_document_build.specs.Leaves as leaves;
 ghost use Rattle.gql_document_build.specs.Nodes as spec;
 
-use gql_ast_base::Name;
-use gql_ast_values::TypeRef;
+use gql_ast_base::{Name, TypeRef};
 use gql_schema_types::{ExtendedType, Schema};
 
 /// The kind of a type that has no fields.

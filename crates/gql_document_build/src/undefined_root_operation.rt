@@ -5,7 +5,7 @@ ghost use Rattle.gql_document_build.specs.UndefinedRootOperation as spec;
 
 use crate::fault::list_word;
 use gql_ast_base::OperationType;
-use gql_ast_operations::OperationDefinition;
+use gql_ast_definitions::OperationDefinition;
 use gql_diag_messages::{DiagnosticData, Rule};
 use jb_text::{Listed, Memory};
 use std::alloc::Global;

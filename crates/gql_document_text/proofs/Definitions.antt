@@ -29,8 +29,8 @@ use Rattle.gql_ast_laws.specs.Meant.{IsDocumentOf}
 use Rattle.gql_ast_laws.proofs.Inner.{both_ways, node_of, here, later}
 use Rattle.gql_ast_laws.proofs.Shown.{AreSpelled, tiled-spelled, below-of, rest-of, node-row, rest-row}
 use Rattle.gql_ast_laws.proofs.TokenKinds.{kind_is}
-use Rattle.gql_ast_operations.specs.declared.operation.OperationDefinition.{OperationDefinition}
-use Rattle.gql_ast_operations.specs.Operations.{operation_of, fragment_of}
+use Rattle.gql_ast_definitions.specs.declared.operation.OperationDefinition.{OperationDefinition}
+use Rattle.gql_ast_definitions.specs.Operations.{operation_of, fragment_of}
 use Rattle.gql_document_text.proofs.Each.{Each, IfAny, all-of, head-any, if-any, else-any, map-any, map-always, or-any, then-each}
 use Rattle.gql_document_text.proofs.SelectedSets.{set_selects}
 

@@ -8,7 +8,7 @@ use Rattle.std.specs.Str.{bytes_eq}
 use Rattle.jb_text.specs.declared.refused.Refused.{Refused}
 use Rattle.jb_text.specs.declared.refused.Refused.TheVariants.{Fault, Memory}
 use Rattle.gql_ast_base.specs.Names.{Named}
-use Rattle.gql_diag.specs.declared.request_error.RequestError.{RequestError}
+use Rattle.gql_response.specs.declared.request_error.RequestError.{RequestError}
 use Rattle.gql_document_types.specs.declared.operation.Operation.{Operation}
 
 abbrev pub has_name : List ℕ → Operation → Bool

@@ -3,8 +3,7 @@
 ghost use Rattle.std.specs.Prelude.{◌≡◌};
 
 use crate::selection::SelectionSet;
-use gql_ast_base::{Copying, Name, all_three};
-use gql_ast_values::Directive;
+use gql_ast_base::{Copying, Directive, Name, all_three};
 use gql_schema_types::Named;
 use gql_source::SourceSpan;
 use jb_text::{Listed, Memory};

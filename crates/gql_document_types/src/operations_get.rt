@@ -6,7 +6,7 @@ ghost use Rattle.gql_document_types.specs.ChosenOperation as spec;
 
 use crate::document::ExecutableDocument;
 use crate::operation::Operation;
-use gql_diag::RequestError;
+use gql_response::RequestError;
 use jb_text::{Listed, Memory, Refused, Text};
 use std::alloc::Global;
 

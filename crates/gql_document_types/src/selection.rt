@@ -2,20 +2,28 @@
 
 ghost use Rattle.std.specs.Prelude.{◌≡◌, IfOk};
 
-use gql_ast_base::{Copying, Name, all_four, all_three, both};
+use gql_ast_base::{Argument, Copying, Directive, Name, all_four, all_three, both};
 use gql_ast_definitions::FieldDefinition;
-use gql_ast_values::{Argument, Directive};
 use gql_schema_types::Shared;
 use gql_source::SourceSpan;
 use jb_text::{Listed, Memory};
 use std::alloc::Global;
 
 /// Selections on a type (GraphQL October 2021, section 2.4). A field that asks for nothing below it has none.
-#[derive(Drop)]
 #[cycle(selection)]
 pub struct SelectionSet {
     pub ty: Name,
     pub selections: Listed<Selection>,
+}
+
+impl Drop for SelectionSet {
+    #[cycle(drop_selections)]
+    fn drop(self) {
+        let SelectionSet {
+            ty: _,
+            selections: _,
+        } = self;
+    }
 }
 
 /// One selection of a selection set (section 2.4).
@@ -28,7 +36,6 @@ pub enum Selection {
 }
 
 /// A field that is asked for (section 2.5), under its alias if it has one (section 2.7), with its definition.
-#[derive(Drop)]
 #[cycle(selection)]
 pub struct Field {
     pub alias: Option<Name>,
@@ -40,23 +47,58 @@ pub struct Field {
     pub definition: Shared<FieldDefinition>,
 }
 
+impl Drop for Field {
+    #[cycle(drop_selections)]
+    fn drop(self) {
+        let Field {
+            alias: _,
+            name: _,
+            arguments: _,
+            directives: _,
+            selection_set: _,
+            location: _,
+            definition: _,
+        } = self;
+    }
+}
+
 /// A fragment that is named in a selection set (section 2.8).
-#[derive(Drop)]
 pub struct FragmentSpread {
     pub fragment_name: Name,
     pub directives: Listed<Directive>,
     pub location: Option<SourceSpan>,
 }
 
+impl Drop for FragmentSpread {
+    fn drop(self) {
+        let FragmentSpread {
+            fragment_name: _,
+            directives: _,
+            location: _,
+        } = self;
+    }
+}
+
 /// A fragment that stands in a selection set (section 2.8.2). The type of its set is its condition, or without one that of
 /// the set around it.
-#[derive(Drop)]
 #[cycle(selection)]
 pub struct InlineFragment {
     pub type_condition: Option<Name>,
     pub directives: Listed<Directive>,
     pub selection_set: SelectionSet,
     pub location: Option<SourceSpan>,
+}
+
+impl Drop for InlineFragment {
+    #[cycle(drop_selections)]
+    fn drop(self) {
+        let InlineFragment {
+            type_condition: _,
+            directives: _,
+            selection_set: _,
+            location: _,
+        } = self;
+    }
 }
 
 impl Copying for SelectionSet {

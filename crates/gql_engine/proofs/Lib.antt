@@ -1,3 +1,9 @@
+mod Results
+mod InTurn
+mod Causes
+mod Runs
+mod Responses
+mod Faulty
 mod Replies
 mod SelfTests
 mod Outputs

@@ -1,6 +1,6 @@
 -- The outputs of tasks.
 use Rattle.std.proofs.Common.{◌≡◌, ◌<◌, ◌≤◌, ◌+◌, ◌^◌, ℕ, List, length, Result, Ok, Err, IfOk, sym, ap, subst, inl, inr}
-use Rattle.gql_answer.specs.declared.response_bytes.Written.{Written}
+use Rattle.gql_engine.specs.declared.response_bytes.Written.{Written}
 use Rattle.gql_exec_plan.specs.SelfTest.{self_test}
 use Rattle.gql_engine.specs.declared.output.Output.{Output}
 use Rattle.gql_engine.specs.declared.reply.Reply.{Reply}

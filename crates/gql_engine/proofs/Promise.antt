@@ -1,16 +1,16 @@
 -- What a run promises of words, by what the run of a task does.
 use Rattle.std.proofs.Common.{◌≡◌, ℕ, List, ◌++◌, length, Option, Some, None, ◌∙◌, ap, subst, inl, inr, arith, length-append, append-nil}
 use Rattle.jb_io.specs.Source.{GivesMore, ReadsWhole}
-use Rattle.gql_answer.specs.Ready.{Ready}
-use Rattle.gql_answer.specs.Unanswered.{Unanswered}
-use Rattle.gql_answer.proofs.Causes.{Laws, none_unanswered}
-use Rattle.gql_answer.proofs.Results.{same_ok, ok_or_err}
+use Rattle.gql_engine.specs.Ready.{Ready}
+use Rattle.gql_engine.specs.Unanswered.{Unanswered}
+use Rattle.gql_engine.proofs.Causes.{Laws, none_unanswered}
+use Rattle.gql_engine.proofs.Results.{same_ok, ok_or_err}
 use Rattle.gql_diag.specs.List.{Diagnostics}
 use Rattle.gql_response.specs.declared.graphql_error.GraphQLError.{GraphQLError}
 use Rattle.gql_exec_plan.specs.NotAsked.{IsAsked, NotAsked, no_text, no_request}
 use Rattle.gql_exec_plan.specs.Request.{Asked, asked}
-use Rattle.gql_answer.specs.Meant.{AreFaults, Meant, no_schema, no_document}
-use Rattle.gql_answer.specs.DocumentText.{DocumentText}
+use Rattle.gql_engine.specs.Meant.{AreFaults, Meant, no_schema, no_document}
+use Rattle.gql_document_text.specs.DocumentText.{DocumentText}
 use Rattle.gql_schema_types.specs.declared.schema.Schema.{Schema}
 use Rattle.gql_engine.specs.declared.task.Task.TheVariants.{Request}
 use Rattle.gql_engine.specs.declared.task.Wish.{Wish}

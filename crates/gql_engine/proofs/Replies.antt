@@ -6,12 +6,12 @@ use Rattle.jb_print.specs.Compact.{compact}
 use Rattle.jb_read.specs.Faults.{JsonFault}
 use Rattle.jb_read.specs.declared.fault.ReadFault.{ReadFault}
 use Rattle.jb_tree.specs.declared.value.Value.{Value}
-use Rattle.gql_answer.specs.Responding.{IsCause, Responds, told}
-use Rattle.gql_answer.specs.Wanted.{Members, Wanted, wanted_by}
-use Rattle.gql_answer.specs.declared.refusal.Refusal.{Refusal as Why}
-use Rattle.gql_answer.specs.declared.response_bytes.Written.{Written}
-use Rattle.gql_answer.specs.declared.wanted.Wanted.{Wanted as WantedHere}
-use Rattle.gql_answer.proofs.Responses.{unanswered_by}
+use Rattle.gql_engine.specs.Responding.{IsCause, Responds, told}
+use Rattle.gql_engine.specs.Wanted.{Members, Wanted, wanted_by}
+use Rattle.gql_engine.specs.declared.refusal.Refusal.{Refusal as Why}
+use Rattle.gql_engine.specs.declared.response_bytes.Written.{Written}
+use Rattle.gql_engine.specs.declared.wanted.Wanted.{Wanted as WantedHere}
+use Rattle.gql_engine.proofs.Responses.{unanswered_by}
 use Rattle.gql_diag.specs.List.{Diagnostics}
 use Rattle.gql_document_types.specs.ChosenOperation.{text_of}
 use Rattle.gql_exec_resolve.specs.Data.{Data}
@@ -22,7 +22,7 @@ use Rattle.gql_exec_plan.specs.NotAsked.{NotAsked, no_text, no_request, read_mes
 use Rattle.gql_exec_plan.specs.Request.{Asked, asked, asked_in, fault_message}
 use Rattle.gql_exec_plan.specs.declared.request.Request.{Request}
 use Rattle.gql_exec_plan.specs.declared.request.RequestFault.{RequestFault}
-use Rattle.gql_answer.specs.Meant.{AreFaults, Meant}
+use Rattle.gql_engine.specs.Meant.{AreFaults, Meant}
 use Rattle.gql_engine.specs.declared.reply.Reply.{Reply}
 use Rattle.gql_engine.specs.declared.reply.Reply.TheVariants.{Response, Passed, Reports, Refusal}
 use Rattle.gql_engine.specs.declared.task.Wish.{Wish}

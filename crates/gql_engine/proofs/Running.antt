@@ -3,7 +3,7 @@ use Rattle.std.proofs.Common.{◌≡◌, ◌≢◌, ◌≤◌, ◌⊎◌, ℕ, L
 use Rattle.jb_io.specs.Sink.{Takes, TakesFront, Told}
 use Rattle.jb_io.specs.Source.{GivesAtMost, GivesMore, ReadsWhole}
 use Rattle.jb_io.specs.Stream.{HasFailed}
-use Rattle.gql_answer.proofs.Causes.{Laws}
+use Rattle.gql_engine.proofs.Causes.{Laws}
 use Rattle.gql_engine.specs.declared.output.Output.{Output}
 use Rattle.jb_io.specs.declared.serving.TheConstants.{ANSWERED, MISUSED, NO_MEMORY, REFUSED, SINK_FAILED, SOURCE_FAILED, TOO_LONG}
 use Rattle.gql_engine.specs.declared.task.Task.{Task}

@@ -1,21 +1,21 @@
 -- The looks that a self-test takes.
 use Rattle.std.proofs.Common.{◌≡◌, ◌<◌, ◌≤◌, ◌+◌, ◌^◌, ℕ, Bool, true, false, List, Option, Some, subst, arith}
-use Rattle.gql_answer.specs.Answered.{ExecutionLooks, IsRoot}
-use Rattle.gql_answer.specs.Depths.{depth_looks}
-use Rattle.gql_answer.specs.Wanted.{Members}
-use Rattle.gql_answer.specs.DocumentText.{DocumentText}
+use Rattle.gql_engine.specs.Answered.{ExecutionLooks, IsRoot}
+use Rattle.gql_engine.specs.Depths.{depth_looks}
+use Rattle.gql_engine.specs.Wanted.{Members}
+use Rattle.gql_document_text.specs.DocumentText.{DocumentText}
 use Rattle.gql_document_types.specs.ChosenOperation.{chosen}
 use Rattle.gql_document_types.specs.declared.document.ExecutableDocument.{ExecutableDocument}
 use Rattle.gql_document_types.specs.declared.operation.Operation.{Operation}
-use Rattle.gql_answer.specs.Thing.{of_user, type_of_thing}
-use Rattle.gql_answer.specs.ThingMeaning.{Resolving, thing_meaning}
-use Rattle.gql_answer.specs.Executing.{answers_by}
+use Rattle.gql_exec_request.specs.Thing.{of_user, type_of_thing}
+use Rattle.gql_exec_request.specs.ThingMeaning.{Resolving, thing_meaning}
+use Rattle.gql_exec_fields.specs.Executing.{answers_by}
 use Rattle.gql_exec_resolve.specs.Data.{Data}
 use Rattle.gql_exec_resolve.specs.DataMeaning.{data_meaning}
 use Rattle.gql_exec_plan.specs.NotAsked.{IsAsked}
 use Rattle.gql_exec_plan.specs.Request.{Asked}
 use Rattle.gql_exec_plan.specs.SelfTest.{self_test}
-use Rattle.gql_answer.specs.SchemaText.{SchemaText}
+use Rattle.gql_schema_text.specs.SchemaText.{SchemaText}
 use Rattle.gql_schema_types.specs.declared.schema.Schema.{Schema}
 use Rattle.gql_schema_types.specs.declared.types.ObjectType.{ObjectType}
 use Rattle.gql_self_test_laws.specs.Meaning.{IsSelfTest}

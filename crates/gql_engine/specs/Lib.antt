@@ -1,3 +1,13 @@
+pub mod Wanted
+pub mod Depths
+pub mod Meant
+pub mod Ready
+pub mod Answered
+pub mod Unanswered
+pub mod Responding
+pub mod AnswerError
+pub mod Told
+pub mod Answering
 pub mod Task
 pub mod Reply
 pub mod Reports

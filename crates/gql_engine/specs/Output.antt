@@ -1,8 +1,8 @@
 -- What a task writes.
 use Rattle.std.specs.Prelude.{◌≡◌, ◌≤◌, ◌+◌, ℕ, List, [], ◌∷◌, ◌++◌, length, ◌⊎◌, codes}
 use Rattle.std.specs.Fmt.{decimal}
-use Rattle.gql_answer.specs.Answered.{errors_in}
-use Rattle.gql_answer.specs.declared.response_bytes.Written.{Written}
+use Rattle.gql_engine.specs.Answered.{errors_in}
+use Rattle.gql_engine.specs.declared.response_bytes.Written.{Written}
 use Rattle.gql_exec_plan.specs.SelfTest.{self_test}
 use Rattle.gql_engine.specs.Reply.{Answers, AreReports, Passes, Refuses, SaysNotAsked}
 use Rattle.gql_engine.specs.declared.output.Output.{Output}

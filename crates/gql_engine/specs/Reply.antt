@@ -4,10 +4,10 @@ use Rattle.std.specs.Prelude.{◌≡◌, ℕ, List, [], ◌∷◌, unwrap_or}
 use Rattle.jb_tree.specs.declared.value.Value.{Value}
 use Rattle.jb_print.specs.Compact.{compact}
 use Rattle.jb_read.specs.Spelling.{JsonText}
-use Rattle.gql_answer.specs.Answered.{Answered, AnswerLooks, errors_in}
-use Rattle.gql_answer.specs.Ready.{Ready}
-use Rattle.gql_answer.specs.Unanswered.{Unanswered}
-use Rattle.gql_answer.specs.Wanted.{Wanted}
+use Rattle.gql_engine.specs.Answered.{Answered, AnswerLooks, errors_in}
+use Rattle.gql_engine.specs.Ready.{Ready}
+use Rattle.gql_engine.specs.Unanswered.{Unanswered}
+use Rattle.gql_engine.specs.Wanted.{Wanted}
 use Rattle.gql_diag.specs.List.{Diagnostics}
 use Rattle.gql_exec_resolve.specs.Data.{Data}
 use Rattle.gql_exec_resolve.specs.DataMeaning.{data_meaning}
@@ -16,7 +16,7 @@ use Rattle.gql_engine.specs.Reports.{reports_of}
 use Rattle.gql_exec_plan.specs.NotAsked.{IsAsked, NotAsked}
 use Rattle.gql_exec_plan.specs.Request.{Asked}
 use Rattle.gql_response.specs.declared.graphql_error.GraphQLError.{GraphQLError}
-use Rattle.gql_answer.specs.Meant.{AreFaults, Meant}
+use Rattle.gql_engine.specs.Meant.{AreFaults, Meant}
 use Rattle.gql_engine.specs.declared.reply.Reply.{Reply}
 use Rattle.gql_engine.specs.declared.reply.Reply.TheVariants.{Response, Passed, Reports, Refusal}
 use Rattle.gql_engine.specs.declared.task.Wish.{Wish}

@@ -6,29 +6,39 @@
 //! request is answered, unless memory or a stream fails. The program also checks the texts of a request, and tries itself.
 #![tactic(auto)]
 
+mod answer_error;
+mod answering;
+mod call;
 mod list_reports;
+mod meaning;
 mod output;
 pub mod program;
+mod refusal;
 mod reply;
+mod responding;
+mod response_bytes;
+mod steps_before;
 mod task;
+mod uncounted;
+mod wanted;
 
-pub use gql_answer::document_laws::valid_documents_run;
-pub use gql_answer::{
-    AnswerError, Execution, RequestKind, VariablesFault, WrittenResponse, answer, answer_uncounted,
-    document_of_text, partial_execute, schema_of_text,
-};
+pub use answer_error::{AnswerError, RequestKind, VariablesFault};
+pub use answering::answer;
 pub use gql_ast::Document;
 pub use gql_diag::{
     DiagnosticList, ExecutionResponse, GraphQLError, RequestError, Valid, refusal_of_diagnostics,
     refusal_of_request,
 };
-pub use gql_document_text::{ParseMixed, Parser};
+pub use gql_document_text::laws::valid_documents_run;
+pub use gql_document_text::{ParseMixed, Parser, document_of_text};
 pub use gql_document_types::ExecutableDocument;
+pub use gql_exec_request::{Execution, WrittenResponse, partial_execute};
 pub use gql_exec_resolve::{
     DataObject, FieldError, ObjectValue, ResolveError, ResolveInfo, ResolvedValue,
 };
 pub use gql_exec_steps::Steps;
 pub use gql_rules::validate_standalone;
+pub use gql_schema_text::schema_of_text;
 pub use gql_schema_types::Schema;
 pub use gql_source::{FileId, FileIds, SourceMap};
 pub use jb_io::{ANSWERED, MISUSED, NO_MEMORY, REFUSED, SINK_FAILED, SOURCE_FAILED, TOO_LONG};
@@ -36,3 +46,4 @@ pub use jb_read::from_bytes_whole;
 pub use jb_tree::{ByteString, Listed, Map, Memory, Number, Refused, Text, Value};
 pub use list_reports::reports;
 pub use program::{run, run_in_memory};
+pub use uncounted::answer_uncounted;

@@ -5,9 +5,9 @@ ghost use Rattle.gql_engine.specs.Output.{IsMeasured, IsOutput, IsOutputOf, line
 ghost use Rattle.gql_engine.specs.declared.task.Task.TheVariants as tasks;
 
 use crate::reply::{Reply, reply_to};
+use crate::response_bytes::Written;
 use crate::task::Wish;
 use bytes::{Bytes, BytesMut};
-use gql_answer::Written;
 use gql_exec_plan::self_test_text;
 use gql_exec_steps::Steps;
 use gql_self_test_laws::laws as request_laws;

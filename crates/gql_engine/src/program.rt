@@ -13,8 +13,9 @@ ghost use Rattle.jb_io.specs.Stream.{HasFailed};
 use crate::output::{Output, output_of, self_test};
 use crate::task::{Task, Wish, task_asked};
 use bytes::Bytes;
-use gql_answer::{document_laws, schema_laws};
+use gql_document_text::laws as document_laws;
 use gql_exec_steps::Steps;
+use gql_schema_text::laws as schema_laws;
 use jb_io::{
     ANSWERED, InputFault, MISUSED, NO_MEMORY, REFUSED, SINK_FAILED, SOURCE_FAILED, Sink, SinkFault,
     Source, SureSink, SureSource, TOO_LONG, read_to_end, write_all,

@@ -6,9 +6,12 @@ ghost use Rattle.gql_engine.specs.declared.task.Wish.TheVariants as wished;
 ghost use Rattle.gql_engine.specs.Reply.{IsRefusedWith, IsReply, IsReplyTo, IsReplyToAsked};
 
 use crate::list_reports::reports;
+use crate::meaning::check_texts;
+use crate::responding::respond;
+use crate::response_bytes::Written;
 use crate::task::Wish;
+use crate::wanted::Wanted;
 use bytes::Bytes;
-use gql_answer::{Wanted, Written, check_texts, respond};
 use gql_diag::refusal_of_message;
 use gql_exec_plan::{Request, decode, read_message};
 use gql_exec_resolve::DataObject;

@@ -6,10 +6,10 @@ use Rattle.jb_tree.specs.declared.value.Value.TheOpen.{Value-F}
 use Rattle.jb_tree.specs.Tree.{tree, null, number, text, array, object, trees_of, members_of}
 use Rattle.gql_ast_base.specs.Names.{Named}
 use Rattle.gql_ast.specs.TypeText.{type_text}
-use Rattle.gql_ast_values.specs.declared.type_ref.TypeRef.{TypeRef, out-TypeRef, the_lemmas as type_lemmas}
-use Rattle.gql_ast_values.specs.declared.type_ref.TypeRef.TheVariants as type
-use Rattle.gql_ast_values.specs.declared.type_ref.TypeRef.TheOpen.{TypeRef-F}
-use Rattle.gql_ast_values.specs.TypeParts.{named_type}
+use Rattle.gql_ast_base.specs.declared.type_ref.TypeRef.{TypeRef, out-TypeRef, the_lemmas as type_lemmas}
+use Rattle.gql_ast_base.specs.declared.type_ref.TypeRef.TheVariants as type
+use Rattle.gql_ast_base.specs.declared.type_ref.TypeRef.TheOpen.{TypeRef-F}
+use Rattle.gql_ast_base.specs.TypeParts.{named_type}
 use Rattle.gql_document_types.specs.declared.selection.Field.{Field}
 use Rattle.gql_document_types.specs.declared.selection.Selection.{the_lemmas as selection_lemmas}
 use Rattle.gql_document_types.specs.declared.selection.Selection.TheVariants as selection

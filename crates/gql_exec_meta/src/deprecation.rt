@@ -5,8 +5,8 @@ ghost use Rattle.std.specs.Option.{option_copied};
 ghost use Rattle.gql_schema_types.specs.Entries.{entry};
 ghost use Rattle.gql_exec_meta.specs.Deprecation as spec;
 
+use gql_ast_base::{Argument, Directive, Value, ValueKind};
 use gql_ast_definitions::{DirectiveDefinition, InputValueDefinition};
-use gql_ast_values::{Argument, Directive, Value, ValueKind};
 use gql_schema_types::Schema;
 
 /// Whether `@deprecated` is among the directives (GraphQL October 2021, section 3.13.3).

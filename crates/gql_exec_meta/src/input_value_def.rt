@@ -14,8 +14,8 @@ use crate::leaves::{
 use crate::meta_object::MetaObject;
 use crate::named_types::type_object;
 use gql_ast::print_value;
+use gql_ast_base::Value;
 use gql_ast_definitions::InputValueDefinition;
-use gql_ast_values::Value;
 use gql_diag::Valid;
 use gql_exec_resolve::ResolvedValue;
 use gql_schema_types::Schema;

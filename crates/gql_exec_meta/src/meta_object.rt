@@ -12,10 +12,10 @@ use crate::input_value_def::input_value_def_field;
 use crate::schema_meta::schema_meta_field;
 use crate::type_def::type_def_field;
 use crate::wrapped::wrapped_field;
+use gql_ast_base::TypeRef;
 use gql_ast_definitions::{
     DirectiveDefinition, EnumValueDefinition, FieldDefinition, InputValueDefinition,
 };
-use gql_ast_values::TypeRef;
 use gql_diag::Valid;
 use gql_exec_resolve::{ObjectValue, ResolveError, ResolveInfo, ResolvedValue};
 use gql_schema_types::{ExtendedType, Schema};

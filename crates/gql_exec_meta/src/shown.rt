@@ -2,7 +2,7 @@
 
 ghost use Rattle.std.specs.Prelude.{◌≡◌, List, ◌++◌, map, OnOk, if◌then◌else◌, [], ◌∷◌};
 ghost use Rattle.jb_tree.specs.Value.{truth_value};
-ghost use Rattle.gql_ast_values.specs.declared.directive.Directive.{Directive as Use};
+ghost use Rattle.gql_ast_base.specs.declared.directive.Directive.{Directive as Use};
 ghost use Rattle.gql_exec_places.specs.Resolved.{gives_object};
 ghost use Rattle.gql_schema_types.specs.declared.schema.Schema.{Schema as TheSchema};
 ghost use Rattle.gql_exec_meta.specs.Answers.{objects};
@@ -15,10 +15,10 @@ use crate::asked::Asked;
 use crate::deprecation::is_deprecated;
 use crate::items::Items;
 use crate::meta_object::MetaObject;
+use gql_ast_base::Directive;
 use gql_ast_definitions::{
     DirectiveDefinition, EnumValueDefinition, FieldDefinition, InputValueDefinition,
 };
-use gql_ast_values::Directive;
 use gql_diag::{JsonMap, Valid};
 use gql_exec_resolve::ResolvedValue;
 use gql_schema_types::{ExtendedType, Schema, Shared};

@@ -10,7 +10,7 @@ use crate::asked::Asked;
 use crate::leaves::{null_leaf, text_or_null};
 use crate::meta_object::MetaObject;
 use crate::named_types::{named_type, type_object};
-use gql_ast_values::TypeRef;
+use gql_ast_base::TypeRef;
 use gql_diag::Valid;
 use gql_exec_resolve::ResolvedValue;
 use gql_schema_types::Schema;

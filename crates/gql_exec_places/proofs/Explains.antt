@@ -3,9 +3,9 @@ use Rattle.std.proofs.Common.{◌≡◌, ℕ, zero, suc, ◌+◌, List, [], ◌�
 use Rattle.std.specs.List.{AllByRecursion}
 use Rattle.jb_tree.specs.declared.value.Value.{Value}
 use Rattle.jb_tree.specs.declared.value.Value.TheVariants as json
-use Rattle.gql_ast_values.specs.declared.type_ref.TypeRef.{TypeRef}
+use Rattle.gql_ast_base.specs.declared.type_ref.TypeRef.{TypeRef}
 use Rattle.gql_response.specs.declared.graphql_error.GraphQLError.{GraphQLError}
-use Rattle.gql_ast_values.specs.TypeParts.{is_non_null}
+use Rattle.gql_ast_base.specs.TypeParts.{is_non_null}
 use Rattle.gql_exec_places.specs.Resolved.{Meaning, Meanings, gives_leaf, gives_object, gives_list, gives_skip, fails_with, no_answer, answer_then}
 use Rattle.gql_exec_places.specs.Resolved.{Misfit, Outcome, answered, refused}
 use Rattle.gql_exec_places.specs.World.{World, key_of}

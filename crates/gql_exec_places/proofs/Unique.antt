@@ -3,14 +3,14 @@ use Rattle.std.proofs.Common.{◌≡◌, ℕ, ◌+◌, ◌≤◌, List, [], ◌�
 use Rattle.std.specs.List.{AllByRecursion}
 use Rattle.jb_tree.specs.declared.value.Value.{Value}
 use Rattle.jb_tree.specs.declared.value.Value.TheVariants as json
-use Rattle.gql_ast_values.specs.declared.type_ref.TypeRef.{TypeRef}
+use Rattle.gql_ast_base.specs.declared.type_ref.TypeRef.{TypeRef}
 use Rattle.gql_response.specs.declared.graphql_error.GraphQLError.{GraphQLError}
 use Rattle.gql_response.specs.declared.path.ResponseDataPathSegment.TheVariants.{Field, ListIndex}
 use Rattle.jb_tree.specs.declared.value.Value.{out-Value}
 use Rattle.jb_tree.specs.declared.value.Value.TheOpen as shape
 use Rattle.jb_tree.specs.declared.value.Value.TheOpen.{Value-F}
 use Rattle.gql_exec_places.proofs.Steps.{index_of, text_of}
-use Rattle.gql_ast_values.specs.TypeParts.{is_non_null}
+use Rattle.gql_ast_base.specs.TypeParts.{is_non_null}
 use Rattle.gql_exec_places.specs.Resolved.{Meaning, Meanings, gives_leaf, gives_object, gives_list, gives_skip, fails_with, no_answer, answer_then}
 use Rattle.gql_exec_places.specs.Resolved.{Fault, Outcome, answered, refused}
 use Rattle.gql_exec_places.specs.World.{World, key_of, DistinctKeys, IsLawful}

@@ -3,7 +3,7 @@ use Rattle.std.specs.Prelude.{[], Option, Some, None, if◌then◌else◌}
 use Rattle.gql_source.specs.Span.{Span}
 use Rattle.gql_response.specs.declared.graphql_error.GraphQLError.{GraphQLError}
 use Rattle.gql_response.specs.ErrorAt.{error_at}
-use Rattle.gql_diag.specs.RequestFault.{suspected_bug}
+use Rattle.gql_response.specs.RequestFault.{suspected_bug}
 use Rattle.gql_exec_places.specs.Resolved.{Misfit, Fault, Outcome, answered, refused}
 use Rattle.gql_exec_places.specs.World.{World}
 use Rattle.gql_exec_places.specs.Trail.{path_of}

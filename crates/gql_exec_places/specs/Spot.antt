@@ -1,6 +1,6 @@
 -- Where a place is, and from where its null goes outward: sections 6.4.3 and 6.4.4 of GraphQL October 2021.
 use Rattle.std.specs.Prelude.{ℕ, ◌∷◌}
-use Rattle.gql_ast_values.specs.declared.type_ref.TypeRef.{TypeRef}
+use Rattle.gql_ast_base.specs.declared.type_ref.TypeRef.{TypeRef}
 use Rattle.gql_response.specs.declared.path.ResponseDataPathSegment.TheVariants.{Field, ListIndex}
 use Rattle.gql_exec_places.specs.Types.{item_type}
 use Rattle.gql_exec_places.specs.Resolved.{Meaning, gives_leaf, gives_object, gives_list, gives_skip, fails_with, Outcome, answered, refused}

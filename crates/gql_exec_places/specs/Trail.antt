@@ -1,9 +1,9 @@
 -- Paths of a response, and which place around one holds a null: sections 6.4.4 and 7.1.2 of GraphQL October 2021.
 use Rattle.std.specs.Prelude.{List, [], ◌∷◌, ◌++◌, map, Option, Some, None, if◌then◌else◌}
-use Rattle.gql_ast_values.specs.declared.type_ref.TypeRef.{TypeRef}
+use Rattle.gql_ast_base.specs.declared.type_ref.TypeRef.{TypeRef}
 use Rattle.gql_response.specs.declared.path.ResponseDataPathSegment.{ResponseDataPathSegment}
 use Rattle.gql_response.specs.Held.{unplaced_segment}
-use Rattle.gql_ast_values.specs.TypeParts.{is_non_null}
+use Rattle.gql_ast_base.specs.TypeParts.{is_non_null}
 
 abbrev pub Segment : Type 0
 Segment = ResponseDataPathSegment

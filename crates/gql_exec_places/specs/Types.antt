@@ -1,6 +1,6 @@
 -- The types of items: section 3.11 of GraphQL October 2021.
-use Rattle.gql_ast_values.specs.declared.type_ref.TypeRef.{TypeRef, out-TypeRef}
-use Rattle.gql_ast_values.specs.declared.type_ref.TypeRef.TheOpen.{TypeRef-F}
+use Rattle.gql_ast_base.specs.declared.type_ref.TypeRef.{TypeRef, out-TypeRef}
+use Rattle.gql_ast_base.specs.declared.type_ref.TypeRef.TheOpen.{TypeRef-F}
 
 abbrev pub item_level : TypeRef → TypeRef-F TypeRef → TypeRef
 item_level ty (TypeRef-F.Named name) = ty

@@ -5,11 +5,11 @@ use Rattle.std.specs.Str.{bytes_eq}
 use Rattle.std.specs.Map.{lookup}
 use Rattle.jb_tree.specs.declared.value.Value.{Value as JsonValue, Bool as JsonBool}
 use Rattle.gql_ast_base.specs.Names.{Named}
-use Rattle.gql_ast_values.specs.declared.directive.Argument.{Argument}
-use Rattle.gql_ast_values.specs.declared.directive.Directive.{Directive}
-use Rattle.gql_ast_values.specs.declared.value.Value.{Value}
-use Rattle.gql_ast_values.specs.declared.value.ValueKind.{ValueKind, out-ValueKind}
-use Rattle.gql_ast_values.specs.declared.value.ValueKind.TheOpen.{ValueKind-F}
+use Rattle.gql_ast_base.specs.declared.directive.Argument.{Argument}
+use Rattle.gql_ast_base.specs.declared.directive.Directive.{Directive}
+use Rattle.gql_ast_base.specs.declared.value.Value.{Value}
+use Rattle.gql_ast_base.specs.declared.value.ValueKind.{ValueKind, out-ValueKind}
+use Rattle.gql_ast_base.specs.declared.value.ValueKind.TheOpen.{ValueKind-F}
 use Rattle.gql_schema_types.specs.Entries.{entry}
 
 -- the values of an operation's variables, by their names

@@ -1,6 +1,6 @@
 -- When and how too great a depth is told.
 use Rattle.std.specs.Prelude.{◌≡◌, ◌≤◌, List, false, Some, codes}
-use Rattle.gql_diag.specs.declared.request_error.RequestError.{RequestError}
+use Rattle.gql_response.specs.declared.request_error.RequestError.{RequestError}
 use Rattle.gql_document_types.specs.declared.fragment.Fragment.{Fragment}
 use Rattle.gql_document_types.specs.declared.selection.Selection.{Selection}
 use Rattle.gql_exec_plan.specs.DepthPlace.{depth_place}

@@ -3,7 +3,7 @@ use Rattle.std.specs.Prelude.{true, false}
 use Rattle.gql_coerce.specs.declared.fault.CoercionFault.{CoercionFault}
 use Rattle.gql_coerce.specs.declared.told.InputCoercionError.{InputCoercionError}
 use Rattle.gql_coerce.specs.declared.told.InputCoercionError.TheVariants.{SuspectedValidationBug, ValueError}
-use Rattle.gql_diag.specs.declared.request_error.RequestError.{RequestError}
+use Rattle.gql_response.specs.declared.request_error.RequestError.{RequestError}
 
 -- with the same message, place and mark
 abbrev pub request_error : CoercionFault → RequestError

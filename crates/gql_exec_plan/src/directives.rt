@@ -5,7 +5,7 @@ ghost use Rattle.std.specs.Option.{option_copied, option_and_then};
 ghost use Rattle.gql_schema_types.specs.Entries.{entry};
 ghost use Rattle.gql_exec_plan.specs.Kept as spec;
 
-use gql_ast_values::{Argument, Directive, Value as Literal, ValueKind};
+use gql_ast_base::{Argument, Directive, Value as Literal, ValueKind};
 use jb_tree::{Map, Value};
 
 /// Whether a selection with these directives is kept (GraphQL October 2021, section 6.3.2): it is not where the `if` of

@@ -14,10 +14,18 @@ use jb_text::{Listed, Memory};
 use std::alloc::Global;
 
 /// The fields of one response key, in order, each once (GraphQL October 2021, section 6.3.2), and the first of them.
-#[derive(Drop)]
 pub struct Group<'d> {
     pub first: &'d Field,
     pub fields: Listed<&'d Field>,
+}
+
+impl Drop for Group<'_> {
+    fn drop(self) {
+        let Group {
+            first: _,
+            fields: _,
+        } = self;
+    }
 }
 
 impl<'d> Group<'d> {

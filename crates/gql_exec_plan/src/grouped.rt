@@ -23,8 +23,8 @@ pub struct Grouped<'d> {
 impl<'d> Model for Grouped<'d> {
     ghost use Rattle.std.specs.Prelude.{List};
     ghost use Rattle.std.specs.Coded.{codes};
-    ghost use Rattle.gql_ast_values.specs.contracts.type_ref.TypeRef as ty;
-    ghost use Rattle.gql_ast_values.specs.contracts.value.ValueKind as value;
+    ghost use Rattle.gql_ast_base.specs.contracts.type_ref.TypeRef as ty;
+    ghost use Rattle.gql_ast_base.specs.contracts.value.ValueKind as value;
     ghost use Rattle.gql_document_types.specs.contracts.selection.Selection as selection;
     ghost use Rattle.gql_exec_plan.specs.declared.group.Group.{Group};
 

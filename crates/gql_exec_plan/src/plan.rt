@@ -9,19 +9,34 @@ use jb_text::Listed;
 use std::alloc::Global;
 
 /// What is selected on the objects of one type below a group: the parts in order.
-#[derive(Drop)]
 #[cycle(plan)]
 pub struct Node<'d> {
     pub object_type: &'d ObjectType,
     pub parts: Listed<Part<'d>>,
 }
 
+impl Drop for Node<'_> {
+    #[cycle(drop_nodes)]
+    fn drop(self) {
+        let Node {
+            object_type: _,
+            parts: _,
+        } = self;
+    }
+}
+
 /// What is asked by a group, and the nodes of the objects that its field has led to so far, one for each of their types.
-#[derive(Drop)]
 #[cycle(plan)]
 pub struct Part<'d> {
     pub field: PlannedField<'d>,
     pub nodes: Listed<Node<'d>>,
+}
+
+impl Drop for Part<'_> {
+    #[cycle(drop_nodes)]
+    fn drop(self) {
+        let Part { field: _, nodes: _ } = self;
+    }
 }
 
 impl<'d> Node<'d> {

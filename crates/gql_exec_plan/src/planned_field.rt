@@ -15,7 +15,6 @@ use jb_text::{Memory, Refused};
 use std::alloc::AllocError;
 
 /// A group that was collected on an object type, and what each object of the type asks by its first field.
-#[derive(Drop)]
 pub struct PlannedField<'d> {
     pub group: Group<'d>,
     /// The definition of the field on the type.
@@ -25,6 +24,17 @@ pub struct PlannedField<'d> {
     /// The coerced arguments of the field, or the fault of the first that fails. Where they are too large to be kept, they are
     /// coerced for each object.
     pub arguments: Option<Result<JsonMap, ArgumentFault>>,
+}
+
+impl Drop for PlannedField<'_> {
+    fn drop(self) {
+        let PlannedField {
+            group: _,
+            definition: _,
+            named: _,
+            arguments: _,
+        } = self;
+    }
 }
 
 impl<'d> Planner<'d> {

@@ -3,7 +3,7 @@ use Rattle.std.proofs.Common.{◌≡◌, ℕ, zero, suc, ◌+◌, Bool, true, fa
 use Rattle.std.specs.Str.{bytes_eq}
 use Rattle.jb_tree.specs.declared.value.Value.{Value}
 use Rattle.jb_tree.specs.declared.value.Value.TheVariants as json
-use Rattle.gql_ast_values.specs.declared.type_ref.TypeRef.{TypeRef}
+use Rattle.gql_ast_base.specs.declared.type_ref.TypeRef.{TypeRef}
 use Rattle.gql_coerce.specs.declared.told.ArgumentFault.{ArgumentFault}
 use Rattle.gql_document_types.specs.declared.fragment.Fragment.{Fragment}
 use Rattle.gql_document_types.specs.declared.selection.Field.{Field}

@@ -13,11 +13,11 @@ use Rattle.gql_exec_plan.specs.declared.plan.Part.{Part}
 use Rattle.gql_exec_plan.proofs.Joined.{all-of, map-one, one-joined, apart-map, apart-joined}
 use Rattle.gql_exec_plan.proofs.Nodes.{IsNodeTo, HasNodesTo}
 use Rattle.gql_exec_world.specs.RequestWorld.{plain_world}
-use Rattle.gql_exec_request.specs.Executing.{request_of}
-use Rattle.gql_exec_request.specs.Planning.{ground_in}
-use Rattle.gql_exec_request.specs.declared.executing.Executing.{Executing}
-use Rattle.gql_exec_request.proofs.Collecting.{views-apart}
-use Rattle.gql_exec_request.proofs.Views.{views}
+use Rattle.gql_exec_fields.specs.Executing.{request_of}
+use Rattle.gql_exec_fields.specs.Planning.{ground_in}
+use Rattle.gql_exec_fields.specs.declared.executing.Executing.{Executing}
+use Rattle.gql_exec_fields.proofs.Collecting.{views-apart}
+use Rattle.gql_exec_fields.proofs.Views.{views}
 
 all-in : {A : Type 0} (P : A → Type 0) (xs : List A) (x : A) → AllByRecursion P xs → IsOneOf x xs → P x
 all-in P [] x all is = absurd is

@@ -2,17 +2,17 @@
 use Rattle.std.proofs.Common.{◌≡◌, ℕ, List, Option, Some, None, Bool, true, false, Result, Ok, Err, sym, ap, ◌∙◌}
 use Rattle.jb_text.specs.declared.refused.Refused.{Refused}
 use Rattle.jb_text.specs.declared.refused.Refused.TheVariants.{Fault, Memory}
-use Rattle.gql_diag.specs.declared.request_error.RequestError.{RequestError}
+use Rattle.gql_response.specs.declared.request_error.RequestError.{RequestError}
 use Rattle.gql_response.specs.declared.execution_response.ExecutionResponse.{ExecutionResponse}
 use Rattle.gql_exec_places.specs.Execute.{Member}
 use Rattle.gql_exec_request.specs.Thing.{of_user, type_of_thing}
 use Rattle.gql_exec_request.specs.ThingMeaning.{Resolving, thing_meaning}
 use Rattle.gql_exec_request.specs.Execution.{Prepared, prepared, AnswersBy, Answers, IsAnswer, Looks, CountsBy, Counts, IsCounted}
-use Rattle.gql_exec_request.specs.Output.{AreWritten, Finds}
+use Rattle.gql_exec_fields.specs.Output.{AreWritten, Finds}
 use Rattle.gql_exec_request.specs.Running.{Runs, RunsBy, RunsOver, response_of}
 use Rattle.gql_exec_request.specs.declared.executed.Executed.{Executed}
 use Rattle.gql_exec_request.specs.declared.execution.Execution.{Execution}
-use Rattle.gql_exec_request.proofs.Outputs.{finds-as}
+use Rattle.gql_exec_fields.proofs.Outputs.{finds-as}
 
 module _ {X : Type 0} (execution : Execution) (types : X → List ℕ) (resolves : Resolving X) (x : X) (before after : ℕ) (wanted : Result Prepared RequestError) where
   answer-counted : (answer : Result ExecutionResponse (Refused RequestError)) → IsCounted execution types resolves x before after wanted answer

@@ -16,14 +16,14 @@ use Rattle.gql_exec_plan.proofs.Nodes.{same-collected}
 use Rattle.gql_exec_plan.proofs.Ways.{fresh-ways}
 use Rattle.gql_exec_world.specs.Group.{Group}
 use Rattle.gql_exec_world.specs.RequestWorld.{plain_world}
-use Rattle.gql_exec_request.specs.Executing.{request_of}
-use Rattle.gql_exec_request.specs.Looks.{AreLooks, PartsGrow}
-use Rattle.gql_exec_request.specs.Opened.{Opens, OpensBy}
-use Rattle.gql_exec_request.specs.Planning.{ground_in}
-use Rattle.gql_exec_request.specs.declared.executing.Executing.{Executing}
+use Rattle.gql_exec_fields.specs.Executing.{request_of}
+use Rattle.gql_exec_fields.specs.Looks.{AreLooks, PartsGrow}
+use Rattle.gql_exec_fields.specs.Opened.{Opens, OpensBy}
+use Rattle.gql_exec_fields.specs.Planning.{ground_in}
+use Rattle.gql_exec_fields.specs.declared.executing.Executing.{Executing}
 use Rattle.gql_exec_request.proofs.Apart.{all-apart}
-use Rattle.gql_exec_request.proofs.Opening.{opens-collected}
-use Rattle.gql_exec_request.proofs.Views.{views}
+use Rattle.gql_exec_fields.proofs.Opening.{opens-collected}
+use Rattle.gql_exec_fields.proofs.Views.{views}
 
 module _ {X : Type 0} (e : Executing) (types : X → List ℕ) (resolves : Resolving X) (U : ObjectType) (x : X) (sets : List (List Selection))
     (alone : sets ≡ e.operation.now.selection_set.selections ∷ []) (before between after : ℕ) (parts now : List Part) (planned : ArePartsOf (ground_in e) U sets parts)

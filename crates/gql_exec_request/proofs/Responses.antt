@@ -22,7 +22,7 @@ use Rattle.gql_exec_world.specs.RequestWorld.{plain_world}
 use Rattle.gql_exec_world.specs.Response.{response_at, IsExecuted, IsExplained}
 use Rattle.gql_exec_world.proofs.Lawful.{lawful}
 use Rattle.gql_exec_world.proofs.Nests.{suffices}
-use Rattle.gql_exec_request.specs.Executed.{Executes}
+use Rattle.gql_exec_fields.specs.Executed.{Executes}
 use Rattle.gql_rules_graph_laws.specs.Ranks.{IsRanked}
 
 -- ranks of a graph of spreads are those of the fragments

@@ -6,7 +6,7 @@ use Rattle.jb_text.specs.declared.refused.Refused.{Refused}
 use Rattle.jb_text.specs.declared.refused.Refused.TheVariants.{Fault, Memory}
 use Rattle.gql_coerce.specs.Outcome.{told_as}
 use Rattle.gql_coerce.specs.Variables.{coerced_variables}
-use Rattle.gql_diag.specs.declared.request_error.RequestError.{RequestError}
+use Rattle.gql_response.specs.declared.request_error.RequestError.{RequestError}
 use Rattle.gql_document_types.specs.ChosenOperation.{chosen, why_none, refusal, IsChosen}
 use Rattle.gql_document_types.specs.declared.document.ExecutableDocument.{ExecutableDocument}
 use Rattle.gql_document_types.specs.declared.operation.Operation.{Operation}
@@ -20,8 +20,8 @@ use Rattle.gql_exec_request.specs.Thing.{of_user, type_of_thing}
 use Rattle.gql_exec_request.specs.ThingMeaning.{Resolving, thing_meaning}
 use Rattle.gql_exec_world.specs.Request.{Members, Request}
 use Rattle.gql_exec_world.specs.Response.{IsExecuted, IsExplained}
-use Rattle.gql_exec_request.specs.Executing.{request_by}
-use Rattle.gql_exec_request.specs.Looks.{AreLooks}
+use Rattle.gql_exec_fields.specs.Executing.{request_by}
+use Rattle.gql_exec_fields.specs.Looks.{AreLooks}
 use Rattle.gql_exec_request.specs.declared.execution.Execution.{Execution}
 use Rattle.gql_exec_request.specs.declared.execution.Given.{Given}
 use Rattle.gql_exec_request.specs.declared.execution.Given.TheVariants.{Nothing, Coerced, Raw}

@@ -4,15 +4,6 @@ pub mod ThingMeaning
 pub mod Request
 pub mod Restricted
 pub mod Seen
-pub mod Trails
-pub mod Executing
-pub mod Planning
-pub mod Opened
-pub mod Looks
-pub mod Asking
-pub mod Output
-pub mod Written
-pub mod Executed
 pub mod Execution
 pub mod Running
 pub mod Partial

@@ -2,14 +2,14 @@
 use Rattle.std.specs.Prelude.{◌≡◌, ℕ, List, Option, Bool, true, false, Result, Ok, Err}
 use Rattle.jb_text.specs.declared.refused.Refused.{Refused}
 use Rattle.jb_print.specs.Compact.{compact}
-use Rattle.gql_diag.specs.declared.request_error.RequestError.{RequestError}
+use Rattle.gql_response.specs.declared.request_error.RequestError.{RequestError}
 use Rattle.gql_response.specs.Response.{data_value}
 use Rattle.gql_response.specs.declared.execution_response.ExecutionResponse.{ExecutionResponse}
 use Rattle.gql_exec_request.specs.Thing.{of_user, type_of_thing}
 use Rattle.gql_exec_request.specs.ThingMeaning.{Resolving, thing_meaning}
 use Rattle.gql_exec_places.specs.Execute.{Member}
 use Rattle.gql_exec_request.specs.Execution.{Prepared, prepared, Answers, Counts, IsCounted}
-use Rattle.gql_exec_request.specs.Output.{Finds}
+use Rattle.gql_exec_fields.specs.Output.{Finds}
 use Rattle.gql_exec_request.specs.declared.executed.Executed.{Executed}
 use Rattle.gql_exec_request.specs.declared.execution.Execution.{Execution}
 use Rattle.gql_exec_request.specs.declared.written_response.WrittenResponse.{WrittenResponse}

@@ -9,12 +9,9 @@ use Rattle.gql_schema_types.specs.declared.types.ObjectType.{ObjectType}
 use Rattle.gql_exec_meta.specs.Meta.{Meta}
 use Rattle.gql_exec_meta.specs.MetaMeaning.{meta_meaning}
 use Rattle.gql_exec_meta.specs.RootFields.{schema_field_meaning, type_field_meaning}
+pub use Rattle.gql_exec_fields.specs.Executing.{Resolving}
 use Rattle.gql_exec_request.specs.Mapped.{mapped}
 use Rattle.gql_exec_request.specs.Thing.{Thing, of_user, of_library, schema_of_thing}
-
--- what resolvers answer: a matter of schema, object type, object, name and arguments
-abbrev pub Resolving : Type 0 → Type 0
-Resolving X = Schema → ObjectType → X → List ℕ → Members → Meaning X
 
 -- `__schema` or `__type`
 abbrev pub root_meaning : Schema → List ℕ → Members → Meaning Meta

@@ -8,11 +8,10 @@ ghost use Rattle.gql_exec_request.specs.Running.{AnswersWritten};
 ghost use Rattle.gql_exec_request.specs.declared.execution.Given.TheVariants as given;
 ghost use Rattle.gql_rules_graph.specs.Cycles.{IsOnCycle};
 
-use crate::text_output::TextOutput;
-use crate::tree_output::TreeOutput;
 use crate::written_response::{WrittenResponse, written};
 use gql_diag::{JsonMap, RequestError, Valid};
 use gql_document_types::{ExecutableDocument, Operation};
+use gql_exec_fields::{TextOutput, TreeOutput};
 use gql_exec_resolve::ObjectValue;
 use gql_exec_steps::Steps;
 use gql_response::ExecutionResponse;

@@ -4,18 +4,17 @@ ghost use Rattle.std.specs.Prelude.{◌≡◌};
 ghost use Rattle.gql_exec_meta.specs.Seen.{stands_for};
 ghost use Rattle.gql_exec_resolve.specs.Meaning.{Answers};
 ghost use Rattle.gql_exec_resolve.specs.ResolveInfo.{arguments_of, field_name_of, object_type_of, schema_of};
-ghost use Rattle.gql_exec_world.specs.Asks as spec;
 ghost use Rattle.gql_exec_request.specs.Mapped.{mapped};
 ghost use Rattle.gql_exec_request.specs.Seen.{thing_by};
 ghost use Rattle.gql_exec_request.specs.Thing.{of_library, of_user};
 ghost use Rattle.gql_exec_request.specs.ThingMeaning.{own_meaning, root_meaning};
-ghost use Rattle.gql_schema_types.specs.Schemas as schemas;
 
 use crate::standing::{Standing, answer};
 use gql_diag::Valid;
+use gql_exec_fields::is_introspection;
 use gql_exec_meta::{MetaObject, schema_field, type_field};
 use gql_exec_resolve::{ObjectValue, ResolveError, ResolveInfo, ResolvedValue};
-use gql_schema_types::{ObjectType, Schema};
+use gql_schema_types::Schema;
 use std::alloc::Global;
 
 /// A user's object or one of introspection, asked under a schema (GraphQL October 2021, section 4).
@@ -205,23 +204,5 @@ fn tells<'a>(
         Ok(schema_field(schema))
     } else {
         type_field(alloc, schema, info.arguments())
-    }
-}
-
-/// Whether the field of this name on this type tells of the schema (GraphQL October 2021, section 4.2).
-#[must_use]
-pub(crate) fn is_introspection(schema: &Schema, object_type: &ObjectType, name: &str) -> bool
-    ensures { result ≡ spec.is_introspection schema.now object_type.now name.now }
-{
-    (name == "__schema" || name == "__type") && is_query_root(schema, object_type.name.as_str())
-}
-
-/// Whether this is the name of the root type of queries.
-fn is_query_root(schema: &Schema, name: &str) -> bool
-    ensures { result ≡ schemas.is_query_root schema.now.schema_definition name.now }
-{
-    match &schema.schema_definition.query {
-        Some(root) => name == root.as_str(),
-        None => false,
     }
 }

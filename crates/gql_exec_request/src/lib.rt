@@ -9,23 +9,13 @@
 //! `__type`, and any other field as the object that it stands for.
 #![tactic(auto)]
 
-mod asking;
-mod completed;
 mod executed;
-mod executing;
 mod execution;
-mod faults;
-mod ground;
 mod introspected;
 pub mod laws;
-mod output;
 mod partial;
-mod path;
-mod place;
 mod running;
 mod standing;
-mod text_output;
-mod tree_output;
 mod written_response;
 
 pub use execution::Execution;

@@ -3,13 +3,12 @@
 ghost use Rattle.std.specs.Prelude.{◌≡◌, [], List, Option, IfOk};
 ghost use Rattle.jb_print.specs.Compact.{compact};
 ghost use Rattle.gql_exec_places.specs.Execute.{Member};
-ghost use Rattle.gql_exec_request.specs.Output.{AreWritten};
-ghost use Rattle.gql_exec_request.specs.Written.{IsOpenObject};
+ghost use Rattle.gql_exec_fields.specs.Output.{AreWritten};
+ghost use Rattle.gql_exec_fields.specs.Written.{IsOpenObject};
 ghost use Rattle.gql_response.specs.Response.{data_value};
 
 use crate::executed::Executed;
-use crate::output::Output;
-use crate::text_output::{OpenObject, TextOutput};
+use gql_exec_fields::{OpenObject, Output, TextOutput};
 use gql_response::GraphQLError;
 use jb_text::{Listed, Memory, Text};
 use jb_tree::Value;

@@ -1,9 +1,9 @@
 -- How many lists are inside one another in a type.
 use Rattle.std.proofs.Common.{◌≡◌, ℕ, suc, true, false, Some, None, is_some, refl, ap, ◌∙◌}
-use Rattle.gql_ast_values.specs.declared.type_ref.TypeRef.{TypeRef, fold-TypeRef, out-TypeRef, fold_out-TypeRef}
-use Rattle.gql_ast_values.specs.declared.type_ref.TypeRef as ref
-use Rattle.gql_ast_values.specs.declared.type_ref.TypeRef.TheOpen.{TypeRef-F}
-use Rattle.gql_ast_values.specs.TypeParts.{item_type, item_level}
+use Rattle.gql_ast_base.specs.declared.type_ref.TypeRef.{TypeRef, fold-TypeRef, out-TypeRef, fold_out-TypeRef}
+use Rattle.gql_ast_base.specs.declared.type_ref.TypeRef as ref
+use Rattle.gql_ast_base.specs.declared.type_ref.TypeRef.TheOpen.{TypeRef-F}
+use Rattle.gql_ast_base.specs.TypeParts.{item_type, item_level}
 use Rattle.gql_exec_resolve.specs.Lists.{is_list}
 use Rattle.gql_exec_places.specs.Types as places
 

@@ -5,9 +5,9 @@ use Rattle.std.specs.Str.{bytes_eq}
 use Rattle.jb_tree.specs.declared.value.Value.{Value}
 use Rattle.jb_tree.specs.Value.{is_null, whole_number}
 use Rattle.gql_ast_base.specs.Names.{Named}
-use Rattle.gql_ast_values.specs.declared.type_ref.TypeRef.{TypeRef}
+use Rattle.gql_ast_base.specs.declared.type_ref.TypeRef.{TypeRef}
 use Rattle.gql_ast_definitions.specs.declared.field_definition.EnumValueDefinition.{EnumValueDefinition}
-use Rattle.gql_ast_values.specs.TypeParts.{named_type, is_non_null}
+use Rattle.gql_ast_base.specs.TypeParts.{named_type, is_non_null}
 use Rattle.gql_schema_types.specs.Schemas.{object_of, type_named}
 use Rattle.gql_schema_types.specs.declared.schema.Schema.{Schema}
 use Rattle.gql_schema_types.specs.declared.types.ExtendedType.{ExtendedType}

@@ -2,7 +2,7 @@
 use Rattle.std.specs.Prelude.{ℕ, List, ◌++◌, codes}
 use Rattle.jb_tree.specs.declared.value.Value.{Value}
 use Rattle.jb_print.specs.Compact.{compact}
-use Rattle.gql_ast_values.specs.declared.type_ref.TypeRef.{TypeRef}
+use Rattle.gql_ast_base.specs.declared.type_ref.TypeRef.{TypeRef}
 use Rattle.gql_ast.specs.TypeText.{type_text}
 
 abbrev pub resolver_error : List ℕ → List ℕ

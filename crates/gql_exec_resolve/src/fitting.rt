@@ -11,8 +11,7 @@ use crate::messages::{
     object_not_defined, other_at_list, other_object, undefined_type,
 };
 use crate::misfit::{Misfit, refuse, suspect, wrong};
-use gql_ast_base::Name;
-use gql_ast_values::TypeRef;
+use gql_ast_base::{Name, TypeRef};
 use gql_schema_types::{ExtendedType, ObjectType, Schema};
 use jb_text::{Listed, Memory, Refused};
 use std::alloc::Global;

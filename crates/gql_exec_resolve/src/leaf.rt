@@ -10,7 +10,7 @@ use crate::messages::{
 };
 use crate::misfit::{Misfit, bug, wrong};
 use crate::scalar::{enum_misfit, scalar_misfit};
-use gql_ast_values::TypeRef;
+use gql_ast_base::TypeRef;
 use gql_schema_types::ExtendedType;
 use jb_text::Memory;
 use jb_tree::Value;

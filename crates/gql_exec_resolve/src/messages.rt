@@ -4,7 +4,7 @@ ghost use Rattle.std.specs.Prelude.{◌≡◌, IfOk};
 ghost use Rattle.gql_exec_resolve.specs.Messages as spec;
 
 use gql_ast::print_type;
-use gql_ast_values::TypeRef;
+use gql_ast_base::TypeRef;
 use jb_print::to_text;
 use jb_text::{Memory, Text};
 use jb_tree::Value;

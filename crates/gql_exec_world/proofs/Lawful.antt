@@ -7,8 +7,8 @@ use Rattle.std.proofs.lemmas.Slice.Eq.{bytes_eq-Decides}
 use Rattle.jb_tree.specs.declared.value.Value.{Value, the_lemmas}
 use Rattle.jb_tree.specs.declared.value.Value.TheVariants as json
 use Rattle.jb_tree.specs.Value.{is_null}
-use Rattle.gql_ast_values.specs.declared.type_ref.TypeRef.{TypeRef}
-use Rattle.gql_ast_values.specs.TypeParts.{named_type}
+use Rattle.gql_ast_base.specs.declared.type_ref.TypeRef.{TypeRef}
+use Rattle.gql_ast_base.specs.TypeParts.{named_type}
 use Rattle.gql_document_types.specs.declared.selection.Field.{Field}
 use Rattle.gql_document_types.specs.declared.selection.Selection.{Selection}
 use Rattle.gql_schema_types.specs.Schemas.{object_of}
@@ -24,7 +24,7 @@ use Rattle.gql_exec_plan.specs.Flat.{flat_sets}
 use Rattle.gql_exec_plan.specs.Groups.{response_key, has_key, keys, FieldGroup, group_at, groups_of, is_defined, applying}
 use Rattle.gql_exec_plan.proofs.Keys.{Text, has, text-same, text-itself, AreDistinct, are-distinct}
 use Rattle.gql_exec_places.specs.Resolved.{Misfit, gives_leaf, gives_object, fails_with}
-use Rattle.gql_ast_values.specs.TypeParts.{is_non_null}
+use Rattle.gql_ast_base.specs.TypeParts.{is_non_null}
 use Rattle.gql_exec_places.specs.World.{World, key_of, DistinctKeys, IsLawful}
 use Rattle.gql_exec_world.specs.Group.{Group, started, groups_from}
 use Rattle.gql_exec_world.specs.Request.{Request}

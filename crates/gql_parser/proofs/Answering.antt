@@ -15,10 +15,10 @@ use Rattle.gql_cst.specs.Sentences.{root_kind}
 use Rattle.gql_cst_laws.specs.TreeOf.{IsTreeOf}
 use Rattle.gql_ast.specs.declared.document.Document.{Document}
 use Rattle.gql_ast.specs.Documents.{definitions}
-use Rattle.gql_ast_values.specs.declared.type_ref.TypeRef.{TypeRef}
-use Rattle.gql_ast_values.specs.Types.{type_of}
-use Rattle.gql_ast_operations.specs.declared.selection.Selection.{Selection}
-use Rattle.gql_ast_operations.specs.Selections.{selected, selections}
+use Rattle.gql_ast_base.specs.declared.type_ref.TypeRef.{TypeRef}
+use Rattle.gql_ast_base.specs.Types.{type_of}
+use Rattle.gql_ast_definitions.specs.declared.selection.Selection.{Selection}
+use Rattle.gql_ast_definitions.specs.Selections.{selected, selections}
 use Rattle.gql_ast_laws.specs.Meant.{IsDocumentOf, AreSelectionsOf, IsTypeOf}
 use Rattle.gql_diag.specs.List.{Diagnostics}
 use Rattle.gql_diag.specs.declared.valid.WithErrors.{WithErrors}

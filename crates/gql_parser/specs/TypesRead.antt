@@ -6,8 +6,8 @@ use Rattle.gql_cst_lexer.specs.declared.error.CstError.{CstError}
 use Rattle.gql_cst_grammar.specs.declared.rule.Rule.TheVariants.{TypeReference}
 use Rattle.gql_cst.specs.declared.limits.Parsed.{Parsed}
 use Rattle.gql_cst.specs.Forest.{plain}
-use Rattle.gql_ast_values.specs.declared.type_ref.TypeRef.{TypeRef}
-use Rattle.gql_ast_values.specs.Types.{type_of}
+use Rattle.gql_ast_base.specs.declared.type_ref.TypeRef.{TypeRef}
+use Rattle.gql_ast_base.specs.Types.{type_of}
 use Rattle.gql_ast_laws.specs.Meant.{IsTypeOf}
 use Rattle.gql_diag.specs.List.{Diagnostics}
 use Rattle.gql_parser.specs.Parsers.{ParserState, Given}

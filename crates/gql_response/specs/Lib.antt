@@ -4,3 +4,4 @@ pub mod Puts
 pub mod Reading
 pub mod Held
 pub mod Same
+pub mod RequestFault

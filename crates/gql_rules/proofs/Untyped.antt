@@ -1,10 +1,10 @@
 -- What selections become, one by one.
 use Rattle.std.proofs.Common.{rules, ◌≡◌}
-use Rattle.gql_ast_operations.specs.declared.selection.Field.{Field}
-use Rattle.gql_ast_operations.specs.declared.selection.FragmentSpread.{FragmentSpread}
-use Rattle.gql_ast_operations.specs.declared.selection.InlineFragment.{InlineFragment}
-use Rattle.gql_ast_operations.specs.declared.selection.Selection.{the_lemmas}
-use Rattle.gql_ast_operations.specs.declared.selection.Selection.TheVariants as selection
+use Rattle.gql_ast_definitions.specs.declared.selection.Field.{Field}
+use Rattle.gql_ast_definitions.specs.declared.selection.FragmentSpread.{FragmentSpread}
+use Rattle.gql_ast_definitions.specs.declared.selection.InlineFragment.{InlineFragment}
+use Rattle.gql_ast_definitions.specs.declared.selection.Selection.{the_lemmas}
+use Rattle.gql_ast_definitions.specs.declared.selection.Selection.TheVariants as selection
 use Rattle.gql_document_types.specs.declared.selection.Selection.TheVariants as built
 use Rattle.gql_rules.specs.UntypedSelections.{untyped_selection, untyped_field, untyped_inline, spread_of}
 

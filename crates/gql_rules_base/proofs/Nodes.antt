@@ -4,13 +4,13 @@ use Rattle.std.specs.List.{flat_map}
 use Rattle.std.specs.Option.{option_and_then}
 use Rattle.std.proofs.lemmas.List.{append-nil}
 use Rattle.gql_ast_base.specs.Names.{Named}
-use Rattle.gql_ast_values.specs.declared.type_ref.TypeRef.{TypeRef}
-use Rattle.gql_ast_values.specs.declared.value.Value.{Value}
-use Rattle.gql_ast_values.specs.declared.value.ValueKind.{ValueKind, out-ValueKind, List as ListKind, Object as ObjectKind, the_lemmas}
-use Rattle.gql_ast_values.specs.declared.value.ValueKind.TheOpen.{ValueKind-F}
-use Rattle.gql_ast_values.specs.declared.value.ValueKind.TheVariants as kind
+use Rattle.gql_ast_base.specs.declared.type_ref.TypeRef.{TypeRef}
+use Rattle.gql_ast_base.specs.declared.value.Value.{Value}
+use Rattle.gql_ast_base.specs.declared.value.ValueKind.{ValueKind, out-ValueKind, List as ListKind, Object as ObjectKind, the_lemmas}
+use Rattle.gql_ast_base.specs.declared.value.ValueKind.TheOpen.{ValueKind-F}
+use Rattle.gql_ast_base.specs.declared.value.ValueKind.TheVariants as kind
 use Rattle.gql_diag_messages.specs.declared.diagnostic_data.DiagnosticData.{DiagnosticData}
-use Rattle.gql_ast_values.specs.TypeParts.{item_type}
+use Rattle.gql_ast_base.specs.TypeParts.{item_type}
 use Rattle.gql_rules_base.specs.declared.known.Defined.{Defined}
 use Rattle.gql_rules_base.specs.Literals.{node_faults, literal_faults}
 use Rattle.gql_rules_base.specs.Typed.{Typed, Nodes, typed, inside, items_level, members_level, items_of, members_of, of_items, of_members, member_type}

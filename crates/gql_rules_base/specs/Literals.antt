@@ -2,13 +2,13 @@
 use Rattle.std.specs.Prelude.{ℕ, Option, List, [], ◌++◌, if◌then◌else◌}
 use Rattle.std.specs.List.{flat_map}
 use Rattle.std.specs.Option.{option_map_or}
-use Rattle.gql_ast_values.specs.declared.type_ref.TypeRef.{TypeRef}
-use Rattle.gql_ast_values.specs.declared.value.Value.{Value}
-use Rattle.gql_ast_values.specs.declared.value.ValueKind.{ValueKind, out-ValueKind}
-use Rattle.gql_ast_values.specs.declared.value.ValueKind.TheOpen.{ValueKind-F}
+use Rattle.gql_ast_base.specs.declared.type_ref.TypeRef.{TypeRef}
+use Rattle.gql_ast_base.specs.declared.value.Value.{Value}
+use Rattle.gql_ast_base.specs.declared.value.ValueKind.{ValueKind, out-ValueKind}
+use Rattle.gql_ast_base.specs.declared.value.ValueKind.TheOpen.{ValueKind-F}
 use Rattle.gql_diag_messages.specs.declared.diagnostic_data.DiagnosticData.{DiagnosticData}
 use Rattle.gql_rules_base.specs.Known.{is_defined}
-use Rattle.gql_ast_values.specs.TypeParts.{named_type}
+use Rattle.gql_ast_base.specs.TypeParts.{named_type}
 use Rattle.gql_rules_base.specs.declared.known.Defined.{Defined}
 use Rattle.gql_rules_base.specs.IntCoercionError.{int_coercion_error}
 use Rattle.gql_rules_base.specs.RequiredField.{required_fields}

@@ -5,7 +5,7 @@ use Rattle.std.specs.Str.{bytes_eq}
 use Rattle.gql_source.specs.Span.{Span}
 use Rattle.gql_ast_definitions.specs.declared.field_definition.InputValueDefinition.{InputValueDefinition}
 use Rattle.gql_ast.specs.TypeText.{type_text}
-use Rattle.gql_ast_values.specs.declared.directive.Argument.{Argument}
+use Rattle.gql_ast_base.specs.declared.directive.Argument.{Argument}
 use Rattle.gql_diag_messages.specs.declared.rule.Rule.TheVariants.{RequiredArgument}
 use Rattle.gql_diag_messages.specs.declared.diagnostic_data.DiagnosticData.{DiagnosticData}
 use Rattle.gql_rules_base.specs.Faults.{fault, only_if}

@@ -5,7 +5,7 @@ use Rattle.std.specs.Str.{bytes_eq}
 use Rattle.gql_ast_base.specs.Names.{Named}
 use Rattle.gql_ast_definitions.specs.declared.field_definition.InputValueDefinition.{InputValueDefinition}
 use Rattle.gql_ast.specs.TypeText.{type_text}
-use Rattle.gql_ast_values.specs.declared.value.Value.{Value}
+use Rattle.gql_ast_base.specs.declared.value.Value.{Value}
 use Rattle.gql_diag_messages.specs.declared.rule.Rule.TheVariants.{RequiredField}
 use Rattle.gql_diag_messages.specs.declared.diagnostic_data.DiagnosticData.{DiagnosticData}
 use Rattle.gql_rules_base.specs.Faults.{fault, only_if}

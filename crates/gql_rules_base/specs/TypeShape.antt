@@ -1,10 +1,10 @@
 -- The parts of a reference to a type: section 2.11 of GraphQL October 2021.
 use Rattle.std.specs.Prelude.{Bool, ◌&&◌, is_none}
 use Rattle.gql_ast_definitions.specs.declared.field_definition.InputValueDefinition.{InputValueDefinition}
-use Rattle.gql_ast_values.specs.declared.type_ref.TypeRef.{TypeRef, fold-TypeRef}
-use Rattle.gql_ast_values.specs.declared.type_ref.TypeRef.TheOpen.{TypeRef-F}
-use Rattle.gql_ast_values.specs.declared.type_ref.TypeRef.TheVariants as type
-use Rattle.gql_ast_values.specs.TypeParts.{is_non_null}
+use Rattle.gql_ast_base.specs.declared.type_ref.TypeRef.{TypeRef, fold-TypeRef}
+use Rattle.gql_ast_base.specs.declared.type_ref.TypeRef.TheOpen.{TypeRef-F}
+use Rattle.gql_ast_base.specs.declared.type_ref.TypeRef.TheVariants as type
+use Rattle.gql_ast_base.specs.TypeParts.{is_non_null}
 
 abbrev pub single_step : TypeRef-F TypeRef → TypeRef
 single_step (TypeRef-F.Named name) = type.Named name

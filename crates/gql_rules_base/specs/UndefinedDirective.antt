@@ -1,7 +1,7 @@
 -- A directive that is used is defined: section 5.7.1 of GraphQL October 2021. `use_faults` of Directives.antt says where it is
 -- broken.
 use Rattle.std.specs.Prelude.{[], ◌∷◌, None}
-use Rattle.gql_ast_values.specs.declared.directive.Directive.{Directive}
+use Rattle.gql_ast_base.specs.declared.directive.Directive.{Directive}
 use Rattle.gql_diag_messages.specs.declared.rule.Rule.TheVariants.{UndefinedDirective}
 use Rattle.gql_diag_messages.specs.declared.diagnostic_data.DiagnosticData.{DiagnosticData}
 use Rattle.gql_rules_base.specs.Faults.{fault}

@@ -2,7 +2,7 @@
 use Rattle.std.specs.Prelude.{List, Option}
 use Rattle.gql_source.specs.Span.{Span}
 use Rattle.gql_ast_base.specs.Names.{Named}
-use Rattle.gql_ast_values.specs.declared.directive.Argument.{Argument}
+use Rattle.gql_ast_base.specs.declared.directive.Argument.{Argument}
 use Rattle.gql_diag_messages.specs.declared.rule.Rule.TheVariants.{UniqueArgument}
 use Rattle.gql_diag_messages.specs.declared.diagnostic_data.DiagnosticData.{DiagnosticData}
 use Rattle.gql_rules_base.specs.Seconds.{seconds}

@@ -5,7 +5,7 @@ use Rattle.std.specs.Str.{bytes_eq}
 use Rattle.gql_ast_definitions.specs.declared.schema_definition.DirectiveDefinition.{DirectiveDefinition}
 use Rattle.gql_ast_definitions.specs.declared.schema_definition.DirectiveLocation.{DirectiveLocation}
 use Rattle.gql_ast_definitions.specs.declared.schema_definition.DirectiveLocation.TheVariants as at
-use Rattle.gql_ast_values.specs.declared.directive.Directive.{Directive}
+use Rattle.gql_ast_base.specs.declared.directive.Directive.{Directive}
 use Rattle.gql_diag_messages.specs.declared.rule.Rule.TheVariants.{UnsupportedLocation}
 use Rattle.gql_diag_messages.specs.declared.diagnostic_data.DiagnosticData.{DiagnosticData}
 use Rattle.gql_rules_base.specs.Faults.{fault, only_if}

@@ -2,8 +2,8 @@
 use Rattle.std.specs.Prelude.{not, List, [], ◌∷◌, None}
 use Rattle.gql_ast.specs.TypeText.{type_text}
 use Rattle.gql_ast.specs.ValueText.{value_text}
-use Rattle.gql_ast_values.specs.declared.type_ref.TypeRef.{TypeRef}
-use Rattle.gql_ast_values.specs.declared.value.Value.{Value}
+use Rattle.gql_ast_base.specs.declared.type_ref.TypeRef.{TypeRef}
+use Rattle.gql_ast_base.specs.declared.value.Value.{Value}
 use Rattle.gql_diag_messages.specs.declared.rule.Rule.TheVariants.{UnsupportedValueType}
 use Rattle.gql_diag_messages.specs.declared.diagnostic_data.DiagnosticData.{DiagnosticData}
 use Rattle.gql_rules_base.specs.Faults.{fault, only_if}

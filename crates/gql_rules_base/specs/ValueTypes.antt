@@ -2,14 +2,14 @@
 use Rattle.std.specs.Prelude.{ℕ, Bool, true, false, ◌||◌, not, List, Option, Some, None, is_some, if◌then◌else◌, codes}
 use Rattle.std.specs.Option.{option_map_or}
 use Rattle.std.specs.Str.{bytes_eq}
-use Rattle.gql_ast_values.specs.declared.type_ref.TypeRef.{TypeRef}
-use Rattle.gql_ast_values.specs.declared.value.Value.{Value}
-use Rattle.gql_ast_values.specs.declared.value.ValueKind.{ValueKind, out-ValueKind}
-use Rattle.gql_ast_values.specs.declared.value.ValueKind.TheOpen.{ValueKind-F}
+use Rattle.gql_ast_base.specs.declared.type_ref.TypeRef.{TypeRef}
+use Rattle.gql_ast_base.specs.declared.value.Value.{Value}
+use Rattle.gql_ast_base.specs.declared.value.ValueKind.{ValueKind, out-ValueKind}
+use Rattle.gql_ast_base.specs.declared.value.ValueKind.TheOpen.{ValueKind-F}
 use Rattle.gql_schema_types.specs.Types.{type_called}
 use Rattle.gql_schema_types.specs.declared.types.ExtendedType.{ExtendedType}
 use Rattle.gql_schema_types.specs.declared.types.ExtendedType.TheVariants as type
-use Rattle.gql_ast_values.specs.TypeParts.{named_type, item_type, is_non_null}
+use Rattle.gql_ast_base.specs.TypeParts.{named_type, item_type, is_non_null}
 use Rattle.gql_rules_base.specs.declared.value_types.ValueForm.{ValueForm}
 use Rattle.gql_rules_base.specs.declared.value_types.ValueForm.TheVariants as form
 

@@ -6,7 +6,7 @@ ghost use Rattle.gql_schema_types.specs.Types.{type_called};
 ghost use Rattle.gql_rules_base.specs.IntCoercionError as spec;
 
 use crate::fault::list_fault;
-use gql_ast_values::{TypeRef, Value, ValueKind};
+use gql_ast_base::{TypeRef, Value, ValueKind};
 use gql_diag_messages::{DiagnosticData, Rule};
 use gql_schema_types::{ExtendedType, Table};
 use jb_text::{Listed, Memory};

@@ -4,7 +4,7 @@ ghost use Rattle.std.specs.Prelude.{◌≡◌, ◌++◌, ◌∷◌, [], OnOk};
 ghost use Rattle.gql_rules_base.specs.UndefinedDirective.{undefined_directive};
 
 use crate::fault::list_fault;
-use gql_ast_values::Directive;
+use gql_ast_base::Directive;
 use gql_diag_messages::{DiagnosticData, Rule};
 use jb_text::{Listed, Memory};
 use std::alloc::Global;

@@ -5,8 +5,7 @@ ghost use Rattle.gql_schema_types.specs.declared.types.ExtendedType.TheVariants.
 ghost use Rattle.gql_rules_base.specs.UndefinedEnumValue as spec;
 
 use crate::fault::list_fault;
-use gql_ast_base::Name;
-use gql_ast_values::{TypeRef, Value, ValueKind};
+use gql_ast_base::{Name, TypeRef, Value, ValueKind};
 use gql_diag_messages::{DiagnosticData, Rule};
 use gql_schema_types::{EnumType, ExtendedType, Table};
 use jb_text::{Listed, Memory};

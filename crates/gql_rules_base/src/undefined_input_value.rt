@@ -4,8 +4,7 @@ ghost use Rattle.std.specs.Prelude.{◌≡◌, ◌++◌, OnOk};
 ghost use Rattle.gql_rules_base.specs.UndefinedInputValue as spec;
 
 use crate::fault::list_fault;
-use gql_ast_base::Name;
-use gql_ast_values::Value;
+use gql_ast_base::{Name, Value};
 use gql_diag_messages::{DiagnosticData, Rule};
 use gql_schema_types::InputObjectType;
 use jb_text::{Listed, Memory};

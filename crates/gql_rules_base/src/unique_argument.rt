@@ -4,7 +4,7 @@ ghost use Rattle.std.specs.Prelude.{◌≡◌, ◌++◌, OnOk};
 ghost use Rattle.gql_rules_base.specs.UniqueArgument.{unique_argument};
 
 use crate::seconds::{EachCounts, list_seconds};
-use gql_ast_values::Argument;
+use gql_ast_base::Argument;
 use gql_diag_messages::{DiagnosticData, Rule};
 use jb_text::{Listed, Memory};
 use std::alloc::Global;

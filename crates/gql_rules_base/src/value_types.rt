@@ -3,7 +3,7 @@
 ghost use Rattle.std.specs.Prelude.{◌≡◌};
 ghost use Rattle.gql_rules_base.specs.ValueTypes as spec;
 
-use gql_ast_values::{TypeRef, Value, ValueKind};
+use gql_ast_base::{TypeRef, Value, ValueKind};
 use gql_schema_types::{ExtendedType, Table};
 
 /// How a value is written.

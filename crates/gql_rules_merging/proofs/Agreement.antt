@@ -6,7 +6,7 @@ use Rattle.std.specs.Str.{bytes_eq}
 use Rattle.std.proofs.lemmas.Bool.{eqb-true}
 use Rattle.std.proofs.lemmas.List.Elements.{Contains-append_right, Contains-append_cases}
 use Rattle.std.proofs.lemmas.Option.{slice_get_within, slice_get-map}
-use Rattle.gql_ast_values.specs.TypeParts.{named_type}
+use Rattle.gql_ast_base.specs.TypeParts.{named_type}
 use Rattle.gql_rules_graph.proofs.Flooded.{none_contained, same_or_not}
 use Rattle.gql_rules_graph.specs.Graph.{Graph}
 use Rattle.gql_rules_pairs.specs.Explored.{class_of, IsMet, same, other, IsExplored}

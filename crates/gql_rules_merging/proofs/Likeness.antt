@@ -5,8 +5,8 @@ use Rattle.std.specs.Prelude.{nat_le, nat_lt}
 use Rattle.std.specs.Str.{bytes_eq}
 use Rattle.std.proofs.lemmas.Bool.{eqb-true, leb-true, ltb-true}
 use Rattle.std.proofs.lemmas.List.Elements.{Contains-append_right}
-use Rattle.gql_ast_values.specs.declared.directive.Argument.{Argument}
-use Rattle.gql_ast_values.specs.TypeParts.{named_type}
+use Rattle.gql_ast_base.specs.declared.directive.Argument.{Argument}
+use Rattle.gql_ast_base.specs.TypeParts.{named_type}
 use Rattle.gql_rules_graph.proofs.Flooded.{Contains-cons_cases, none_contained}
 use Rattle.gql_rules_graph.proofs.Walks.{from_node}
 use Rattle.gql_rules_graph.specs.Cycles.{Reaches, at_once, along}

@@ -7,10 +7,10 @@ use Rattle.std.specs.Str.{bytes_eq}
 use Rattle.std.proofs.lemmas.Bool.{eqb-true, eq-eqb}
 use Rattle.std.proofs.lemmas.List.Elements.{Contains-append_right}
 use Rattle.gql_ast_base.specs.Names.{Named}
-use Rattle.gql_ast_values.specs.declared.directive.Argument.{Argument}
-use Rattle.gql_ast_values.specs.declared.value.Value.{Value}
-use Rattle.gql_ast_values.specs.declared.value.ValueKind.{ValueKind, roll-ValueKind, out-ValueKind, fold-ValueKind, Null as NullKind, Variable, Int, Float, String as StringKind, Boolean, Enum, List as ListKind, Object as ObjectKind, the_lemmas}
-use Rattle.gql_ast_values.specs.declared.value.ValueKind.TheOpen.{ValueKind-F, Value-F}
+use Rattle.gql_ast_base.specs.declared.directive.Argument.{Argument}
+use Rattle.gql_ast_base.specs.declared.value.Value.{Value}
+use Rattle.gql_ast_base.specs.declared.value.ValueKind.{ValueKind, roll-ValueKind, out-ValueKind, fold-ValueKind, Null as NullKind, Variable, Int, Float, String as StringKind, Boolean, Enum, List as ListKind, Object as ObjectKind, the_lemmas}
+use Rattle.gql_ast_base.specs.declared.value.ValueKind.TheOpen.{ValueKind-F, Value-F}
 use Rattle.gql_rules_graph.proofs.Flooded.{Contains-cons_cases, none_contained}
 use Rattle.gql_rules_merging.proofs.Truths.{both_true, one_text, beq-true, all_at}
 use Rattle.gql_rules_merging.specs.ConflictingFieldArgument.{same_arguments, is_given}

@@ -3,8 +3,8 @@ use Rattle.std.specs.Prelude.{◌≡◌, ℕ, ◌-◌, Bool, true, false, ◌&&�
 use Rattle.std.specs.Prelude.{◌==◌, nat_le, nat_lt, List, [], ◌∷◌, length, Some, slice_get, is_some}
 use Rattle.std.specs.Option.{option_map_or}
 use Rattle.std.specs.Str.{bytes_eq}
-use Rattle.gql_ast_values.specs.declared.directive.Argument.{Argument}
-use Rattle.gql_ast_values.specs.TypeParts.{named_type}
+use Rattle.gql_ast_base.specs.declared.directive.Argument.{Argument}
+use Rattle.gql_ast_base.specs.TypeParts.{named_type}
 use Rattle.gql_rules_pairs.specs.Explored.{class_of}
 use Rattle.gql_rules_pairs.specs.declared.pair.Pair.{Pair}
 use Rattle.gql_schema_types.specs.declared.types.ExtendedType.{ExtendedType}

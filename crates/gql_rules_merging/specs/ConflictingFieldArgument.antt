@@ -4,7 +4,7 @@ use Rattle.std.specs.Prelude.{Bool, not, false, ◌&&◌, ◌==◌, List, [], �
 use Rattle.std.specs.List.{list_all}
 use Rattle.std.specs.Option.{option_map_or}
 use Rattle.gql_ast_base.specs.Names.{Named}
-use Rattle.gql_ast_values.specs.declared.directive.Argument.{Argument}
+use Rattle.gql_ast_base.specs.declared.directive.Argument.{Argument}
 use Rattle.gql_diag_messages.specs.declared.rule.Rule.TheVariants.{ConflictingFieldArgument}
 use Rattle.gql_diag_messages.specs.declared.diagnostic_data.DiagnosticData.{DiagnosticData}
 use Rattle.gql_rules_base.specs.Faults.{fault}

@@ -5,12 +5,12 @@ use Rattle.std.specs.Bool.{beq}
 use Rattle.std.specs.Option.{option_map_or}
 use Rattle.std.specs.Str.{bytes_eq}
 use Rattle.gql_ast.specs.TypeText.{type_text}
-use Rattle.gql_ast_values.specs.declared.type_ref.TypeRef.{TypeRef, fold-TypeRef}
-use Rattle.gql_ast_values.specs.declared.type_ref.TypeRef.TheOpen.{TypeRef-F}
+use Rattle.gql_ast_base.specs.declared.type_ref.TypeRef.{TypeRef, fold-TypeRef}
+use Rattle.gql_ast_base.specs.declared.type_ref.TypeRef.TheOpen.{TypeRef-F}
 use Rattle.gql_diag_messages.specs.declared.rule.Rule.TheVariants.{ConflictingFieldType}
 use Rattle.gql_diag_messages.specs.declared.diagnostic_data.DiagnosticData.{DiagnosticData}
 use Rattle.gql_rules_base.specs.Faults.{fault}
-use Rattle.gql_ast_values.specs.TypeParts.{named_type}
+use Rattle.gql_ast_base.specs.TypeParts.{named_type}
 use Rattle.gql_schema_types.specs.Types.{type_called, is_composite}
 use Rattle.gql_schema_types.specs.declared.types.ExtendedType.{ExtendedType}
 use Rattle.gql_rules_merging.specs.Numbering.{Selected}

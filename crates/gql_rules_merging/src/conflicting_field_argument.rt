@@ -9,7 +9,7 @@ ghost use Rattle.gql_rules_merging.specs.Gathering.{selected_of};
 
 use crate::numbering::Selected;
 use crate::same_value::same_value;
-use gql_ast_values::Argument;
+use gql_ast_base::Argument;
 use gql_diag_messages::{DiagnosticData, Rule};
 use gql_rules_base::list_fault;
 use jb_text::{Listed, Memory};

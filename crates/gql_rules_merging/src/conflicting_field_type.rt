@@ -7,7 +7,7 @@ ghost use Rattle.gql_rules_merging.specs.Gathering.{selected_of};
 
 use crate::numbering::Selected;
 use gql_ast::print_type;
-use gql_ast_values::TypeRef;
+use gql_ast_base::TypeRef;
 use gql_diag_messages::{DiagnosticData, Rule};
 use gql_rules_base::list_fault;
 use gql_schema_types::{ExtendedType, Table};

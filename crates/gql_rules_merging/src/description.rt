@@ -1,8 +1,7 @@
 //! Texts that tell fields apart. Fields that differ in their places alone have one text, whatever the order of their arguments.
 
 use crate::numbering::Selected;
-use gql_ast_base::Name;
-use gql_ast_values::{Argument, Value, ValueKind};
+use gql_ast_base::{Argument, Name, Value, ValueKind};
 use itoa::Buffer;
 use jb_text::Memory;
 use std::alloc::Global;

@@ -13,11 +13,20 @@ use jb_text::{Listed, Memory};
 use std::alloc::Global;
 
 /// A field, with the type of the set that it stands in and what its own set selects.
-#[derive(Drop)]
 pub(crate) struct Selected<'d> {
     pub(crate) parent: &'d Name,
     pub(crate) field: &'d Field,
     pub(crate) items: Listed<usize>,
+}
+
+impl Drop for Selected<'_> {
+    fn drop(self) {
+        let Selected {
+            parent: _,
+            field: _,
+            items: _,
+        } = self;
+    }
 }
 
 impl Selected<'_> {
@@ -34,11 +43,20 @@ impl Selected<'_> {
 
 /// A document's sets of selections, and its fields, each by its number. A set selects fragments by their numbers and fields by
 /// their own numbers behind those of all fragments.
-#[derive(Drop)]
 pub(crate) struct Numbered<'d> {
     pub(crate) fragments: Graph,
     pub(crate) operations: Graph,
     pub(crate) fields: Listed<Selected<'d>>,
+}
+
+impl Drop for Numbered<'_> {
+    fn drop(self) {
+        let Numbered {
+            fragments: _,
+            operations: _,
+            fields: _,
+        } = self;
+    }
 }
 
 /// Numbers the fields of a document: each comes after those that are selected in it. `Err` only when out of memory. The time is

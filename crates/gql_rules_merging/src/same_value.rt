@@ -5,8 +5,7 @@ ghost use Rattle.std.specs.Option.{option_copied};
 ghost use Rattle.gql_rules_merging.specs.SameValue as spec;
 ghost use Rattle.gql_rules_merging.specs.Tests as seen;
 
-use gql_ast_base::Name;
-use gql_ast_values::{Value, ValueKind};
+use gql_ast_base::{Name, Value, ValueKind};
 
 /// Whether two values are the same, but for their places and the order of the keys of objects.
 #[cycle(same)]

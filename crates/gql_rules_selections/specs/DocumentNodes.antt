@@ -8,7 +8,7 @@ use Rattle.gql_ast_base.specs.declared.operation_type.OperationType.{OperationTy
 use Rattle.gql_ast_base.specs.declared.operation_type.OperationType.TheVariants.{Query, Mutation, Subscription}
 use Rattle.gql_ast_definitions.specs.declared.schema_definition.DirectiveLocation.{DirectiveLocation}
 use Rattle.gql_ast_definitions.specs.declared.schema_definition.DirectiveLocation.TheVariants as at
-use Rattle.gql_ast_values.specs.declared.directive.Directive.{Directive}
+use Rattle.gql_ast_base.specs.declared.directive.Directive.{Directive}
 use Rattle.gql_diag_messages.specs.declared.diagnostic_data.DiagnosticData.{DiagnosticData}
 use Rattle.gql_document_types.specs.declared.document.ExecutableDocument.{ExecutableDocument}
 use Rattle.gql_document_types.specs.declared.fragment.Fragment.{Fragment}

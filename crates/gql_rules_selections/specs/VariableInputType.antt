@@ -1,11 +1,11 @@
 -- A variable is of an input type: section 5.8.2 of GraphQL October 2021.
 use Rattle.std.specs.Prelude.{List, [], ◌∷◌, None}
-use Rattle.gql_ast_operations.specs.declared.operation.VariableDefinition.{VariableDefinition}
+use Rattle.gql_ast_definitions.specs.declared.operation.VariableDefinition.{VariableDefinition}
 use Rattle.gql_ast.specs.TypeText.{type_text}
 use Rattle.gql_diag_messages.specs.declared.rule.Rule.TheVariants.{VariableInputType}
 use Rattle.gql_diag_messages.specs.declared.diagnostic_data.DiagnosticData.{DiagnosticData}
 use Rattle.gql_rules_base.specs.Faults.{fault, only_if}
-use Rattle.gql_ast_values.specs.TypeParts.{named_type}
+use Rattle.gql_ast_base.specs.TypeParts.{named_type}
 use Rattle.gql_schema_types.specs.declared.types.ExtendedType.{ExtendedType}
 use Rattle.gql_rules_selections.specs.Composite.{is_composite_name}
 

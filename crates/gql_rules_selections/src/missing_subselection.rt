@@ -8,7 +8,7 @@ ghost use Rattle.gql_rules_selections.specs.MissingSubselection as spec;
 
 use crate::composite::is_composite;
 use gql_ast::print_type;
-use gql_ast_values::TypeRef;
+use gql_ast_base::TypeRef;
 use gql_diag_messages::{DiagnosticData, Rule};
 use gql_document_types::Field;
 use gql_rules_base::list_fault;

@@ -3,7 +3,7 @@
 ghost use Rattle.std.specs.Prelude.{◌≡◌, ◌++◌, OnOk};
 ghost use Rattle.gql_rules_selections.specs.UniqueVariable as spec;
 
-use gql_ast_operations::VariableDefinition;
+use gql_ast_definitions::VariableDefinition;
 use gql_diag_messages::{DiagnosticData, Rule};
 use gql_rules_base::list_fault;
 use gql_source::SourceSpan;

@@ -8,7 +8,7 @@ ghost use Rattle.gql_rules_selections.specs.VariableInputType as spec;
 
 use crate::composite::is_composite;
 use gql_ast::print_type;
-use gql_ast_operations::VariableDefinition;
+use gql_ast_definitions::VariableDefinition;
 use gql_diag_messages::{DiagnosticData, Rule};
 use gql_rules_base::list_fault;
 use gql_schema_types::{ExtendedType, Table};

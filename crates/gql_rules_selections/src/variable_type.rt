@@ -5,7 +5,7 @@ ghost use Rattle.std.specs.Prelude.{◌≡◌, ◌++◌, OnOk};
 ghost use Rattle.gql_rules_selections.specs.VariableType as spec;
 
 use gql_ast_base::Name;
-use gql_ast_operations::VariableDefinition;
+use gql_ast_definitions::VariableDefinition;
 use gql_diag_messages::{DiagnosticData, Rule};
 use gql_rules_base::{Defined, is_defined, list_name};
 use gql_schema_types::{ExtendedType, Table};

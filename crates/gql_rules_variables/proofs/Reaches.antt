@@ -7,8 +7,8 @@ use Rattle.std.proofs.lemmas.Grind.{flat_map-append}
 use Rattle.std.proofs.lemmas.List.{map-append, append-nil}
 use Rattle.std.proofs.lemmas.List.Elements.{All-append, All-cons, All-nil, filter-append}
 use Rattle.std.proofs.lemmas.List.Folds.{flat_map-map, fold-map, list_any-append}
-use Rattle.gql_ast_operations.specs.declared.operation.VariableDefinition.{VariableDefinition}
-use Rattle.gql_ast_values.specs.declared.type_ref.TypeRef.{TypeRef}
+use Rattle.gql_ast_definitions.specs.declared.operation.VariableDefinition.{VariableDefinition}
+use Rattle.gql_ast_base.specs.declared.type_ref.TypeRef.{TypeRef}
 use Rattle.gql_ast.specs.TypeText.{type_text}
 use Rattle.gql_diag_messages.specs.declared.rule.Rule.TheVariants.{DisallowedVariableUsage}
 use Rattle.gql_diag_messages.specs.declared.diagnostic_data.DiagnosticData.{DiagnosticData}

@@ -1,14 +1,14 @@
 -- A variable stands where values of its type may: section 5.8.5 of GraphQL October 2021.
 use Rattle.std.specs.Prelude.{Bool, false, ◌&&◌, not, List, [], ◌∷◌, Option, Some, None, if◌then◌else◌}
 use Rattle.std.specs.Option.{option_and_then, option_map_or}
-use Rattle.gql_ast_operations.specs.declared.operation.VariableDefinition.{VariableDefinition}
+use Rattle.gql_ast_definitions.specs.declared.operation.VariableDefinition.{VariableDefinition}
 use Rattle.gql_ast.specs.TypeText.{type_text}
-use Rattle.gql_ast_values.specs.declared.type_ref.TypeRef.{TypeRef}
+use Rattle.gql_ast_base.specs.declared.type_ref.TypeRef.{TypeRef}
 use Rattle.gql_diag_messages.specs.declared.rule.Rule.TheVariants.{DisallowedVariableUsage}
 use Rattle.gql_diag_messages.specs.declared.diagnostic_data.DiagnosticData.{DiagnosticData}
 use Rattle.gql_rules_base.specs.Faults.{fault}
 use Rattle.gql_rules_base.specs.Known.{is_defined}
-use Rattle.gql_ast_values.specs.TypeParts.{named_type}
+use Rattle.gql_ast_base.specs.TypeParts.{named_type}
 use Rattle.gql_rules_base.specs.declared.known.Defined.TheVariants.{Types}
 use Rattle.gql_rules_variables.specs.TypesInto.{is_allowed}
 use Rattle.gql_rules_variables.specs.UndefinedVariable.{variable_called}

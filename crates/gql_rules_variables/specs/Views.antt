@@ -2,7 +2,7 @@
 use Rattle.std.specs.Prelude.{List, map, Option}
 use Rattle.std.specs.Borrow.{Bor}
 use Rattle.std.specs.Option.{option_copied}
-use Rattle.gql_ast_operations.specs.declared.operation.VariableDefinition.{VariableDefinition}
+use Rattle.gql_ast_definitions.specs.declared.operation.VariableDefinition.{VariableDefinition}
 use Rattle.gql_rules_variables.specs.Judged.{Judged}
 use Rattle.gql_rules_variables.specs.Uses as plain
 use Rattle.gql_rules_variables.specs.declared.judged.JudgedUse.{JudgedUse}

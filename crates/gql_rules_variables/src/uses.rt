@@ -5,9 +5,8 @@ ghost use Rattle.std.specs.Option.{option_copied};
 ghost use Rattle.gql_rules_variables.specs.Uses as spec;
 ghost use Rattle.gql_rules_variables.specs.Views as seen;
 
-use gql_ast_base::Name;
+use gql_ast_base::{Name, TypeRef};
 use gql_ast_definitions::InputValueDefinition;
-use gql_ast_values::TypeRef;
 use gql_schema_types::{ExtendedType, Table};
 use gql_source::SourceSpan;
 

@@ -5,9 +5,8 @@ ghost use Rattle.gql_rules_variables.specs.Uses as spec;
 ghost use Rattle.gql_rules_variables.specs.Views as seen;
 
 use crate::uses::{Place, Use};
-use gql_ast_base::Name;
+use gql_ast_base::{Argument, Directive, Name, Value, ValueKind};
 use gql_ast_definitions::InputValueDefinition;
-use gql_ast_values::{Argument, Directive, Value, ValueKind};
 use gql_rules_base::ByName;
 use gql_schema_types::{ExtendedType, Schema, Table};
 use jb_text::{Listed, Memory};

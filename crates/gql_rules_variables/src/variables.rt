@@ -7,7 +7,7 @@ ghost use Rattle.gql_rules_variables.specs.UndefinedVariable.{variable_name, fir
 ghost use Rattle.gql_rules_variables.specs.Operations.{own_name, definition_of, definitions_of};
 
 use gql_ast_base::Name;
-use gql_ast_operations::VariableDefinition;
+use gql_ast_definitions::VariableDefinition;
 use gql_schema_types::{ExtendedType, Named, Table};
 use jb_text::{Listed, Memory};
 use std::alloc::{AllocError, Global};

@@ -17,11 +17,11 @@ use Rattle.gql_ast_definitions.specs.Extensions.{union_extension_of, enum_extens
 use Rattle.gql_ast_definitions.specs.Fields.{fields, field_of, input_value_of, argument_definitions, enum_values, enum_value_of}
 use Rattle.gql_ast_definitions.specs.Schemas.{directive_definition_of, schema_of, location_word, directive_location_of, directive_locations}
 use Rattle.gql_ast_laws.specs.Meant.{IsDocumentOf}
-use Rattle.gql_ast_operations.specs.Operations.{operation_of, fragment_of}
-use Rattle.gql_ast_operations.specs.Selections.{type_condition}
-use Rattle.gql_ast_values.specs.Directives.{directives, directive_of}
-use Rattle.gql_ast_values.specs.Types.{type_step, form_step}
-use Rattle.gql_ast_values.specs.Values.{literal, simple_content, content_step, member_step, value_step, default_value}
+use Rattle.gql_ast_definitions.specs.Operations.{operation_of, fragment_of}
+use Rattle.gql_ast_definitions.specs.Selections.{type_condition}
+use Rattle.gql_ast_base.specs.Directives.{directives, directive_of}
+use Rattle.gql_ast_base.specs.Types.{type_step, form_step}
+use Rattle.gql_ast_base.specs.Values.{literal, simple_content, content_step, member_step, value_step, default_value}
 use Rattle.gql_cst.specs.Forest.{Forest}
 use Rattle.gql_cst.specs.Sentences.{words, shown}
 use Rattle.gql_cst_grammar.specs.declared.rule.Rule.{Rule}

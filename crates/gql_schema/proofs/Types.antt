@@ -1,9 +1,9 @@
 -- References to types that are not null.
 use Rattle.std.proofs.Common.{◌≡◌, ap, ◌∙◌, rules}
 use Rattle.gql_ast_base.specs.Names.{Named}
-use Rattle.gql_ast_values.specs.declared.type_ref.TypeRef.{TypeRef, List as ListOf, NonNullList, the_lemmas}
-use Rattle.gql_ast_values.specs.declared.type_ref.TypeRef.TheVariants.{Named as NamedType, NonNullNamed}
-use Rattle.gql_ast_values.specs.Types.{non_null}
+use Rattle.gql_ast_base.specs.declared.type_ref.TypeRef.{TypeRef, List as ListOf, NonNullList, the_lemmas}
+use Rattle.gql_ast_base.specs.declared.type_ref.TypeRef.TheVariants.{Named as NamedType, NonNullNamed}
+use Rattle.gql_ast_base.specs.Types.{non_null}
 
 pub required : (name : Named) → NonNullNamed name ≡ non_null (NamedType name)
 required name = search (rules, the_lemmas)

@@ -5,12 +5,12 @@ use Rattle.gql_source.specs.Span.{Span}
 use Rattle.gql_source.specs.declared.file_id.FileId.{FileId}
 use Rattle.gql_ast_base.specs.Names.{Named}
 use Rattle.gql_ast_base.specs.Parts.{Text}
-use Rattle.gql_ast_values.specs.declared.type_ref.TypeRef.{TypeRef, List as ListOf}
-use Rattle.gql_ast_values.specs.declared.type_ref.TypeRef.TheVariants.{Named as NamedType}
-use Rattle.gql_ast_values.specs.Types.{non_null}
-use Rattle.gql_ast_values.specs.declared.value.Value.{Value}
-use Rattle.gql_ast_values.specs.declared.value.ValueKind.{ValueKind}
-use Rattle.gql_ast_values.specs.declared.value.ValueKind.TheVariants.{String, Boolean}
+use Rattle.gql_ast_base.specs.declared.type_ref.TypeRef.{TypeRef, List as ListOf}
+use Rattle.gql_ast_base.specs.declared.type_ref.TypeRef.TheVariants.{Named as NamedType}
+use Rattle.gql_ast_base.specs.Types.{non_null}
+use Rattle.gql_ast_base.specs.declared.value.Value.{Value}
+use Rattle.gql_ast_base.specs.declared.value.ValueKind.{ValueKind}
+use Rattle.gql_ast_base.specs.declared.value.ValueKind.TheVariants.{String, Boolean}
 use Rattle.gql_ast_definitions.specs.declared.field_definition.FieldDefinition.{FieldDefinition}
 use Rattle.gql_ast_definitions.specs.declared.field_definition.InputValueDefinition.{InputValueDefinition}
 use Rattle.gql_ast_definitions.specs.declared.field_definition.EnumValueDefinition.{EnumValueDefinition}

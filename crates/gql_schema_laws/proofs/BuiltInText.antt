@@ -15,8 +15,8 @@ use Rattle.gql_ast_definitions.specs.Extensions.{extends, schema_extension_of, s
 use Rattle.gql_ast_definitions.specs.Extensions.{union_extension_of, enum_extension_of, input_object_extension_of}
 use Rattle.gql_ast_definitions.specs.Schemas.{directive_definition_of, schema_of}
 use Rattle.gql_ast_laws.specs.Meant.{IsDocumentOf}
-use Rattle.gql_ast_operations.specs.Operations.{operation_of, fragment_of}
-use Rattle.gql_ast_operations.specs.Selections.{type_condition}
+use Rattle.gql_ast_definitions.specs.Operations.{operation_of, fragment_of}
+use Rattle.gql_ast_definitions.specs.Selections.{type_condition}
 use Rattle.gql_cst.specs.Forest.{Forest}
 use Rattle.gql_cst.specs.Sentences.{words, shown}
 use Rattle.gql_cst_grammar.specs.declared.rule.Rule.{Rule}

@@ -10,9 +10,8 @@ ghost use Rattle.gql_rules_base.specs.Literals.{literal_faults};
 ghost use Rattle.gql_schema_rules.specs.Taken.{HasTakenSome};
 
 use crate::taken::take_faults;
-use gql_ast_base::Name;
+use gql_ast_base::{Argument, Directive, Name, TypeRef, Value};
 use gql_ast_definitions::{DirectiveLocation, InputValueDefinition};
-use gql_ast_values::{Argument, Directive, TypeRef, Value};
 use gql_diag::DiagnosticList;
 use gql_rules_base::{Call, Defined, list_arguments, list_directives, list_literal};
 use gql_schema_types::Schema;

@@ -5,7 +5,7 @@ use Rattle.gql_ast_definitions.specs.declared.field_definition.EnumValueDefiniti
 use Rattle.gql_ast_definitions.specs.declared.field_definition.FieldDefinition.{FieldDefinition as TheField}
 use Rattle.gql_ast_definitions.specs.declared.schema_definition.DirectiveLocation.TheVariants.{FieldDefinition, EnumValue}
 use Rattle.gql_diag_messages.specs.declared.diagnostic_data.DiagnosticData.{DiagnosticData}
-use Rattle.gql_ast_values.specs.TypeParts.{named_type}
+use Rattle.gql_ast_base.specs.TypeParts.{named_type}
 use Rattle.gql_rules_base.specs.Written.{is_written}
 use Rattle.gql_rules_base.specs.declared.known.Defined.TheVariants.{TypesAndScalars}
 use Rattle.gql_rules_base.specs.Directives.{directive_faults}

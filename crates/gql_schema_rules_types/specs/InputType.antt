@@ -5,7 +5,7 @@ use Rattle.gql_ast_definitions.specs.declared.field_definition.InputValueDefinit
 use Rattle.gql_diag_messages.specs.declared.rule.Rule.TheVariants.{InputType}
 use Rattle.gql_diag_messages.specs.declared.diagnostic_data.DiagnosticData.{DiagnosticData}
 use Rattle.gql_rules_base.specs.Faults.{fault, only_if}
-use Rattle.gql_ast_values.specs.TypeParts.{named_type}
+use Rattle.gql_ast_base.specs.TypeParts.{named_type}
 use Rattle.gql_schema_types.specs.Types.{type_called, is_composite}
 use Rattle.gql_schema_types.specs.declared.types.ExtendedType.{ExtendedType}
 

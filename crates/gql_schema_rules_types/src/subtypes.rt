@@ -8,8 +8,7 @@ ghost use Rattle.gql_schema_types.specs.Implementers.{implements};
 ghost use Rattle.gql_schema_types.specs.Types.{type_called};
 ghost use Rattle.gql_schema_rules_types.specs.Subtypes as spec;
 
-use gql_ast_base::Name;
-use gql_ast_values::TypeRef;
+use gql_ast_base::{Name, TypeRef};
 use gql_rules_base::is_known;
 use gql_schema_types::{ExtendedType, Table};
 

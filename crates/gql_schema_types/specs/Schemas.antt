@@ -6,8 +6,8 @@ use Rattle.gql_ast_base.specs.Names.{Named}
 use Rattle.gql_ast_base.specs.declared.operation_type.OperationType.{OperationType}
 use Rattle.gql_ast_base.specs.declared.operation_type.OperationType.TheVariants.{Query, Mutation, Subscription}
 use Rattle.gql_ast_definitions.specs.declared.field_definition.FieldDefinition.{FieldDefinition}
-use Rattle.gql_ast_values.specs.TypeParts.{named_type}
-use Rattle.gql_ast_values.specs.declared.type_ref.TypeRef.{TypeRef}
+use Rattle.gql_ast_base.specs.TypeParts.{named_type}
+use Rattle.gql_ast_base.specs.declared.type_ref.TypeRef.{TypeRef}
 use Rattle.gql_schema_types.specs.Entries.{entry}
 use Rattle.gql_schema_types.specs.MetaFields.{type_name_field, schema_field, type_field}
 use Rattle.gql_schema_types.specs.Types.{type_called, as_object, is_composite, fields_of, field_name}

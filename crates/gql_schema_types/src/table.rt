@@ -20,10 +20,18 @@ const MOST_SCANNED: usize = 12;
 /// Things in order, no two of one name. Contracts see the list of them.
 ///
 /// A new name goes last. Finding is expected to take constant time; a table of at most twelve entries has no index.
-#[derive(Drop)]
 pub struct Table<T: Named> {
     entries: Vec<T>,
     index: Option<Box<KeyTable>>,
+}
+
+impl<T: Named + Drop> Drop for Table<T> {
+    fn drop(self) {
+        let Table {
+            entries: _,
+            index: _,
+        } = self;
+    }
 }
 
 impl<T: Named> Model for Table<T> {

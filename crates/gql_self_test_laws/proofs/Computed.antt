@@ -11,10 +11,10 @@ use Rattle.gql_ast_definitions.specs.Extensions.{extends, schema_extension_of, s
 use Rattle.gql_ast_definitions.specs.Extensions.{union_extension_of, enum_extension_of, input_object_extension_of}
 use Rattle.gql_ast_definitions.specs.Fields.{input_value_of, argument_definitions, field_of, fields}
 use Rattle.gql_ast_definitions.specs.Schemas.{directive_definition_of, schema_of}
-use Rattle.gql_ast_operations.specs.Operations.{operation_of, fragment_of, variables, variable_of}
-use Rattle.gql_ast_operations.specs.Selections.{type_condition, spread_of, field_step, inline_step, choice_step, selection_step}
-use Rattle.gql_ast_values.specs.Directives.{argument_of, arguments, directive_of, directives}
-use Rattle.gql_ast_values.specs.Types.{form_step, type_step}
+use Rattle.gql_ast_definitions.specs.Operations.{operation_of, fragment_of, variables, variable_of}
+use Rattle.gql_ast_definitions.specs.Selections.{type_condition, spread_of, field_step, inline_step, choice_step, selection_step}
+use Rattle.gql_ast_base.specs.Directives.{argument_of, arguments, directive_of, directives}
+use Rattle.gql_ast_base.specs.Types.{form_step, type_step}
 use Rattle.gql_cst_lexer.specs.Lex.{lex, run_len, blank_len, string_len, string, quoted}
 
 unfoldable pub tokens_computed : ⊤

@@ -7,8 +7,8 @@ use Rattle.gql_ast.specs.declared.definition.Definition.{Definition}
 use Rattle.gql_ast.specs.declared.definition.Definition.TheVariants as definition
 use Rattle.gql_ast_base.specs.Names.{Named}
 use Rattle.gql_ast_definitions.specs.declared.field_definition.FieldDefinition.{FieldDefinition}
-use Rattle.gql_ast_operations.specs.declared.selection.Field.{Field as FieldHere}
-use Rattle.gql_ast_operations.specs.declared.selection.Selection.TheVariants as here
+use Rattle.gql_ast_definitions.specs.declared.selection.Field.{Field as FieldHere}
+use Rattle.gql_ast_definitions.specs.declared.selection.Selection.TheVariants as here
 use Rattle.gql_document_build.specs.Build.{operation_on}
 use Rattle.gql_document_build.specs.Build as build
 use Rattle.gql_document_build.specs.BuiltSelections.{makes_of}
@@ -19,7 +19,7 @@ use Rattle.gql_document_build.specs.Nodes.{is_leaf}
 use Rattle.gql_document_text.specs.DocumentText.{DocumentText}
 use Rattle.gql_document_text.proofs.Made.{made_field}
 use Rattle.gql_document_types.specs.ChosenOperation.{chosen}
-use Rattle.gql_ast_values.specs.TypeParts.{named_type}
+use Rattle.gql_ast_base.specs.TypeParts.{named_type}
 use Rattle.gql_document_types.specs.declared.document.ExecutableDocument.{ExecutableDocument}
 use Rattle.gql_document_types.specs.declared.operation.Operation.{Operation}
 use Rattle.gql_document_types.specs.declared.selection.Field.{Field}

@@ -5,11 +5,11 @@ use Rattle.std.specs.Prelude.{codes}
 use Rattle.gql_ast.specs.declared.definition.Definition.{Definition}
 use Rattle.gql_ast_base.specs.Names.{Named}
 use Rattle.gql_ast_definitions.specs.declared.field_definition.FieldDefinition.{FieldDefinition}
-use Rattle.gql_ast_values.specs.Types.{non_null, non_null_step}
-use Rattle.gql_ast_values.specs.declared.type_ref.TypeRef.{TypeRef, List as ListOf, NonNullList, out-TypeRef, the_lemmas}
-use Rattle.gql_ast_values.specs.declared.type_ref.TypeRef.TheOpen.{TypeRef-F}
-use Rattle.gql_ast_values.specs.declared.type_ref.TypeRef.TheVariants.{Named as NamedType, NonNullNamed}
-use Rattle.gql_ast_values.specs.TypeParts.{named_type}
+use Rattle.gql_ast_base.specs.Types.{non_null, non_null_step}
+use Rattle.gql_ast_base.specs.declared.type_ref.TypeRef.{TypeRef, List as ListOf, NonNullList, out-TypeRef, the_lemmas}
+use Rattle.gql_ast_base.specs.declared.type_ref.TypeRef.TheOpen.{TypeRef-F}
+use Rattle.gql_ast_base.specs.declared.type_ref.TypeRef.TheVariants.{Named as NamedType, NonNullNamed}
+use Rattle.gql_ast_base.specs.TypeParts.{named_type}
 use Rattle.gql_schema.specs.Builders.{Taken, built}
 use Rattle.gql_schema_build.specs.Considered.{type_definitions}
 use Rattle.gql_schema_build.specs.SchemaDefinitions.{schema_definition}

@@ -9,10 +9,10 @@ use Rattle.gql_ast.specs.declared.definition.Definition.TheVariants as definitio
 use Rattle.gql_ast_base.specs.Names.{Named}
 use Rattle.gql_ast_base.specs.declared.operation_type.OperationType.TheVariants.{Query}
 use Rattle.gql_ast_laws.specs.Meant.{IsDocumentOf}
-use Rattle.gql_ast_operations.specs.declared.operation.OperationDefinition.{OperationDefinition}
-use Rattle.gql_ast_operations.specs.declared.selection.Field.{Field}
-use Rattle.gql_ast_operations.specs.declared.selection.Selection.{Selection}
-use Rattle.gql_ast_operations.specs.declared.selection.Selection.TheVariants as selection
+use Rattle.gql_ast_definitions.specs.declared.operation.OperationDefinition.{OperationDefinition}
+use Rattle.gql_ast_definitions.specs.declared.selection.Field.{Field}
+use Rattle.gql_ast_definitions.specs.declared.selection.Selection.{Selection}
+use Rattle.gql_ast_definitions.specs.declared.selection.Selection.TheVariants as selection
 use Rattle.gql_cst.specs.Forest.{Forest}
 use Rattle.gql_cst.specs.Sentences.{words, shown}
 use Rattle.gql_cst_grammar.specs.declared.rule.Rule.{Rule}

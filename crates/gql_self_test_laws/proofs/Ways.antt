@@ -5,10 +5,10 @@ use Rattle.std.specs.Option.{unwrap_or, option_and_then}
 use Rattle.std.specs.Prelude.{codes}
 use Rattle.std.specs.Str.{bytes_eq}
 use Rattle.std.proofs.lemmas.Slice.Eq.{bytes_eq-Decides}
-use Rattle.gql_ast_values.specs.declared.type_ref.TypeRef.{TypeRef, roll-TypeRef, out-TypeRef, the_lemmas as type_lemmas}
-use Rattle.gql_ast_values.specs.declared.type_ref.TypeRef.TheOpen.{TypeRef-F}
+use Rattle.gql_ast_base.specs.declared.type_ref.TypeRef.{TypeRef, roll-TypeRef, out-TypeRef, the_lemmas as type_lemmas}
+use Rattle.gql_ast_base.specs.declared.type_ref.TypeRef.TheOpen.{TypeRef-F}
 use Rattle.gql_ast_definitions.specs.declared.field_definition.FieldDefinition.{FieldDefinition}
-use Rattle.gql_ast_values.specs.TypeParts.{named_type}
+use Rattle.gql_ast_base.specs.TypeParts.{named_type}
 use Rattle.gql_document_types.specs.declared.document.ExecutableDocument.{ExecutableDocument}
 use Rattle.gql_document_types.specs.declared.fragment.Fragment.{Fragment}
 use Rattle.gql_document_types.specs.declared.operation.Operation.{Operation}
@@ -36,8 +36,8 @@ use Rattle.gql_exec_plan.proofs.Views.{view-field, view-node}
 use Rattle.gql_exec_plan.specs.Lists.{AreApart}
 use Rattle.gql_exec_plan.specs.Room.{all_selections}
 use Rattle.gql_exec_plan.specs.Ways.{Way}
-use Rattle.gql_exec_request.specs.Looks.{AreLooks}
-use Rattle.gql_exec_request.specs.Opened.{AnyGives, AnyGroup, Brings, Gives, Opens}
+use Rattle.gql_exec_fields.specs.Looks.{AreLooks}
+use Rattle.gql_exec_fields.specs.Opened.{AnyGives, AnyGroup, Brings, Gives, Opens}
 use Rattle.gql_exec_world.specs.Group.{Group, groups_from}
 use Rattle.gql_exec_world.specs.Request.{Members, Request}
 use Rattle.gql_exec_world.specs.RequestWorld.{plain_world, setting_on}

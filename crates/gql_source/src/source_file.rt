@@ -19,18 +19,33 @@ use std::sync::Arc;
 /// A contract sees a record of their bytes, `path` and `source_text`. The starts of the lines are kept, and how many
 /// characters come before each of a row of marks, so looking up a place takes time in the logarithm of the number of
 /// lines alone, however long they are. Copies share what they hold.
-#[derive(Drop)]
 pub struct SourceFile {
     shared: Arc<Contents>,
 }
 
+impl Drop for SourceFile {
+    fn drop(self) {
+        let SourceFile { shared: _ } = self;
+    }
+}
+
 /// What the copies of a file share.
-#[derive(Drop)]
 struct Contents {
     path: String,
     source_text: ByteString,
     line_starts: Vec<usize>,
     counts: Vec<usize>,
+}
+
+impl Drop for Contents {
+    fn drop(self) {
+        let Contents {
+            path: _,
+            source_text: _,
+            line_starts: _,
+            counts: _,
+        } = self;
+    }
 }
 
 impl Model for SourceFile {

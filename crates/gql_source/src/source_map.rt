@@ -12,9 +12,15 @@ use std::marker::Model;
 /// Source files with their numbers, in the order in which the numbers came. No two have one number.
 ///
 /// A contract sees the list of the pairs of a number and a file.
-#[derive(Debug, Drop)]
+#[derive(Debug)]
 pub struct SourceMap {
     entries: Vec<(FileId, SourceFile)>,
+}
+
+impl Drop for SourceMap {
+    fn drop(self) {
+        let SourceMap { entries: _ } = self;
+    }
 }
 
 impl Model for SourceMap {

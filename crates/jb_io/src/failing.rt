@@ -7,11 +7,20 @@ ghost use Rattle.jb_io.specs.Stream.{HasFailed};
 use jb_tree::Listed;
 
 /// The calls of a stream in memory that are to fail, by their numbers from 1, and how many failed.
-#[derive(Drop)]
 pub(crate) struct Failing {
     at: Listed<u64>,
     calls: u64,
     faults: u64,
+}
+
+impl Drop for Failing {
+    fn drop(self) {
+        let Failing {
+            at: _,
+            calls: _,
+            faults: _,
+        } = self;
+    }
 }
 
 impl Failing {

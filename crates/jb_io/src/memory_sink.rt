@@ -12,7 +12,6 @@ use std::alloc::Global;
 
 /// A sink in memory with a fixed room, some of whose calls fail: just those whose numbers it was given, counted
 /// from 1, and those that find no room for any byte.
-#[derive(Drop)]
 pub struct MemorySink {
     held: Vec<u8>,
     room: usize,
@@ -21,6 +20,17 @@ pub struct MemorySink {
     ghost some: { 0 < piece },
     ghost fits: { vec_len held ≤ room },
     ghost reserved: { room ≤ vec_capacity held },
+}
+
+impl Drop for MemorySink {
+    fn drop(self) {
+        let MemorySink {
+            held: _,
+            room: _,
+            piece: _,
+            failing: _,
+        } = self;
+    }
 }
 
 impl MemorySink {

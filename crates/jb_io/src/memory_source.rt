@@ -11,12 +11,21 @@ use bytes::Bytes;
 use jb_tree::Listed;
 
 /// A source over bytes in memory some of whose calls fail: just those whose numbers it was given, counted from 1.
-#[derive(Drop)]
 pub struct MemorySource {
     rest: Bytes,
     piece: usize,
     failing: Failing,
     ghost some: { 0 < piece },
+}
+
+impl Drop for MemorySource {
+    fn drop(self) {
+        let MemorySource {
+            rest: _,
+            piece: _,
+            failing: _,
+        } = self;
+    }
 }
 
 impl MemorySource {

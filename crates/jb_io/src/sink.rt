@@ -38,13 +38,22 @@ pub trait Sink {
 
 /// A sink in memory, which takes each write whole and never fails. It holds what comes first, up to its room,
 /// and tells what it took until more comes.
-#[derive(Drop)]
 pub struct SureSink {
     held: Vec<u8>,
     room: usize,
     is_past_room: bool,
     ghost fits: { vec_len held ≤ room },
     ghost reserved: { room ≤ vec_capacity held },
+}
+
+impl Drop for SureSink {
+    fn drop(self) {
+        let SureSink {
+            held: _,
+            room: _,
+            is_past_room: _,
+        } = self;
+    }
 }
 
 impl SureSink {

@@ -35,11 +35,16 @@ pub trait Source {
 }
 
 /// A source over bytes in memory, which never fails.
-#[derive(Drop)]
 pub struct SureSource {
     rest: Bytes,
     piece: usize,
     ghost some: { 0 < piece },
+}
+
+impl Drop for SureSource {
+    fn drop(self) {
+        let SureSource { rest: _, piece: _ } = self;
+    }
 }
 
 impl SureSource {

@@ -13,7 +13,7 @@ impl<V: Drop> IntoIterator for Pairs<V> {
     ghost into_iter_gives = { λ m r. r ≡ m };
 
     fn into_iter(self) -> IntoIter<V> {
-        let Pairs { keys, values } = self;
+        let (keys, values) = self.into_columns();
         let alloc = *values.allocator();
         IntoIter::new(keys.into_texts(alloc), values)
     }

@@ -11,9 +11,14 @@ use std::marker::Model;
 
 /// The keys of a map in order. Contracts see the list of their texts. It is as small as a pointer, and takes no
 /// memory before the first key.
-#[derive(Drop)]
 pub struct KeyColumn {
     pub(crate) list: Option<Box<KeyList>>,
+}
+
+impl Drop for KeyColumn {
+    fn drop(self) {
+        let KeyColumn { list: _ } = self;
+    }
 }
 
 impl Model for KeyColumn {

@@ -15,10 +15,15 @@ const MOST_SCANNED: usize = 16;
 
 /// The keys of a map in order, with a table of their hashes where they are many. Contracts see the list of their
 /// texts, which are distinct.
-#[derive(Drop)]
 pub struct KeyList {
     pub(crate) texts: Vec<ByteString>,
     pub(crate) table: Option<Box<KeyTable>>,
+}
+
+impl Drop for KeyList {
+    fn drop(self) {
+        let KeyList { texts: _, table: _ } = self;
+    }
 }
 
 impl Model for KeyList {

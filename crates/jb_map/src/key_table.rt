@@ -13,9 +13,14 @@ use std::marker::Model;
 ///
 /// A map of many members and a table of many names keep one beside their entries. Finding, adding and taking the last
 /// key into a gap are expected to take constant time; [`KeyTable::remove`] goes through the keys behind the gap.
-#[derive(Drop)]
 pub struct KeyTable {
     texts: IndexSet<String>,
+}
+
+impl Drop for KeyTable {
+    fn drop(self) {
+        let KeyTable { texts: _ } = self;
+    }
 }
 
 impl Model for KeyTable {

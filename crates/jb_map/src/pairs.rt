@@ -1,5 +1,5 @@
 //! The map: its pairs read, found and inserted.
-ghost use Rattle.std.specs.Prelude.{◌≡◌, ◌<◌, ℕ, Some, None, [], ◌∷◌, ◌++◌, length, IfOk, IfErr, OnOk, OnErr, position, slice_get, ◌==◌, is_some};
+ghost use Rattle.std.specs.Prelude.{◌≡◌, ◌<◌, ℕ, Some, None, [], ◌∷◌, ◌++◌, length, IfOk, IfErr, OnOk, OnErr, position, slice_get, ◌==◌, is_some, zip};
 ghost use Rattle.std.specs.Option.{option_copied, option_map};
 ghost use Rattle.std.specs.Str.{bytes_eq};
 ghost use Rattle.std.specs.List.{IsDistinct};
@@ -19,10 +19,15 @@ use std::mem;
 ///
 /// A new key goes last, and a key that is there keeps its place. Finding, and so inserting, is expected to take
 /// constant time; a map of at most sixteen pairs has no hash table.
-#[derive(Drop)]
 pub struct Pairs<V> {
     pub(crate) keys: KeyColumn,
     pub(crate) values: Vec<V>,
+}
+
+impl<V: Drop> Drop for Pairs<V> {
+    fn drop(self) {
+        let Pairs { keys: _, values: _ } = self;
+    }
 }
 
 impl<V> Model for Pairs<V> {
@@ -144,6 +149,15 @@ impl<V> Pairs<V> {
         ensures { slice_get (values_of self.now) index ≡ Some result.now }
     {
         &self.values[index]
+    }
+
+    /// The keys and the values, each in order.
+    pub(crate) fn into_columns(self) -> (KeyColumn, Vec<V>)
+        ensures pairs { zip result.0 result.1.items ≡ self }
+        ensures sizes { length result.1.items ≡ length result.0 }
+    {
+        let Pairs { keys, values } = self;
+        (keys, values)
     }
 }
 

@@ -28,9 +28,14 @@ pub enum SliceFault {
 }
 
 /// A text that may share its bytes with the buffer that it was cut from. Contracts see its UTF-8 bytes.
-#[derive(Drop)]
 pub struct ByteString {
     held: Bytes,
+}
+
+impl Drop for ByteString {
+    fn drop(self) {
+        let ByteString { held: _ } = self;
+    }
 }
 
 impl Model for ByteString {

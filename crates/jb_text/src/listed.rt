@@ -15,9 +15,15 @@ use std::marker::Model;
 use std::vec::IntoIter;
 
 /// A growing list, which contracts see as the list of its items.
-#[derive(Debug, Drop)]
+#[derive(Debug)]
 pub struct Listed<T> {
     held: Vec<T>,
+}
+
+impl<T: Drop> Drop for Listed<T> {
+    fn drop(self) {
+        let Listed { held: _ } = self;
+    }
 }
 
 impl<T> Model for Listed<T> {

@@ -8,9 +8,15 @@ use std::alloc::Global;
 use std::marker::Model;
 
 /// An owned text, which contracts see as its UTF-8 bytes.
-#[derive(Debug, Drop)]
+#[derive(Debug)]
 pub struct Text {
     held: String,
+}
+
+impl Drop for Text {
+    fn drop(self) {
+        let Text { held: _ } = self;
+    }
 }
 
 impl Model for Text {
@@ -49,7 +55,8 @@ impl Text {
     pub fn into_string(self) -> String
         ensures { string_bytes result ≡ self }
     {
-        self.held
+        let Text { held } = self;
+        held
     }
 
     /// The text, lent.

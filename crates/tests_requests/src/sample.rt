@@ -5,7 +5,7 @@ ghost use Rattle.gql_exec_resolve.specs.Meaning.{meaning_by, itself};
 ghost use Rattle.gql_exec_resolve.specs.declared.resolved_value.ResolvedValue.TheVariants as resolved;
 ghost use Rattle.tests_requests.specs.Samples as spec;
 
-use gql_ast_values::TypeRef;
+use gql_ast_base::TypeRef;
 use gql_exec_resolve::{FieldError, ObjectValue, ResolveError, ResolveInfo, ResolvedValue};
 use jb_text::{ByteString, Listed, Memory, Number, Text};
 use jb_tree::Value;

@@ -4,7 +4,7 @@ use crate::documents::listed;
 use crate::fixtures::bytes_of;
 use bytes::Bytes;
 use gql_ast::print_type;
-use gql_ast_values::TypeRef;
+use gql_ast_base::TypeRef;
 use gql_parser::Parser;
 use gql_source::FileIds;
 use jb_text::{Memory, Refused};

@@ -1,7 +1,6 @@
 //! Selections as texts.
 
-use gql_ast_base::Name;
-use gql_ast_values::Directive;
+use gql_ast_base::{Directive, Name};
 use gql_document_types::{Operation, Selection, SelectionSet};
 use jb_text::Listed;
 use std::alloc::Global;

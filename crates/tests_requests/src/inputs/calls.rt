@@ -2,9 +2,8 @@
 
 use crate::fixtures::{bytes_of, document_of, object_of, schema_of};
 use bytes::Bytes;
-use gql_ast_definitions::FieldDefinition;
-use gql_ast_operations::VariableDefinition;
-use gql_ast_values::Argument;
+use gql_ast_base::Argument;
+use gql_ast_definitions::{FieldDefinition, VariableDefinition};
 use gql_coerce::{ArgumentFault, InputCoercionError, coerce_arguments, coerce_variables};
 use gql_diag::{JsonMap, RequestError, Valid};
 use gql_document_types::{ExecutableDocument, Operation};
@@ -130,15 +129,11 @@ fn operation_variables(
 ) -> Result<Bytes, Fail> {
     match coerce_variable_values(alloc, schema, operation, values) {
         Ok(made) => Ok(printed(alloc, made.as_ref())?),
-        Err(
-            Refused::Fault(
-                RequestError {
-                    message,
-                    is_suspected_validation_bug,
-                    ..
-                },
-            ),
-        ) => Ok(told(alloc, &message, is_suspected_validation_bug)?),
+        Err(Refused::Fault(error)) => Ok(told(
+            alloc,
+            &error.message,
+            error.is_suspected_validation_bug,
+        )?),
         Err(Refused::Memory) => Err("no memory")?,
     }
 }

@@ -4,7 +4,7 @@ use Rattle.gql_cst_grammar.specs.declared.rule.Rule.TheVariants.{Document, Field
 use Rattle.gql_cst_grammar.specs.declared.syntax_kind.SyntaxKind.TheVariants as kind
 use Rattle.gql_cst.specs.Forest.{Plain, plain}
 use Rattle.gql_ast_base.specs.Parts.{Text}
-use Rattle.gql_ast_values.specs.Types.{type_step, type_of}
+use Rattle.gql_ast_base.specs.Types.{type_step, type_of}
 use Rattle.gql_ast_laws.proofs.Blind.{tree}
 use Rattle.gql_ast_laws.proofs.laws.parses_mean_their_text.Goals as goal
 

@@ -4,7 +4,7 @@ use Rattle.gql_cst_grammar.specs.declared.syntax_kind.SyntaxKind.TheVariants as 
 use Rattle.gql_cst_grammar.specs.Row as row
 use Rattle.gql_cst.specs.Leaves.{leaves}
 use Rattle.gql_cst.specs.Sentences.{words, shown}
-use Rattle.gql_ast_values.specs.Types.{type_of}
+use Rattle.gql_ast_base.specs.Types.{type_of}
 use Rattle.gql_ast_laws.proofs.Blind.{tree}
 use Rattle.gql_ast_laws.proofs.Shown.{tiled-spelled}
 use Rattle.gql_ast_laws.proofs.Total.{document-way, each-definition}

@@ -7,8 +7,8 @@ use Rattle.gql_cst.specs.Leaves.{leaves}
 use Rattle.gql_cst.specs.Sentences.{words, shown}
 use Rattle.gql_ast_base.specs.Kinds.{is_kind}
 use Rattle.gql_ast_laws.specs.Meant.{IsTypeOf}
-use Rattle.gql_ast_values.specs.declared.type_ref.TypeRef.{TypeRef}
-use Rattle.gql_ast_values.specs.Types.{type_step}
+use Rattle.gql_ast_base.specs.declared.type_ref.TypeRef.{TypeRef}
+use Rattle.gql_ast_base.specs.Types.{type_step}
 use Rattle.gql_ast.specs.TypeText.{type_text}
 use Rattle.gql_ast_print_laws.specs.Printed.{has_names, unplaced, RefersTo}
 use Rattle.gql_ast_print_laws.proofs.Levels.{Read}

@@ -1,5 +1,5 @@
 use Rattle.std.proofs.Common.{sym}
-use Rattle.gql_diag.specs.RequestFault.{request_error}
+use Rattle.gql_response.specs.RequestFault.{request_error}
 use Rattle.gql_diag.proofs.Texts.{one_error_text}
 use Rattle.gql_diag.proofs.refusal_text.refusal_of_request.Goals as goal
 

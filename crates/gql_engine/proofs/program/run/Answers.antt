@@ -1,5 +1,5 @@
 use Rattle.std.proofs.Common.{arith}
-use Rattle.gql_answer.proofs.Causes.{Laws}
+use Rattle.gql_engine.proofs.Causes.{Laws}
 use Rattle.gql_engine.specs.declared.task.Task.TheVariants.{Request, SelfTest}
 use Rattle.gql_engine.proofs.Running as Running
 use Rattle.gql_engine.proofs.Running.{reads, tests, unread_by}

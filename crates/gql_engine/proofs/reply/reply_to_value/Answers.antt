@@ -8,5 +8,5 @@ returns-in-Ok g c =
 
 pub returns-in_ok-message-in-Err : goal.returns-in_ok-message-in-Err
 returns-in_ok-message-in-Err g c =
-    refused_value c.args.wish _ _ c.in_ok-message-in-Err.field-0 c.refused-in-Err.result c.args.value.now c.in-Err.fault c.in-Err.ensures c.in_ok-message-in-Err.ensures
-    c.refused-in-Err.ensures
+    refused_value c.args.wish _ _ c.in_ok-message-in-Err.field-0 c.refused.result c.args.value.now c.in-Err.fault c.in-Err.ensures c.in_ok-message-in-Err.ensures
+    c.refused.ensures

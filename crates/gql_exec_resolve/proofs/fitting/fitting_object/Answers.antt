@@ -2,7 +2,7 @@ use Rattle.std.proofs.Common.{rules, ◌≡◌, Some, ap, sym, ◌∙◌}
 use Rattle.gql_schema_types.specs.Schemas.{object_of}
 use Rattle.gql_exec_resolve.specs.Fit.{wrong, bug, object_misfit}
 use Rattle.gql_exec_resolve.specs.Messages as message
-use Rattle.gql_ast_values.specs.TypeParts.{named_type}
+use Rattle.gql_ast_base.specs.TypeParts.{named_type}
 use Rattle.gql_exec_resolve.proofs.Refusing.{refused}
 use Rattle.gql_exec_resolve.proofs.fitting.fitting_object.Goals as goal
 

@@ -1,6 +1,6 @@
 use Rattle.std.proofs.Common.{◌≡◌, ◌+◌, ◌*◌, ◌++◌, List, [], map, drop}
 use Rattle.jb_tree.specs.declared.value.Value.{Value as JsonValue, Array}
-use Rattle.gql_ast_values.specs.declared.value.Value.{Value}
+use Rattle.gql_ast_base.specs.declared.value.Value.{Value}
 use Rattle.gql_coerce.specs.Outcome.{mapped, all_of}
 use Rattle.gql_coerce.specs.Subject.{subject_text}
 use Rattle.gql_coerce.specs.Filled.{filled}

@@ -1,7 +1,7 @@
 use Rattle.std.proofs.Common.{subst}
 use Rattle.gql_exec_request.specs.Thing.{Thing, type_of_thing}
 use Rattle.gql_exec_request.specs.ThingMeaning.{thing_meaning}
-use Rattle.gql_exec_request.specs.Output.{AreWritten}
+use Rattle.gql_exec_fields.specs.Output.{AreWritten}
 use Rattle.gql_exec_request.specs.Running.{RunsOver}
 use Rattle.gql_exec_request.proofs.execution.Execution.execute_introspected.Goals as goal
 

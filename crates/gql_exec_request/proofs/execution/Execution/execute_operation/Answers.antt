@@ -1,7 +1,7 @@
 use Rattle.std.proofs.Common.{rules, ◌≡◌, Some, subst}
 use Rattle.gql_schema_types.specs.Schemas.{object_of}
 use Rattle.gql_exec_request.specs.Execution.{on_root}
-use Rattle.gql_exec_request.specs.Output.{AreWritten}
+use Rattle.gql_exec_fields.specs.Output.{AreWritten}
 use Rattle.gql_exec_request.specs.Running.{IsRun}
 use Rattle.gql_exec_request.proofs.execution.Execution.execute_operation.Goals as goal
 

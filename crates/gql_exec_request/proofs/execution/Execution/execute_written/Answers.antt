@@ -1,7 +1,7 @@
 use Rattle.std.proofs.Common.{List, subst}
-use Rattle.gql_exec_request.specs.Output.{AreWritten}
+use Rattle.gql_exec_fields.specs.Output.{AreWritten}
 use Rattle.gql_exec_request.specs.Running.{response_of}
-use Rattle.gql_exec_request.specs.Written.{IsOpenObject}
+use Rattle.gql_exec_fields.specs.Written.{IsOpenObject}
 use Rattle.gql_exec_request.proofs.Introspecting.{run-answered, run-refused}
 use Rattle.gql_exec_request.proofs.execution.Execution.execute_written.Goals as goal
 

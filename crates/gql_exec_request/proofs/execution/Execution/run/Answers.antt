@@ -7,15 +7,15 @@ use Rattle.gql_exec_plan.specs.Room.{HasRoom}
 use Rattle.gql_exec_plan.proofs.Room.{room-root}
 use Rattle.gql_exec_world.specs.RequestWorld.{plain_world}
 use Rattle.gql_exec_request.specs.Execution.{request_in}
-use Rattle.gql_exec_request.specs.Trails.{trail_of}
-use Rattle.gql_exec_request.specs.declared.executing.Executing.{Executing}
-use Rattle.gql_exec_request.specs.declared.path.Path.TheVariants.{Root}
-use Rattle.gql_exec_request.proofs.Collecting.{one-set, views-run}
-use Rattle.gql_exec_request.proofs.Groups.{executed-sets}
+use Rattle.gql_exec_fields.specs.Trails.{trail_of}
+use Rattle.gql_exec_fields.specs.declared.executing.Executing.{Executing}
+use Rattle.gql_exec_fields.specs.declared.path.Path.TheVariants.{Root}
+use Rattle.gql_exec_fields.proofs.Collecting.{one-set, views-run}
+use Rattle.gql_exec_fields.proofs.Groups.{executed-sets}
 use Rattle.gql_exec_request.proofs.Looking.{looks-of}
 use Rattle.gql_exec_request.proofs.Responses.{fragments-ranked, answered-alone}
-use Rattle.gql_exec_request.proofs.Views.{views}
-use Rattle.gql_exec_request.proofs.Ways.{trail-root}
+use Rattle.gql_exec_fields.proofs.Views.{views}
+use Rattle.gql_exec_fields.proofs.Ways.{trail-root}
 use Rattle.gql_exec_request.proofs.execution.Execution.run.Goals as goal
 
 pub returns : goal.returns

@@ -1,5 +1,0 @@
--- The counter is over a ledger of its own.
-use Rattle.gql_answer.proofs.uncounted.answer_uncounted.Given as goal
-
-abbrev pub ghosts-answer_alone : goal.ghosts-answer_alone
-ghosts-answer_alone g a = record { name = a.blank.name; parts = a.blank.parts }

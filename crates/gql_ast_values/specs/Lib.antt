@@ -1,5 +1,0 @@
-pub mod Values
-pub mod Types
-pub mod TypeParts
-pub mod Directives
-pub mod formers

@@ -1,0 +1,137 @@
+//! The response to what is wanted, step by step: what the texts mean, the operation, its depth, its variables, the execution.
+
+ghost use Rattle.std.specs.Prelude.{◌≡◌, Some, IfOk};
+ghost use Rattle.gql_document_types.specs.ChosenOperation.{chosen, text_of};
+ghost use Rattle.gql_engine.specs.Meant.{AreMeant};
+ghost use Rattle.gql_engine.specs.Answered.{IsResultOf};
+ghost use Rattle.gql_engine.specs.Depths.{IsShallow};
+ghost use Rattle.gql_engine.specs.Responding.{IsResponse, OrCause, Performs};
+ghost use Rattle.gql_engine.specs.Wanted.{wanted_by};
+
+use crate::meaning::{Texts, read_texts};
+use crate::refusal::{Refusal, of_texts};
+use crate::response_bytes::{Written, write_response};
+use crate::steps_before::{check_depth, choose, coerce};
+use crate::wanted::Wanted;
+use gql_diag::{JsonMap, Valid};
+use gql_document_text::laws as document_laws;
+use gql_document_types::Operation;
+use gql_exec_request::Execution;
+use gql_exec_resolve::ObjectValue;
+use gql_exec_steps::Steps;
+use gql_schema_text::laws as schema_laws;
+use jb_tree::{Memory, Refused};
+use std::alloc::{AllocError, Global};
+use std::sync::ledger::Ledger;
+
+/// The response to what is wanted, whose root is resolved by `root`. `steps` counts the looks at selections: those of the depth
+/// check, which is made where introspection is on, and those of the execution. Both texts may be nested 500 deep.
+///
+/// # Errors
+///
+/// The first of these that applies, and otherwise only when out of memory:
+///
+/// - [`Refusal::Schema`] where the schema's text means no schema (GraphQL October 2021, sections 2 and 3);
+/// - [`Refusal::Document`] where the query's text means no document against it (sections 2 and 5);
+/// - [`Refusal::Request`] where there is no such operation (section 6.1), where introspection is on and the operation goes too deep
+///   into the schema's types, or where a variable is not coerced (section 6.1.2), each with a kind of its own.
+pub(crate) fn respond<O: ObjectValue, L: Ledger>(
+    alloc: Global,
+    wanted: &Wanted<'_>,
+    root: &O,
+    steps: &mut Steps<L>,
+) -> Result<Written, Refused<Refusal>>
+    ensures answered { IsResponse O.type_of O.resolves (O.seen root.now) (wanted_by wanted.now) steps.old steps.new result }
+{
+    match read_texts(alloc, wanted.schema, wanted.query) {
+        Ok(texts) => respond_on(alloc, wanted, &texts, root, steps),
+        Err(Refused::Fault(faults)) => Err(Refused::Fault(of_texts(faults))),
+        Err(Refused::Memory) => Err(Refused::Memory),
+    }
+}
+
+/// The same on what the texts mean.
+fn respond_on<O: ObjectValue, L: Ledger>(
+    alloc: Global,
+    wanted: &Wanted<'_>,
+    texts: &Texts,
+    root: &O,
+    steps: &mut Steps<L>,
+) -> Result<Written, Refused<Refusal>>
+    requires { AreMeant wanted.now.schema.now wanted.now.query.now texts.now.schema texts.now.document }
+    ensures answered { IsResponse O.type_of O.resolves (O.seen root.now) (wanted_by wanted.now) steps.old steps.new result }
+{
+    match choose(alloc, wanted, texts) {
+        Ok(operation) => respond_to(alloc, wanted, texts, operation, root, steps),
+        Err(refused) => Err(refused),
+    }
+}
+
+/// The same to the chosen operation.
+fn respond_to<O: ObjectValue, L: Ledger>(
+    alloc: Global,
+    wanted: &Wanted<'_>,
+    texts: &Texts,
+    operation: &Operation,
+    root: &O,
+    steps: &mut Steps<L>,
+) -> Result<Written, Refused<Refusal>>
+    requires meant { AreMeant wanted.now.schema.now wanted.now.query.now texts.now.schema texts.now.document }
+    requires chosen { chosen (text_of wanted.now.operation_name) texts.now.document.operations ≡ Some operation.now }
+    ensures answered { IsResponse O.type_of O.resolves (O.seen root.now) (wanted_by wanted.now) steps.old steps.new result }
+{
+    document_laws::operations_select_something();
+    match check_depth(alloc, wanted, texts, operation, steps) {
+        Ok(()) => perform(alloc, wanted, texts, operation, root, steps),
+        Err(refused) => Err(refused),
+    }
+}
+
+/// The same where the operation is not too deep.
+fn perform<O: ObjectValue, L: Ledger>(
+    alloc: Global,
+    wanted: &Wanted<'_>,
+    texts: &Texts,
+    operation: &Operation,
+    root: &O,
+    steps: &mut Steps<L>,
+) -> Result<Written, Refused<Refusal>>
+    requires meant { AreMeant wanted.now.schema.now wanted.now.query.now texts.now.schema texts.now.document }
+    requires chosen { chosen (text_of wanted.now.operation_name) texts.now.document.operations ≡ Some operation.now }
+    requires shallow { IsShallow wanted.now.introspection texts.now.document operation.now }
+    ensures { OrCause (wanted_by wanted.now)
+        (Performs O.type_of O.resolves (O.seen root.now) (wanted_by wanted.now) texts.now.schema texts.now.document operation.now steps.old steps.new) result }
+{
+    match coerce(alloc, wanted, texts, operation) {
+        Ok(values) => Ok(execute(alloc, wanted, texts, operation, &values, root, steps)?),
+        Err(refused) => Err(refused),
+    }
+}
+
+/// The response to an operation with these variables. `Err` only when out of memory.
+fn execute<O: ObjectValue, L: Ledger>(
+    alloc: Global,
+    wanted: &Wanted<'_>,
+    texts: &Texts,
+    operation: &Operation,
+    values: &Valid<JsonMap>,
+    root: &O,
+    steps: &mut Steps<L>,
+) -> Result<Written, Memory>
+    requires meant { AreMeant wanted.now.schema.now wanted.now.query.now texts.now.schema texts.now.document }
+    requires chosen { chosen (text_of wanted.now.operation_name) texts.now.document.operations ≡ Some operation.now }
+    ensures { IfOk result (IsResultOf wanted.now.introspection O.type_of O.resolves (O.seen root.now) texts.now.schema texts.now.document operation.now values.now
+        steps.old steps.new) }
+{
+    document_laws::valid_documents_run();
+    schema_laws::roots_are_object_types();
+    let execution = Execution::new(&texts.schema, &texts.document)
+        .operation(operation)
+        .coerced_variable_values(values)
+        .enable_schema_introspection(wanted.introspection);
+    match execution.execute_written(alloc, root, steps) {
+        Ok(response) => write_response(alloc, response),
+        Err(Refused::Fault(_)) => unreachable!(),
+        Err(Refused::Memory) => Err(AllocError),
+    }
+}

@@ -1,0 +1,107 @@
+//! The steps between the texts and the execution (GraphQL October 2021, section 6.1).
+
+ghost use Rattle.std.specs.Prelude.{◌≡◌, ◌≤◌, ◌+◌, true, Ok, Some};
+ghost use Rattle.gql_coerce.specs.Variables.{coerced_variables};
+ghost use Rattle.gql_document_types.specs.ChosenOperation.{chosen, text_of};
+ghost use Rattle.gql_engine.specs.Meant.{AreMeant};
+ghost use Rattle.gql_engine.specs.Depths.{IsShallow, all_selections, depth_looks};
+ghost use Rattle.gql_engine.specs.Responding.{OrCause};
+ghost use Rattle.gql_engine.specs.Wanted.{wanted_by};
+
+use crate::answer_error::RequestKind;
+use crate::meaning::Texts;
+use crate::refusal::{Refusal, of_step};
+use crate::wanted::Wanted;
+use gql_diag::{JsonMap, Valid};
+use gql_document_text::laws as document_laws;
+use gql_document_types::Operation;
+use gql_exec_plan::{check_max_depth, coerce_variable_values};
+use gql_exec_steps::Steps;
+use jb_tree::Refused;
+use std::alloc::Global;
+use std::sync::ledger::Ledger;
+
+/// The operation that is wanted.
+pub(crate) fn choose<'t>(
+    alloc: Global,
+    wanted: &Wanted<'_>,
+    texts: &'t Texts,
+) -> Result<&'t Operation, Refused<Refusal>>
+    requires { AreMeant wanted.now.schema.now wanted.now.query.now texts.now.schema texts.now.document }
+    ensures { OrCause (wanted_by wanted.now)
+        (λ operation. chosen (text_of wanted.now.operation_name) texts.now.document.operations ≡ Some operation.now) result }
+{
+    let sources = &texts.document.as_ref().sources;
+    match texts
+        .document
+        .as_ref()
+        .operations_get(alloc, wanted.operation_name)
+    {
+        Ok(operation) => Ok(operation),
+        Err(refused) => Err(of_step(alloc, RequestKind::Operation, refused, sources)),
+    }
+}
+
+/// Checks the depth of the operation, where introspection is on.
+pub(crate) fn check_depth<L: Ledger>(
+    alloc: Global,
+    wanted: &Wanted<'_>,
+    texts: &Texts,
+    operation: &Operation,
+    steps: &mut Steps<L>,
+) -> Result<(), Refused<Refusal>>
+    requires meant { AreMeant wanted.now.schema.now wanted.now.query.now texts.now.schema texts.now.document }
+    requires chosen { chosen (text_of wanted.now.operation_name) texts.now.document.operations ≡ Some operation.now }
+    ensures shallow { OrCause (wanted_by wanted.now) (λ _. IsShallow wanted.now.introspection texts.now.document operation.now) result }
+    ensures looks { steps.new ≤ steps.old + depth_looks wanted.now.introspection texts.now.document operation.now }
+    ensures rises { steps.old ≤ steps.new }
+{
+    if wanted.introspection {
+        check_depth_on(alloc, wanted, texts, operation, steps)
+    } else {
+        Ok(())
+    }
+}
+
+/// The same where introspection is on.
+fn check_depth_on<L: Ledger>(
+    alloc: Global,
+    wanted: &Wanted<'_>,
+    texts: &Texts,
+    operation: &Operation,
+    steps: &mut Steps<L>,
+) -> Result<(), Refused<Refusal>>
+    requires meant { AreMeant wanted.now.schema.now wanted.now.query.now texts.now.schema texts.now.document }
+    requires chosen { chosen (text_of wanted.now.operation_name) texts.now.document.operations ≡ Some operation.now }
+    requires on { wanted.now.introspection ≡ true }
+    ensures shallow { OrCause (wanted_by wanted.now) (λ _. IsShallow wanted.now.introspection texts.now.document operation.now) result }
+    ensures looks { steps.new ≤ steps.old + all_selections texts.now.document operation.now }
+    ensures rises { steps.old ≤ steps.new }
+{
+    document_laws::valid_documents_run();
+    let sources = &texts.document.as_ref().sources;
+    match check_max_depth(alloc, &texts.document, operation, steps) {
+        Ok(()) => Ok(()),
+        Err(refused) => Err(of_step(alloc, RequestKind::Depth, refused, sources)),
+    }
+}
+
+/// The values of the operation's variables.
+pub(crate) fn coerce(
+    alloc: Global,
+    wanted: &Wanted<'_>,
+    texts: &Texts,
+    operation: &Operation,
+) -> Result<Valid<JsonMap>, Refused<Refusal>>
+    requires meant { AreMeant wanted.now.schema.now wanted.now.query.now texts.now.schema texts.now.document }
+    requires chosen { chosen (text_of wanted.now.operation_name) texts.now.document.operations ≡ Some operation.now }
+    requires shallow { IsShallow wanted.now.introspection texts.now.document operation.now }
+    ensures { OrCause (wanted_by wanted.now)
+        (λ values. coerced_variables texts.now.schema.types operation.now.variables wanted.now.variables.now ≡ Ok values) result }
+{
+    let sources = &texts.document.as_ref().sources;
+    match coerce_variable_values(alloc, &texts.schema, operation, wanted.variables) {
+        Ok(values) => Ok(values),
+        Err(refused) => Err(of_step(alloc, RequestKind::Variable, refused, sources)),
+    }
+}

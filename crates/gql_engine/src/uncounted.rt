@@ -1,0 +1,58 @@
+//! Answering for callers who count no steps.
+
+ghost use Rattle.std.specs.Prelude.{◌≡◌, ◌<◌};
+ghost use Rattle.gql_engine.specs.AnswerError.{call_by, call_of};
+ghost use Rattle.gql_engine.specs.Answering.{GivesAnswer};
+
+use crate::answer_error::AnswerError;
+use crate::answering::answer_call;
+use crate::call::Call;
+use bytes::Bytes;
+use gql_exec_resolve::ObjectValue;
+use gql_exec_steps::Steps;
+use std::alloc::Global;
+use std::marker::Brand;
+use std::sync::ledger::{Blank, Ledger};
+
+/// [`answer`](crate::answer) without a counter of steps: the same response or refusal.
+///
+/// # Errors
+///
+/// Those of [`answer`](crate::answer), exactly where they come there.
+pub fn answer_uncounted<O: ObjectValue>(
+    alloc: Global,
+    schema: &str,
+    query: &str,
+    operation_name: Option<&str>,
+    variables: &Bytes,
+    introspection: bool,
+    root: &O,
+) -> Result<Bytes, AnswerError>
+    ensures { GivesAnswer O.type_of O.resolves (O.seen root.now)
+        (call_of schema.now query.now operation_name.entry variables.now introspection) result }
+{
+    let call = Call {
+        schema,
+        query,
+        operation_name,
+        variables,
+        introspection,
+    };
+    answer_alone::<O, Brand>(alloc, &call, root, Blank::new(1))
+}
+
+/// The answer, with a counter of its own.
+fn answer_alone<O: ObjectValue, L: Ledger>(
+    alloc: Global,
+    call: &Call<'_>,
+    root: &O,
+    blank: Blank,
+) -> Result<Bytes, AnswerError>
+    requires name { blank.name ≡ L.name }
+    requires parts { blank.parts ≡ L.parts }
+    requires some { 0 < blank.parts }
+    ensures { GivesAnswer O.type_of O.resolves (O.seen root.now) (call_by call.now) result }
+{
+    let mut steps = Steps::<L>::open(blank);
+    answer_call(alloc, call, root, &mut steps)
+}

@@ -1,0 +1,18 @@
+use Rattle.std.proofs.Common.{refl}
+use Rattle.gql_exec_resolve.specs.Fit.{wrong}
+use Rattle.gql_exec_resolve.specs.Messages as message
+use Rattle.gql_exec_places.specs.Fault.{told_at}
+use Rattle.gql_exec_places.specs.Resolved.{fails_with}
+use Rattle.gql_exec_fields.specs.Executing.{world_of}
+use Rattle.gql_exec_fields.specs.Output.{IsWritten}
+use Rattle.gql_exec_fields.specs.Trails.{spot_of}
+use Rattle.gql_exec_fields.proofs.Done.{done-misfit, null-listed}
+use Rattle.gql_exec_fields.proofs.executing.Executing.fail.Goals as goal
+
+pub returns : goal.returns
+returns g c =
+    let w = world_of c.args.self.now g.O.ObjectValue.type_of g.O.ObjectValue.resolves in
+    let spot = spot_of c.args.place.now in
+    let misfit = wrong (message.resolver_error c.args.error.message) in
+    done-misfit w c.args.errors.now c.list_failure.new.errors (λ done. IsWritten g.M.Output.is_made c.args.out.now c.null.new.out done) c.null.result spot (fails_with c.args.error.message) misfit refl
+    (null-listed w c.args.errors.now c.list_failure.new.errors g.M.Output.is_made c.args.out.now c.null.new.out c.null.result spot (told_at (w.span_of spot.group) misfit) c.in_ok-list_failure.ensures c.null.ensures)

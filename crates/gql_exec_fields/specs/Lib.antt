@@ -1,0 +1,9 @@
+pub mod Trails
+pub mod Executing
+pub mod Planning
+pub mod Opened
+pub mod Looks
+pub mod Asking
+pub mod Output
+pub mod Written
+pub mod Executed
