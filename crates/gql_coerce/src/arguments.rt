@@ -17,10 +17,9 @@ use crate::subject::Subject;
 use crate::told::{ArgumentFault, tell_arguments};
 use gql_ast_base::{Argument, Value as Literal, ValueKind};
 use gql_ast_definitions::{FieldDefinition, InputValueDefinition};
-use gql_diag::{JsonMap, Valid};
-use gql_schema_types::Schema;
+use gql_schema_types::{Schema, Valid};
 use jb_text::{Listed, Refused};
-use jb_tree::{Map, Value};
+use jb_tree::{Map, Map as JsonMap, Value};
 use std::alloc::Global;
 
 /// The arguments of a field by its definition, in order of definition, where variables have these values (GraphQL October 2021,

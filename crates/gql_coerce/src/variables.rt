@@ -12,10 +12,9 @@ use crate::subject::Subject;
 use crate::told::{InputCoercionError, tell_variables};
 use crate::wanted::Wanted;
 use gql_ast_definitions::VariableDefinition;
-use gql_diag::{JsonMap, Valid};
-use gql_schema_types::Schema;
+use gql_schema_types::{Schema, Valid};
 use jb_text::{Listed, Refused};
-use jb_tree::{Map, Value};
+use jb_tree::{Map, Map as JsonMap, Value};
 use std::alloc::Global;
 
 /// The variables that these definitions make of the given values, in order of definition: a given value is coerced to its

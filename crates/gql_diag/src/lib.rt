@@ -22,7 +22,7 @@ mod refusal_text;
 mod report;
 mod report_text;
 mod to_cli_report;
-mod valid;
+mod with_errors;
 
 pub use diagnostic::Diagnostic;
 pub use diagnostic_list::DiagnosticList;
@@ -38,4 +38,4 @@ pub use gql_response::{
 pub use refusal_text::{refusal_of_diagnostics, refusal_of_message, refusal_of_request};
 pub use report::CliReport;
 pub use to_cli_report::ToCliReport;
-pub use valid::{Valid, WithErrors};
+pub use with_errors::WithErrors;

@@ -5,7 +5,7 @@ use Rattle.jb_text.specs.declared.refused.Refused.{Refused}
 use Rattle.jb_text.specs.declared.refused.Refused.TheVariants.{Memory}
 use Rattle.gql_ast.specs.declared.document.Document.{Document}
 use Rattle.gql_diag.specs.List.{Diagnostics}
-use Rattle.gql_diag.specs.declared.valid.WithErrors.{WithErrors}
+use Rattle.gql_diag.specs.declared.with_errors.WithErrors.{WithErrors}
 use Rattle.gql_diag_messages.specs.declared.diagnostic_data.DiagnosticData.{DiagnosticData}
 use Rattle.gql_document_types.specs.declared.document.ExecutableDocument.{ExecutableDocument}
 use Rattle.gql_schema_types.specs.declared.schema.Schema.{Schema}

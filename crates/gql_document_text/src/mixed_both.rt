@@ -13,9 +13,10 @@ use crate::mixed_built::{built_document, built_schema, told};
 use crate::mixed_file::FileRead;
 use crate::mixed_ruled::check_all;
 use gql_ast::Document;
-use gql_diag::{DiagnosticData, DiagnosticList, Valid};
+use gql_diag::{DiagnosticData, DiagnosticList};
 use gql_document_types::ExecutableDocument;
 use gql_schema::Schema;
+use gql_schema_types::Valid;
 use jb_text::Refused;
 use std::alloc::Global;
 

@@ -8,10 +8,10 @@ ghost use Rattle.gql_document_text.specs.MixedRead.{IsMixedAnswer};
 
 use crate::mixed_both::both;
 use crate::mixed_file::read_file;
-use gql_diag::{DiagnosticList, Valid};
+use gql_diag::DiagnosticList;
 use gql_document_types::ExecutableDocument;
 use gql_parser::Parser;
-use gql_schema_types::Schema;
+use gql_schema_types::{Schema, Valid};
 use gql_source::FileIds;
 use jb_text::Refused;
 use std::alloc::Global;

@@ -2,11 +2,11 @@
 
 ghost use Rattle.gql_document_text.specs.Answers.{IsBuildRead, IsDocumentAnswer, IsRuled};
 
-use gql_diag::{DiagnosticList, Valid};
+use gql_diag::DiagnosticList;
 use gql_document_types::ExecutableDocument;
 use gql_parser::Parser;
 use gql_rules::validate_document;
-use gql_schema_types::Schema;
+use gql_schema_types::{Schema, Valid};
 use gql_source::FileIds;
 use jb_text::Refused;
 use std::alloc::Global;

@@ -25,10 +25,7 @@ mod wanted;
 pub use answer_error::{AnswerError, RequestKind, VariablesFault};
 pub use answering::answer;
 pub use gql_ast::Document;
-pub use gql_diag::{
-    DiagnosticList, ExecutionResponse, GraphQLError, RequestError, Valid, refusal_of_diagnostics,
-    refusal_of_request,
-};
+pub use gql_diag::{DiagnosticList, ExecutionResponse, GraphQLError, RequestError, refusal_of_diagnostics, refusal_of_request};
 pub use gql_document_text::laws::valid_documents_run;
 pub use gql_document_text::{ParseMixed, Parser, document_of_text};
 pub use gql_document_types::ExecutableDocument;
@@ -39,7 +36,7 @@ pub use gql_exec_resolve::{
 pub use gql_exec_steps::Steps;
 pub use gql_rules::validate_standalone;
 pub use gql_schema_text::schema_of_text;
-pub use gql_schema_types::Schema;
+pub use gql_schema_types::{Schema, Valid};
 pub use gql_source::{FileId, FileIds, SourceMap};
 pub use jb_io::{ANSWERED, MISUSED, NO_MEMORY, REFUSED, SINK_FAILED, SOURCE_FAILED, TOO_LONG};
 pub use jb_read::from_bytes_whole;

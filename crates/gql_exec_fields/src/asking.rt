@@ -15,9 +15,9 @@ ghost use Rattle.gql_exec_fields.specs.Planning.{ground_in};
 
 use crate::executing::Executing;
 use gql_coerce::ArgumentFault;
-use gql_diag::JsonMap;
 use gql_exec_plan::PlannedField;
 use gql_exec_resolve::{FieldError, ObjectValue, ResolveError, ResolveInfo, ResolvedValue};
+use gql_response::JsonMap;
 use gql_schema_types::{ObjectType, Schema};
 use jb_text::{Memory, Text};
 use jb_tree::Value;

@@ -18,9 +18,8 @@ use crate::executing::Executing;
 use crate::output::Output;
 use crate::place::Place;
 use gql_coerce::ArgumentFault;
-use gql_diag::RequestError;
 use gql_exec_resolve::{FieldError, Misfit, ObjectValue, leaf_misfit, resolver_error};
-use gql_response::GraphQLError;
+use gql_response::{GraphQLError, RequestError};
 use jb_text::{Listed, Memory};
 use jb_tree::Value;
 

@@ -11,9 +11,8 @@ use crate::leaves::{description_or_null, name_leaf, text_leaf, truth_leaf};
 use crate::meta_object::MetaObject;
 use crate::shown::kept;
 use gql_ast_definitions::{DirectiveDefinition, DirectiveLocation};
-use gql_diag::Valid;
 use gql_exec_resolve::ResolvedValue;
-use gql_schema_types::Schema;
+use gql_schema_types::{Schema, Valid};
 use jb_text::Memory;
 use std::alloc::Global;
 

@@ -8,9 +8,8 @@ use crate::deprecation::{deprecation_reason, is_deprecated};
 use crate::leaves::{description_or_null, name_leaf, text_or_null, truth_leaf};
 use crate::meta_object::MetaObject;
 use gql_ast_definitions::EnumValueDefinition;
-use gql_diag::Valid;
 use gql_exec_resolve::ResolvedValue;
-use gql_schema_types::Schema;
+use gql_schema_types::{Schema, Valid};
 use jb_text::Memory;
 
 /// A field of a value of an enum (GraphQL October 2021, section 4.2.5).

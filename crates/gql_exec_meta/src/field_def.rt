@@ -10,9 +10,8 @@ use crate::meta_object::MetaObject;
 use crate::named_types::type_object;
 use crate::shown::kept;
 use gql_ast_definitions::FieldDefinition;
-use gql_diag::Valid;
 use gql_exec_resolve::ResolvedValue;
-use gql_schema_types::Schema;
+use gql_schema_types::{Schema, Valid};
 use jb_text::Memory;
 
 /// A field of a field (GraphQL October 2021, section 4.2.3).

@@ -16,9 +16,8 @@ use crate::named_types::type_object;
 use gql_ast::print_value;
 use gql_ast_base::Value;
 use gql_ast_definitions::InputValueDefinition;
-use gql_diag::Valid;
 use gql_exec_resolve::ResolvedValue;
-use gql_schema_types::Schema;
+use gql_schema_types::{Schema, Valid};
 use jb_text::Memory;
 use std::alloc::Global;
 

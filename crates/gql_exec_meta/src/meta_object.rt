@@ -16,9 +16,8 @@ use gql_ast_base::TypeRef;
 use gql_ast_definitions::{
     DirectiveDefinition, EnumValueDefinition, FieldDefinition, InputValueDefinition,
 };
-use gql_diag::Valid;
 use gql_exec_resolve::{ObjectValue, ResolveError, ResolveInfo, ResolvedValue};
-use gql_schema_types::{ExtendedType, Schema};
+use gql_schema_types::{ExtendedType, Schema, Valid};
 use jb_text::Memory;
 use std::alloc::Global;
 

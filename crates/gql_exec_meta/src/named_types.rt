@@ -14,9 +14,8 @@ use crate::items::Items;
 use crate::leaves::null_leaf;
 use crate::meta_object::MetaObject;
 use gql_ast_base::{Name, TypeRef};
-use gql_diag::Valid;
 use gql_exec_resolve::ResolvedValue;
-use gql_schema_types::Schema;
+use gql_schema_types::{Schema, Valid};
 use jb_text::Memory;
 use std::alloc::Global;
 

@@ -8,9 +8,9 @@ ghost use Rattle.gql_exec_meta.specs.Seen.{stands_for};
 
 use crate::meta_object::MetaObject;
 use crate::named_types::named_type;
-use gql_diag::{JsonMap, Valid};
+use gql_diag::JsonMap;
 use gql_exec_resolve::{FieldError, ResolveError, ResolvedValue};
-use gql_schema_types::Schema;
+use gql_schema_types::{Schema, Valid};
 use jb_text::Text;
 use std::alloc::Global;
 

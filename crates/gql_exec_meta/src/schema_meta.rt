@@ -8,9 +8,8 @@ use crate::leaves::description_or_null;
 use crate::meta_object::MetaObject;
 use crate::named_types::root_type;
 use crate::shown::all_shown;
-use gql_diag::Valid;
 use gql_exec_resolve::ResolvedValue;
-use gql_schema_types::Schema;
+use gql_schema_types::{Schema, Valid};
 use jb_text::Memory;
 
 /// A field of a schema (GraphQL October 2021, section 4.2.1).

@@ -19,9 +19,8 @@ use crate::meta_object::MetaObject;
 use crate::named_types::named_types;
 use crate::shown::kept;
 use gql_ast_base::Name;
-use gql_diag::Valid;
 use gql_exec_resolve::ResolvedValue;
-use gql_schema_types::{ExtendedType, Named, Schema};
+use gql_schema_types::{ExtendedType, Named, Schema, Valid};
 use jb_text::{Memory, Text};
 use std::alloc::Global;
 

@@ -11,9 +11,8 @@ use crate::leaves::{null_leaf, text_or_null};
 use crate::meta_object::MetaObject;
 use crate::named_types::{named_type, type_object};
 use gql_ast_base::TypeRef;
-use gql_diag::Valid;
 use gql_exec_resolve::ResolvedValue;
-use gql_schema_types::Schema;
+use gql_schema_types::{Schema, Valid};
 use jb_text::Memory;
 
 /// A field of a list or a non-null type (GraphQL October 2021, section 4.2.2): all but `kind` and `ofType` are null.

@@ -1,7 +1,7 @@
 //! Which coerced arguments a plan keeps.
 
 use gql_coerce::ArgumentFault;
-use gql_diag::JsonMap;
+use gql_response::JsonMap;
 use jb_text::Listed;
 use jb_tree::{Map, Value};
 

@@ -9,11 +9,11 @@ ghost use Rattle.gql_exec_plan.specs.View.{fragments_nested, nested};
 ghost use Rattle.gql_rules_graph.specs.Cycles.{IsOnCycle};
 
 use crate::depth::DepthCheck;
-use gql_diag::{RequestError, Valid};
 use gql_document_types::{ExecutableDocument, Fragment, Operation, Selection};
 use gql_exec_steps::Steps;
+use gql_response::RequestError;
 use gql_rules_graph_laws::laws;
-use gql_schema_types::Table;
+use gql_schema_types::{Table, Valid};
 use gql_source::SourceSpan;
 use jb_text::{Listed, Memory, Refused, Text};
 use std::alloc::Global;

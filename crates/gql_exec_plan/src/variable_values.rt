@@ -7,9 +7,9 @@ ghost use Rattle.gql_coerce.specs.Variables.{coerced_variables};
 ghost use Rattle.gql_exec_plan.specs.RequestErrors.{request_error as error_of, error_told};
 
 use gql_coerce::{InputCoercionError, coerce_variables};
-use gql_diag::{JsonMap, RequestError, Valid};
 use gql_document_types::Operation;
-use gql_schema_types::Schema;
+use gql_response::{JsonMap, RequestError};
+use gql_schema_types::{Schema, Valid};
 use jb_text::Refused;
 use std::alloc::Global;
 

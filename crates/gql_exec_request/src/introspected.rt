@@ -10,11 +10,10 @@ ghost use Rattle.gql_exec_request.specs.Thing.{of_library, of_user};
 ghost use Rattle.gql_exec_request.specs.ThingMeaning.{own_meaning, root_meaning};
 
 use crate::standing::{Standing, answer};
-use gql_diag::Valid;
 use gql_exec_fields::is_introspection;
 use gql_exec_meta::{MetaObject, schema_field, type_field};
 use gql_exec_resolve::{ObjectValue, ResolveError, ResolveInfo, ResolvedValue};
-use gql_schema_types::Schema;
+use gql_schema_types::{Schema, Valid};
 use std::alloc::Global;
 
 /// A user's object or one of introspection, asked under a schema (GraphQL October 2021, section 4).

@@ -6,9 +6,9 @@ ghost use Rattle.gql_schema_types.specs.Schemas.{field_of, type_named};
 ghost use Rattle.gql_exec_resolve.specs.NamedTypes.{type_named_by_field};
 
 use gql_ast_definitions::FieldDefinition;
-use gql_diag::{JsonMap, Valid};
 use gql_document_types::{ExecutableDocument, Field};
-use gql_schema_types::{ExtendedType, ImplementersMap, ObjectType, Schema};
+use gql_response::JsonMap;
+use gql_schema_types::{ExtendedType, ImplementersMap, ObjectType, Schema, Valid};
 use jb_text::Listed;
 
 /// What all resolvers of an execution are told alike.

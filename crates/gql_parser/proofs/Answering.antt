@@ -21,7 +21,7 @@ use Rattle.gql_ast_definitions.specs.declared.selection.Selection.{Selection}
 use Rattle.gql_ast_definitions.specs.Selections.{selected, selections}
 use Rattle.gql_ast_laws.specs.Meant.{IsDocumentOf, AreSelectionsOf, IsTypeOf}
 use Rattle.gql_diag.specs.List.{Diagnostics}
-use Rattle.gql_diag.specs.declared.valid.WithErrors.{WithErrors}
+use Rattle.gql_diag.specs.declared.with_errors.WithErrors.{WithErrors}
 use Rattle.gql_ast_base.specs.Names.{Named}
 use Rattle.gql_document_build.specs.FieldSets.{built, all_faults}
 use Rattle.gql_document_build.specs.Judged.{IsJudged as IsFaultsJudged}

@@ -11,7 +11,7 @@ use Rattle.gql_ast.specs.declared.document.Document.{Document}
 use Rattle.gql_ast.specs.Documents.{definitions}
 use Rattle.gql_ast_laws.specs.Meant.{IsDocumentOf}
 use Rattle.gql_diag.specs.List.{Diagnostics}
-use Rattle.gql_diag.specs.declared.valid.WithErrors.{WithErrors}
+use Rattle.gql_diag.specs.declared.with_errors.WithErrors.{WithErrors}
 use Rattle.gql_parser.specs.Parsers.{ParserState, Given, its_file}
 use Rattle.gql_parser.specs.Readings.{IsWhole, IsStopped}
 use Rattle.gql_parser.specs.Diagnosed.{list_of}

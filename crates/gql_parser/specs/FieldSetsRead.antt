@@ -15,7 +15,7 @@ use Rattle.gql_ast_definitions.specs.declared.selection.Selection.{Selection}
 use Rattle.gql_ast_definitions.specs.Selections.{selection_of}
 use Rattle.gql_ast_laws.specs.Meant.{AreSelectionsOf}
 use Rattle.gql_diag.specs.List.{Diagnostics}
-use Rattle.gql_diag.specs.declared.valid.WithErrors.{WithErrors}
+use Rattle.gql_diag.specs.declared.with_errors.WithErrors.{WithErrors}
 use Rattle.gql_document_build.specs.FieldSets.{built, all_faults}
 use Rattle.gql_document_build.specs.Judged.{IsJudged}
 use Rattle.gql_document_types.specs.declared.document.FieldSet.{FieldSet}

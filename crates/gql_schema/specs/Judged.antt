@@ -4,7 +4,7 @@ use Rattle.jb_text.specs.declared.refused.Refused.{Refused}
 use Rattle.jb_text.specs.declared.refused.Refused.TheVariants.{Fault, Memory}
 use Rattle.gql_diag.specs.List.{IsStableSort}
 use Rattle.gql_diag.specs.Order.{list_order}
-use Rattle.gql_diag.specs.declared.valid.WithErrors.{WithErrors}
+use Rattle.gql_diag.specs.declared.with_errors.WithErrors.{WithErrors}
 use Rattle.gql_diag_messages.specs.declared.diagnostic_data.DiagnosticData.{DiagnosticData}
 use Rattle.gql_schema_types.specs.declared.schema.Schema.{Schema}
 

@@ -12,7 +12,7 @@ use Rattle.gql_cst.specs.Parses.{IsParse}
 use Rattle.gql_cst_grammar.specs.declared.rule.Rule.TheVariants as rule
 use Rattle.gql_diag.specs.List.{Diagnostics, IsStableSort}
 use Rattle.gql_diag.specs.Order.{list_order}
-use Rattle.gql_diag.specs.declared.valid.WithErrors.{WithErrors}
+use Rattle.gql_diag.specs.declared.with_errors.WithErrors.{WithErrors}
 use Rattle.gql_diag_messages.specs.declared.diagnostic_data.DiagnosticData.{DiagnosticData}
 use Rattle.gql_parser.specs.Diagnosed.{diagnostic}
 use Rattle.gql_parser.specs.DocumentsRead as parsed

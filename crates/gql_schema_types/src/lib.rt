@@ -12,6 +12,7 @@ mod schema;
 mod shared;
 mod table;
 mod types;
+mod valid;
 
 pub use implementers::{Implementers, ImplementersMap};
 pub use meta_fields::MetaFields;
@@ -22,3 +23,4 @@ pub use table::Table;
 pub use types::{
     EnumType, ExtendedType, InputObjectType, InterfaceType, ObjectType, ScalarType, UnionType,
 };
+pub use valid::Valid;

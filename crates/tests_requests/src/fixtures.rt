@@ -5,12 +5,12 @@ ghost use Rattle.gql_document_types.specs.Spreads.{spread_graph};
 ghost use Rattle.gql_rules_graph.specs.Cycles.{IsOnCycle};
 
 use bytes::Bytes;
-use gql_diag::{ExecutionResponse, JsonMap, JsonValue, RequestError, Valid, refusal_of_request};
+use gql_diag::{ExecutionResponse, JsonMap, JsonValue, RequestError, refusal_of_request};
 use gql_document_types::ExecutableDocument;
 use gql_exec_request::Execution;
 use gql_exec_resolve::ObjectValue;
 use gql_parser::Parser;
-use gql_schema_types::Schema;
+use gql_schema_types::{Schema, Valid};
 use gql_source::{FileIds, SourceMap};
 use jb_read::from_str;
 use jb_text::{Memory, Refused};

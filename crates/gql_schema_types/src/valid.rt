@@ -1,8 +1,7 @@
-//! What passed validation, and what did not.
+//! What passed validation.
 
 ghost use Rattle.std.specs.Prelude.{◌≡◌};
 
-use crate::diagnostic_list::DiagnosticList;
 use std::marker::Model;
 
 /// What passed validation. A contract sees the value itself.
@@ -44,11 +43,4 @@ impl<T> Valid<T> {
         let Valid { value } = self;
         value
     }
-}
-
-/// What could be made in spite of faults, and the faults.
-#[derive(Debug, Drop)]
-pub struct WithErrors<T> {
-    pub partial: T,
-    pub errors: DiagnosticList,
 }
