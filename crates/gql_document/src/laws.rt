@@ -12,7 +12,7 @@ ghost use Rattle.gql_document_types.specs.declared.selection.FragmentSpread.{Fra
 ghost use Rattle.gql_document_types.specs.declared.selection.Selection.TheVariants as selection;
 ghost use Rattle.gql_rules_graph.specs.Cycles.{IsOnCycle};
 
-use gql_rules_graph_laws::laws as graph_laws;
+use gql_rules_graph::laws as graph_laws;
 
 /// Where no fragment leads back to itself, what stands for a fragment is what its own selections are expanded to: no spread in
 /// it is left out for want of room (GraphQL October 2021, section 5.5.2.2).

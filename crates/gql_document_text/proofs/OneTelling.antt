@@ -10,7 +10,7 @@ use Rattle.gql_rules.specs.DocumentFaults.{AreDocumentFaults, AreFirstOrAll, Are
 use Rattle.gql_rules_selections.specs.DocumentNodes.{document_nodes_faults}
 use Rattle.gql_rules_merging.specs.FieldSelectionMerging.{AreConflicts, conflict, conflict_of, same_fields}
 use Rattle.gql_rules_merging.specs.Numbering.{Selected, numbered}
-use Rattle.gql_rules_pairs.specs.declared.pair.Pair.{Pair}
+use Rattle.gql_rules_graph.specs.declared.pair.Pair.{Pair}
 use Rattle.gql_schema_types.specs.declared.schema.Schema.{Schema}
 use Rattle.gql_schema_types.specs.declared.types.ExtendedType.{ExtendedType}
 use Rattle.gql_document_text.proofs.Sets.{Has, found, has_at, same_told}

@@ -25,7 +25,7 @@ use Rattle.gql_rules_graph.specs.Chains.{is_marked, mark_of}
 use Rattle.gql_rules_graph.specs.Cycles.{IsOnCycle}
 use Rattle.gql_rules_graph.specs.Graph.{Graph}
 use Rattle.gql_rules_graph.proofs.Walks.{from_node}
-use Rattle.gql_rules_graph_laws.specs.Ranks.{IsRanked}
+use Rattle.gql_rules_graph.specs.Ranks.{IsRanked}
 use Rattle.gql_schema_types.specs.declared.schema.Schema.{Schema}
 use Rattle.gql_document_text.specs.DocumentText.{DocumentText, AreDefinitions}
 use Rattle.gql_document_text.specs.Running.{AreOnRoots, IsOnRoot}

@@ -16,7 +16,7 @@ ghost use Rattle.gql_schema_types.specs.declared.schema.Schema.{Schema as Schema
 use gql_ast_laws::laws as tree_laws;
 use gql_cst_grammar::laws as grammar_laws;
 use gql_cst_lexer::laws as token_laws;
-use gql_rules_graph_laws::laws as graph_laws;
+use gql_rules_graph::laws as graph_laws;
 
 /// Against one schema a text means one document at most (GraphQL October 2021, section 2.2), and none where something is wrong
 /// with it. Two lists of what is wrong with it tell the same.

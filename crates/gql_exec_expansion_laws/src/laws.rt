@@ -16,7 +16,7 @@ ghost use Rattle.gql_rules_graph.specs.Cycles.{IsOnCycle};
 ghost use Rattle.gql_schema_types.specs.declared.types.ObjectType.{ObjectType};
 
 use gql_document::laws as expansion_laws;
-use gql_rules_graph_laws::laws as graph_laws;
+use gql_rules_graph::laws as graph_laws;
 
 /// Selections and the same selections with each spread replaced are executed alike, for every resolver, what it leaves out
 /// included: the data, the errors in order, their paths and their places are equal. The second may stand in the same document,

@@ -18,7 +18,7 @@ use Rattle.gql_exec_plan.specs.Nested.{Nested, Place, body_in, IsBelow, AreRanke
 use Rattle.gql_exec_plan.specs.View.{One, one_field, one_spread, one_inline, then_more, spread_of, number_of, one_of, nested, body_nested, fragments_nested}
 use Rattle.gql_exec_plan.proofs.Views.{each, view-field, view-spread, view-inline, view-inside, view-node}
 use Rattle.gql_rules_graph.specs.Graph.{row}
-use Rattle.gql_rules_graph_laws.specs.Ranks.{IsRanked}
+use Rattle.gql_rules_graph.specs.Ranks.{IsRanked}
 
 numbers-field : (all : List Fragment) (f : Field) → numbers_at all (selection.Field f) ≡ spread_numbers all f.selection_set.selections
 numbers-field all f = search (rules, the_lemmas)

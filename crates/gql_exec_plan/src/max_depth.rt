@@ -12,7 +12,7 @@ use crate::depth::DepthCheck;
 use gql_document_types::{ExecutableDocument, Fragment, Operation, Selection};
 use gql_exec_steps::Steps;
 use gql_response::RequestError;
-use gql_rules_graph_laws::laws;
+use gql_rules_graph::laws;
 use gql_schema_types::{Table, Valid};
 use gql_source::SourceSpan;
 use jb_text::{Listed, Memory, Refused, Text};

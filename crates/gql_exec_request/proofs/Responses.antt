@@ -23,7 +23,7 @@ use Rattle.gql_exec_world.specs.Response.{response_at, IsExecuted, IsExplained}
 use Rattle.gql_exec_world.proofs.Lawful.{lawful}
 use Rattle.gql_exec_world.proofs.Nests.{suffices}
 use Rattle.gql_exec_fields.specs.Executed.{Executes}
-use Rattle.gql_rules_graph_laws.specs.Ranks.{IsRanked}
+use Rattle.gql_rules_graph.specs.Ranks.{IsRanked}
 
 -- ranks of a graph of spreads are those of the fragments
 pub fragments-ranked : (all : List Fragment) (rank : ℕ → ℕ) → IsRanked (spread_graph all) rank → AreRanked all rank

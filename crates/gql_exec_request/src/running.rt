@@ -23,7 +23,7 @@ use gql_exec_fields::{Executing, Output, Path};
 use gql_exec_plan::{Pieces, coerce_variable_values};
 use gql_exec_resolve::{ObjectValue, RequestInfo};
 use gql_exec_steps::Steps;
-use gql_rules_graph_laws::laws;
+use gql_rules_graph::laws;
 use gql_schema_types::{ImplementersMap, ObjectType, Valid};
 use jb_text::{Listed, Memory, Refused, Text};
 use std::alloc::Global;

@@ -33,7 +33,7 @@ use Rattle.gql_exec_plan.specs.Same.{SameFirst}
 use Rattle.gql_exec_plan.specs.Setting.{Setting}
 use Rattle.gql_exec_plan.proofs.Numbers.{body-is, body-none}
 use Rattle.gql_exec_plan.proofs.Variants.{out-field, out-spread, out-inline, each}
-use Rattle.gql_rules_graph_laws.specs.Ranks.{IsRanked}
+use Rattle.gql_rules_graph.specs.Ranks.{IsRanked}
 use Rattle.gql_exec_places.specs.Depth.{AllGroups, Suffices}
 use Rattle.gql_exec_places.specs.World.{World}
 use Rattle.gql_exec_world.specs.Group.{Group, piece_of, pieces_of, started, groups_from}

@@ -1,3 +1,8 @@
+mod Growing
+mod Inserted
+mod Meetings
+mod SetFields
+pub mod Heights
 pub mod Chained
 pub mod Cyclic
 pub mod Ends

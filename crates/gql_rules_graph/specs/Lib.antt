@@ -1,3 +1,8 @@
+pub mod Explored
+pub mod Exploring
+pub mod Pairs
+pub mod Steps
+pub mod Ranks
 pub mod Chains
 pub mod Cycles
 pub mod Flooding

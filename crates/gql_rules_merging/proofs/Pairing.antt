@@ -3,9 +3,9 @@ use Rattle.std.proofs.Common.{◌≡◌, ℕ, zero, suc, ◌<◌, Bool, true, fa
 use Rattle.std.specs.Bool.{beq}
 use Rattle.std.specs.List.{slice_get}
 use Rattle.std.proofs.lemmas.Bool.{eqb-true, lt-ltb}
-use Rattle.gql_rules_pairs.specs.Explored.{pair_of}
-use Rattle.gql_rules_pairs.specs.Steps.{is_pair}
-use Rattle.gql_rules_pairs.specs.declared.pair.Pair.{Pair}
+use Rattle.gql_rules_graph.specs.Explored.{pair_of}
+use Rattle.gql_rules_graph.specs.Steps.{is_pair}
+use Rattle.gql_rules_graph.specs.declared.pair.Pair.{Pair}
 
 beq-true : (x y : Bool) → beq x y ≡ true → x ≡ y
 beq-true true true is = refl

@@ -9,10 +9,10 @@ use Rattle.std.proofs.lemmas.List.Elements.{Contains-append_right}
 use Rattle.std.proofs.lemmas.Bool.{eqb-true, eq-eqb}
 use Rattle.gql_rules_graph.proofs.Flooded.{Contains-cons_cases, none_contained}
 use Rattle.gql_diag_messages.specs.declared.diagnostic_data.DiagnosticData.{DiagnosticData}
-use Rattle.gql_rules_pairs.specs.Explored.{pair_of, IsMet, same, other, IsExplored}
-use Rattle.gql_rules_pairs.specs.Pairs.{Sets, IsCompared, in_set, below as under}
-use Rattle.gql_rules_pairs.specs.Steps.{is_pair}
-use Rattle.gql_rules_pairs.specs.declared.pair.Pair.{Pair}
+use Rattle.gql_rules_graph.specs.Explored.{pair_of, IsMet, same, other, IsExplored}
+use Rattle.gql_rules_graph.specs.Pairs.{Sets, IsCompared, in_set, below as under}
+use Rattle.gql_rules_graph.specs.Steps.{is_pair}
+use Rattle.gql_rules_graph.specs.declared.pair.Pair.{Pair}
 use Rattle.gql_schema_types.specs.declared.types.ExtendedType.{ExtendedType}
 use Rattle.gql_rules_merging.specs.ConflictingFieldType.{types_conflict}
 use Rattle.gql_rules_merging.specs.FieldSelectionMerging.{below, below_fields, conflict_of, same_fields, sets_of, are_apart, differ, items, AreConflicts}

@@ -3,7 +3,7 @@ use Rattle.std.proofs.lemmas.List.{length-map}
 use Rattle.gql_document_types.specs.Spreads.{spreads_in, spread_graph}
 use Rattle.gql_document_types.specs.declared.fragment.Fragment.{Fragment}
 use Rattle.gql_exec_plan.specs.Ranks.{AreRanked}
-use Rattle.gql_rules_graph_laws.specs.Ranks.{IsRanked}
+use Rattle.gql_rules_graph.specs.Ranks.{IsRanked}
 use Rattle.gql_exec_expansion_laws.proofs.Runs.{run-same, executed-alike}
 use Rattle.gql_exec_expansion_laws.proofs.laws.expansion_changes_nothing.Goals as goal
 

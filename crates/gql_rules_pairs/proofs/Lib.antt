@@ -1,4 +1,0 @@
-mod Growing
-mod Inserted
-mod Meetings
-mod SetFields

@@ -1,4 +1,0 @@
-pub mod Explored
-pub mod Exploring
-pub mod Pairs
-pub mod Steps
