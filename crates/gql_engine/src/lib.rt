@@ -33,7 +33,7 @@ pub use gql_exec_request::{Execution, WrittenResponse, partial_execute};
 pub use gql_exec_resolve::{
     DataObject, FieldError, ObjectValue, ResolveError, ResolveInfo, ResolvedValue,
 };
-pub use gql_exec_steps::Steps;
+pub use gql_exec_plan::Steps;
 pub use gql_rules::validate_standalone;
 pub use gql_schema_text::schema_of_text;
 pub use gql_schema_types::{Schema, Valid};

@@ -14,7 +14,7 @@ use crate::output::{Output, output_of, self_test};
 use crate::task::{Task, Wish, task_asked};
 use bytes::Bytes;
 use gql_document_text::laws as document_laws;
-use gql_exec_steps::Steps;
+use gql_exec_plan::Steps;
 use gql_schema_text::laws as schema_laws;
 use jb_io::{
     ANSWERED, InputFault, MISUSED, NO_MEMORY, REFUSED, SINK_FAILED, SOURCE_FAILED, Sink, SinkFault,

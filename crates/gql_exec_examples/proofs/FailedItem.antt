@@ -4,8 +4,8 @@ use Rattle.jb_tree.specs.declared.value.Value.TheVariants as json
 use Rattle.gql_exec_plan.specs.Flat.{flat_sets}
 use Rattle.gql_exec_places.specs.Execute.{Made, Member, execute}
 use Rattle.gql_exec_places.specs.Trail.{Segment}
-use Rattle.gql_exec_world.specs.Group.{Group}
-use Rattle.gql_exec_world.specs.RequestWorld.{setting_on}
+use Rattle.gql_exec_fields.specs.Group.{Group}
+use Rattle.gql_exec_fields.specs.RequestWorld.{setting_on}
 use Rattle.gql_response.specs.declared.path.ResponseDataPathSegment.TheVariants.{Field, ListIndex}
 use Rattle.gql_exec_examples.specs.Example.{IsAnswered, root, request}
 use Rattle.gql_exec_examples.specs.Examples.{failed_item, list_query, f}

@@ -15,7 +15,7 @@ use Rattle.gql_exec_plan.specs.Groups.{response_key, has_key, distinct_after, ke
 use Rattle.gql_exec_plan.specs.Kept.{Variables}
 use Rattle.gql_exec_plan.specs.Ranks.{AreRanked}
 use Rattle.gql_exec_plan.specs.Setting.{Setting}
-use Rattle.gql_exec_world.specs.Group.{Group, piece_of, pieces_of, started, group_from, groups_from}
+use Rattle.gql_exec_fields.specs.Group.{Group, piece_of, pieces_of, started, group_from, groups_from}
 use Rattle.gql_exec_expansion_laws.proofs.Flats.{flat-agrees}
 use Rattle.gql_exec_expansion_laws.proofs.Steady.{flat-more}
 

@@ -16,10 +16,10 @@ use Rattle.gql_exec_places.specs.Resolved.{Outcome, answered, refused}
 use Rattle.gql_exec_places.specs.Spot.{Spot, item_spot, field_spot}
 use Rattle.gql_exec_places.specs.Trail.{Segment, Trail}
 use Rattle.gql_exec_places.specs.World.{World, key_of}
-use Rattle.gql_exec_world.specs.Group.{Group}
-use Rattle.gql_exec_world.specs.Request.{Request}
-use Rattle.gql_exec_world.specs.RequestWorld.{plain, plain_world}
-use Rattle.gql_exec_world.specs.Response.{IsExecuted}
+use Rattle.gql_exec_fields.specs.Group.{Group}
+use Rattle.gql_exec_fields.specs.Request.{Request}
+use Rattle.gql_exec_fields.specs.RequestWorld.{plain, plain_world}
+use Rattle.gql_exec_fields.specs.Response.{IsExecuted}
 use Rattle.gql_response.specs.declared.execution_response.ExecutionResponse.{ExecutionResponse}
 use Rattle.gql_exec_expansion_laws.specs.Others.{among}
 use Rattle.gql_exec_expansion_laws.proofs.Groups.{with_pieces, groups-expanded}

@@ -8,9 +8,9 @@ ghost use Rattle.gql_document_types.specs.declared.selection.Selection.{Selectio
 ghost use Rattle.gql_exec_expansion_laws.specs.Others.{among};
 ghost use Rattle.gql_exec_places.specs.Execute.{execute};
 ghost use Rattle.gql_exec_places.specs.Trail.{Trail};
-ghost use Rattle.gql_exec_world.specs.Request.{Request};
-ghost use Rattle.gql_exec_world.specs.RequestWorld.{plain_world};
-ghost use Rattle.gql_exec_world.specs.Response.{IsExecuted};
+ghost use Rattle.gql_exec_fields.specs.Request.{Request};
+ghost use Rattle.gql_exec_fields.specs.RequestWorld.{plain_world};
+ghost use Rattle.gql_exec_fields.specs.Response.{IsExecuted};
 ghost use Rattle.gql_response.specs.declared.execution_response.ExecutionResponse.{ExecutionResponse};
 ghost use Rattle.gql_rules_graph.specs.Cycles.{IsOnCycle};
 ghost use Rattle.gql_schema_types.specs.declared.types.ObjectType.{ObjectType};

@@ -12,12 +12,12 @@ use Rattle.gql_exec_plan.specs.Ranks.{AreRanked}
 use Rattle.gql_exec_plan.specs.declared.group.Group.{Group as FieldsOfKey}
 use Rattle.gql_exec_places.specs.Depth.{Suffices}
 use Rattle.gql_exec_places.specs.World.{DistinctKeys}
-use Rattle.gql_exec_world.specs.Nesting.{nesting}
-use Rattle.gql_exec_world.specs.Request.{Request}
-use Rattle.gql_exec_world.specs.RequestWorld.{plain_world, setting_on}
-use Rattle.gql_exec_world.specs.Runs.{RunsAs}
-use Rattle.gql_exec_world.proofs.Alike.{collected-distinct, collected-runs}
-use Rattle.gql_exec_world.proofs.Nests.{groups-below}
+use Rattle.gql_exec_fields.specs.Nesting.{nesting}
+use Rattle.gql_exec_fields.specs.Request.{Request}
+use Rattle.gql_exec_fields.specs.RequestWorld.{plain_world, setting_on}
+use Rattle.gql_exec_fields.specs.Runs.{RunsAs}
+use Rattle.gql_exec_fields.proofs.Alike.{collected-distinct, collected-runs}
+use Rattle.gql_exec_fields.proofs.Nests.{groups-below}
 use Rattle.gql_exec_fields.specs.Trails.{group_of}
 use Rattle.gql_exec_fields.proofs.Measures.{below-at, drop-item}
 use Rattle.gql_exec_fields.proofs.Views.{views, views-from}

@@ -17,9 +17,9 @@ use Rattle.gql_exec_places.specs.World.{World}
 use Rattle.gql_exec_resolve.specs.Meaning.{meaning_by, item_by}
 use Rattle.gql_exec_resolve.specs.declared.resolve_error.FieldError.{FieldError}
 use Rattle.gql_exec_resolve.specs.declared.resolved_value.ResolvedValue.{ResolvedValue}
-use Rattle.gql_exec_world.specs.Group.{Group}
-use Rattle.gql_exec_world.specs.Request.{Request}
-use Rattle.gql_exec_world.specs.RequestWorld.{plain_world}
+use Rattle.gql_exec_fields.specs.Group.{Group}
+use Rattle.gql_exec_fields.specs.Request.{Request}
+use Rattle.gql_exec_fields.specs.RequestWorld.{plain_world}
 use Rattle.gql_exec_fields.specs.Executed.{IsMade, Makes, MakesBelow}
 use Rattle.gql_exec_fields.specs.Output.{Finds, IsWritten}
 use Rattle.gql_exec_fields.specs.Trails.{null_at}

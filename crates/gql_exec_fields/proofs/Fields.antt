@@ -14,10 +14,10 @@ use Rattle.gql_exec_resolve.specs.Meaning.{meaning_by}
 use Rattle.gql_exec_resolve.specs.declared.resolve_error.FieldError.{FieldError}
 use Rattle.gql_exec_resolve.specs.declared.resolved_value.ResolvedValue.{ResolvedValue}
 use Rattle.gql_coerce.specs.declared.told.ArgumentFault.{ArgumentFault}
-use Rattle.gql_exec_world.specs.Asks as asks
-use Rattle.gql_exec_world.specs.Group.{Group}
-use Rattle.gql_exec_world.specs.Request.{Request}
-use Rattle.gql_exec_world.specs.RequestWorld.{plain_world}
+use Rattle.gql_exec_fields.specs.Asks as asks
+use Rattle.gql_exec_fields.specs.Group.{Group}
+use Rattle.gql_exec_fields.specs.Request.{Request}
+use Rattle.gql_exec_fields.specs.RequestWorld.{plain_world}
 use Rattle.gql_exec_fields.specs.Asking.{outcome_of}
 use Rattle.gql_exec_fields.specs.declared.asking.Asked.{Asked}
 use Rattle.gql_exec_fields.specs.declared.asking.Asked.TheVariants.{Gave, Failed, Refused}

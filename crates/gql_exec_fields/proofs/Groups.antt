@@ -10,8 +10,8 @@ use Rattle.gql_exec_places.specs.Execute.{Made, Member, keyed, with_key, field_m
 use Rattle.gql_exec_places.specs.Spot.{field_spot}
 use Rattle.gql_exec_places.specs.Trail.{Trail}
 use Rattle.gql_exec_places.specs.World.{World, key_of, DistinctKeys}
-use Rattle.gql_exec_world.specs.Group.{Group}
-use Rattle.gql_exec_world.specs.Runs.{RunsAs}
+use Rattle.gql_exec_fields.specs.Group.{Group}
+use Rattle.gql_exec_fields.specs.Runs.{RunsAs}
 use Rattle.gql_exec_fields.specs.Executed.{IsMade, IsEnough, MakesBelow, Executes, ExecutesGroups}
 use Rattle.gql_exec_fields.proofs.Completing.{made-as}
 use Rattle.gql_exec_fields.proofs.Keys.{AreNew, new-begun, new-more, new-less}

@@ -16,9 +16,9 @@ use Rattle.gql_exec_plan.specs.declared.plan.Part.{Part}
 use Rattle.gql_exec_plan.proofs.Changes.{with_nodes, with_parts}
 use Rattle.gql_exec_plan.proofs.Growing.{grows-none, grows-then, grows-as}
 use Rattle.gql_exec_plan.proofs.Ways.{GoesBy, grows-nodes, grows-parts}
-use Rattle.gql_exec_world.specs.Group.{Group}
-use Rattle.gql_exec_world.specs.Request.{Request}
-use Rattle.gql_exec_world.specs.RequestWorld.{plain_world, setting_on}
+use Rattle.gql_exec_fields.specs.Group.{Group}
+use Rattle.gql_exec_fields.specs.Request.{Request}
+use Rattle.gql_exec_fields.specs.RequestWorld.{plain_world, setting_on}
 use Rattle.gql_exec_fields.specs.Looks.{NodesGrow, PartsGrow}
 use Rattle.gql_exec_fields.specs.Opened.{AnyGroup, Gives, AnyGives, Brings, Opens, OpensBy, Turns, MakesTurn}
 use Rattle.gql_exec_fields.specs.Planning.{ground_in}

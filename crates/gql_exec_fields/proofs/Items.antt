@@ -10,7 +10,7 @@ use Rattle.gql_exec_places.specs.Resolved.{Meaning, Meanings, no_answer, answer_
 use Rattle.gql_exec_places.specs.Spot.{Spot, item_spot}
 use Rattle.gql_ast_base.specs.TypeParts.{is_non_null}
 use Rattle.gql_exec_places.specs.World.{World}
-use Rattle.gql_exec_world.specs.Group.{Group}
+use Rattle.gql_exec_fields.specs.Group.{Group}
 use Rattle.gql_exec_fields.specs.Executed.{IsEnough, MakesBelow}
 use Rattle.gql_exec_fields.proofs.Completing.{made-as, array-some, array-none}
 use Rattle.gql_exec_fields.proofs.Steps.{IsOnWay, begun, goes_on, stops, ends}

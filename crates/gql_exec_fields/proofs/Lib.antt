@@ -1,3 +1,6 @@
+pub mod Lawful
+pub mod Alike
+pub mod Nests
 pub mod Collecting
 pub mod Completing
 pub mod Done

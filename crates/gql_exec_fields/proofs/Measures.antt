@@ -12,7 +12,7 @@ use Rattle.gql_schema_types.specs.declared.types.ObjectType.{ObjectType}
 use Rattle.gql_exec_plan.specs.Grouping.{groups_seen, group_seen}
 use Rattle.gql_exec_plan.specs.declared.group.Group.{Group as FieldsOfKey}
 use Rattle.gql_exec_resolve.proofs.Height.{height}
-use Rattle.gql_exec_world.specs.Nesting.{nesting, IsBelow, AllBelow}
+use Rattle.gql_exec_fields.specs.Nesting.{nesting, IsBelow, AllBelow}
 use Rattle.gql_exec_fields.proofs.Heights.{top, field-top}
 use Rattle.gql_exec_fields.specs.Trails.{group_of}
 use Rattle.gql_exec_fields.specs.declared.executing.Executing.{Executing}

@@ -11,10 +11,10 @@ use Rattle.gql_exec_places.specs.Resolved.{Meaning, Meanings, gives_leaf, gives_
 use Rattle.gql_exec_places.specs.Resolved.{Outcome, answered, refused}
 use Rattle.gql_exec_places.specs.Types.{item_type}
 use Rattle.gql_exec_places.specs.World.{World, key_of}
-use Rattle.gql_exec_world.specs.Group.{Group}
-use Rattle.gql_exec_world.specs.Request.{Request}
-use Rattle.gql_exec_world.specs.RequestWorld.{plain_world, setting_on}
-use Rattle.gql_exec_world.proofs.Alike.{IsAlike, AreAlike, groups-alike, sets-alike}
+use Rattle.gql_exec_fields.specs.Group.{Group}
+use Rattle.gql_exec_fields.specs.Request.{Request}
+use Rattle.gql_exec_fields.specs.RequestWorld.{plain_world, setting_on}
+use Rattle.gql_exec_fields.proofs.Alike.{IsAlike, AreAlike, groups-alike, sets-alike}
 use Rattle.gql_exec_fields.specs.Opened.{Way, AnyGroup, Gives, AnyGives, Brings, Opens, OpensBy}
 use Rattle.gql_exec_fields.proofs.Views.{views, views-from}
 

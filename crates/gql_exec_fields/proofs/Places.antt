@@ -16,9 +16,9 @@ use Rattle.gql_ast_base.specs.TypeParts.{is_non_null}
 use Rattle.gql_exec_places.specs.World.{World}
 use Rattle.gql_exec_resolve.specs.declared.resolved_value.ResolvedValue.{ResolvedValue}
 use Rattle.gql_exec_resolve.specs.Meaning.{meaning_by}
-use Rattle.gql_exec_world.specs.Group.{Group}
-use Rattle.gql_exec_world.specs.Request.{Request}
-use Rattle.gql_exec_world.specs.RequestWorld.{plain_world}
+use Rattle.gql_exec_fields.specs.Group.{Group}
+use Rattle.gql_exec_fields.specs.Request.{Request}
+use Rattle.gql_exec_fields.specs.RequestWorld.{plain_world}
 use Rattle.gql_exec_fields.specs.Executed.{IsMade, MakesBelow, Executes}
 use Rattle.gql_exec_fields.proofs.Completing.{made-as, completed-misfit, completed-object, object-some, object-none}
 use Rattle.gql_exec_fields.proofs.Values.{settled-answer}

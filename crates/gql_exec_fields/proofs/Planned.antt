@@ -23,10 +23,10 @@ use Rattle.gql_exec_plan.specs.declared.plan.Node.{Node}
 use Rattle.gql_exec_plan.specs.declared.plan.Part.{Part}
 use Rattle.gql_exec_plan.proofs.Fields.{field-at}
 use Rattle.gql_exec_plan.proofs.Nodes.{node-parts, part-nodes}
-use Rattle.gql_exec_world.specs.Nesting.{nesting}
-use Rattle.gql_exec_world.specs.Request.{Members}
-use Rattle.gql_exec_world.specs.RequestWorld.{plain_world, setting_on}
-use Rattle.gql_exec_world.proofs.Nests.{groups-below}
+use Rattle.gql_exec_fields.specs.Nesting.{nesting}
+use Rattle.gql_exec_fields.specs.Request.{Members}
+use Rattle.gql_exec_fields.specs.RequestWorld.{plain_world, setting_on}
+use Rattle.gql_exec_fields.proofs.Nests.{groups-below}
 use Rattle.gql_exec_fields.specs.Executed.{Executes, ExecutesGroups}
 use Rattle.gql_exec_fields.specs.Executing.{Resolving, request_of}
 use Rattle.gql_exec_fields.specs.Planning.{ground_in}

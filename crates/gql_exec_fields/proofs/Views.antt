@@ -2,7 +2,7 @@
 use Rattle.std.proofs.Common.{◌≡◌, List, [], ◌∷◌, map, refl, ap}
 use Rattle.gql_exec_plan.specs.Grouping.{groups_seen}
 use Rattle.gql_exec_plan.specs.declared.group.Group.{Group as FieldsOfKey}
-use Rattle.gql_exec_world.specs.Group.{Group, groups_from}
+use Rattle.gql_exec_fields.specs.Group.{Group, groups_from}
 use Rattle.gql_exec_fields.specs.Trails.{group_of}
 
 abbrev pub views : List FieldsOfKey → List Group

@@ -5,7 +5,7 @@ use Rattle.gql_response.specs.declared.path.ResponseDataPathSegment.TheVariants.
 use Rattle.gql_exec_places.specs.Spot.{Spot, item_spot, trail}
 use Rattle.gql_exec_places.specs.Trail.{Trail}
 use Rattle.gql_exec_places.specs.Types.{item_type}
-use Rattle.gql_exec_world.specs.Group.{Group}
+use Rattle.gql_exec_fields.specs.Group.{Group}
 use Rattle.gql_exec_fields.specs.Trails.{segment_of, trail_step, trail_of, spot_of, group_of}
 use Rattle.gql_exec_fields.specs.declared.path.Path.{Path, fold-roll-Path}
 use Rattle.gql_exec_fields.specs.declared.path.Path.TheOpen as layer

@@ -8,7 +8,7 @@ use Rattle.gql_schema_types.specs.Schemas.{type_named}
 use Rattle.gql_exec_places.specs.Resolved.{fails_with, Outcome, answered, refused}
 use Rattle.gql_exec_plan.specs.declared.planned_field.PlannedField.{PlannedField}
 use Rattle.gql_exec_resolve.specs.Meaning.{meaning_by}
-use Rattle.gql_exec_world.specs.Asks.{fault_of}
+use Rattle.gql_exec_fields.specs.Asks.{fault_of}
 use Rattle.gql_exec_fields.specs.declared.asking.Asked.{Asked}
 use Rattle.gql_exec_fields.specs.declared.asking.Asked.TheVariants.{Gave, Failed, Refused}
 

@@ -7,7 +7,7 @@ use Rattle.gql_exec_places.specs.Depth.{AllGroups, Suffices}
 use Rattle.gql_exec_places.specs.Execute.{Made, Member, Below, execute, groups_made}
 use Rattle.gql_exec_places.specs.Trail.{Trail}
 use Rattle.gql_exec_places.specs.World.{World}
-use Rattle.gql_exec_world.specs.Group.{Group}
+use Rattle.gql_exec_fields.specs.Group.{Group}
 use Rattle.gql_exec_fields.specs.Output.{Finds}
 
 -- this is made, and its errors come after those that are listed already

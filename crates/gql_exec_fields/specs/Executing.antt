@@ -6,10 +6,10 @@ use Rattle.gql_schema_types.specs.declared.schema.Schema.{Schema}
 use Rattle.gql_schema_types.specs.declared.types.ObjectType.{ObjectType}
 use Rattle.gql_exec_places.specs.Resolved.{Meaning, fails_with}
 use Rattle.gql_exec_places.specs.World.{World}
-use Rattle.gql_exec_world.specs.Asks.{is_introspection}
-use Rattle.gql_exec_world.specs.Group.{Group}
-use Rattle.gql_exec_world.specs.Request.{Members, Request}
-use Rattle.gql_exec_world.specs.RequestWorld.{plain_world}
+use Rattle.gql_exec_fields.specs.Asks.{is_introspection}
+use Rattle.gql_exec_fields.specs.Group.{Group}
+use Rattle.gql_exec_fields.specs.Request.{Members, Request}
+use Rattle.gql_exec_fields.specs.RequestWorld.{plain_world}
 use Rattle.gql_exec_fields.specs.declared.executing.Executing.{Executing}
 
 -- what resolvers answer: a matter of schema, object type, object, name and arguments

@@ -1,3 +1,10 @@
+pub mod Group
+pub mod Request
+pub mod Asks
+pub mod RequestWorld
+pub mod Nesting
+pub mod Response
+pub mod Runs
 pub mod Trails
 pub mod Executing
 pub mod Planning

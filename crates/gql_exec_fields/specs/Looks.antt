@@ -9,8 +9,8 @@ use Rattle.gql_exec_plan.specs.Room.{all_selections}
 use Rattle.gql_exec_plan.specs.Ways.{Turn, Way, Grows, turns_to, ways_to}
 use Rattle.gql_exec_plan.specs.declared.plan.Node.{Node}
 use Rattle.gql_exec_plan.specs.declared.plan.Part.{Part}
-use Rattle.gql_exec_world.specs.Request.{Request}
-use Rattle.gql_exec_world.specs.RequestWorld.{plain_world}
+use Rattle.gql_exec_fields.specs.Request.{Request}
+use Rattle.gql_exec_fields.specs.RequestWorld.{plain_world}
 use Rattle.gql_exec_fields.specs.Opened.{Opens}
 use Rattle.gql_exec_fields.specs.Planning.{ground_in}
 use Rattle.gql_exec_fields.specs.declared.executing.Executing.{Executing}

@@ -16,7 +16,7 @@ use Rattle.gql_exec_places.specs.Execute.{null_or_pass}
 use Rattle.gql_exec_places.specs.Spot.{Spot}
 use Rattle.gql_exec_places.specs.Trail.{Segment, Trail, path_of}
 use Rattle.gql_ast_base.specs.TypeParts.{is_non_null}
-use Rattle.gql_exec_world.specs.Group.{Group, pieces_of}
+use Rattle.gql_exec_fields.specs.Group.{Group, pieces_of}
 use Rattle.gql_exec_fields.specs.declared.path.Path.{Path, fold-Path}
 use Rattle.gql_exec_fields.specs.declared.path.Path.TheOpen.{Path-F, Root, Below}
 use Rattle.gql_exec_fields.specs.declared.path.Step.{Step}

@@ -26,11 +26,10 @@ use crate::output::Output;
 use crate::path::{Path, Step};
 use crate::place::{Place, item_of};
 use gql_document_types::Operation;
-use gql_exec_plan::{Node, Part, PlannedField};
+use gql_exec_plan::{Node, Part, PlannedField, Steps};
 use gql_exec_resolve::{
     FieldError, ObjectValue, RequestInfo, ResolvedValue, fitting_object, list_misfit,
 };
-use gql_exec_steps::Steps;
 use gql_response::{GraphQLError, JsonMap};
 use gql_schema_types::{ObjectType, Valid};
 use jb_text::{Listed, Memory, Refused};

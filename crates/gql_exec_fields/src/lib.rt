@@ -6,6 +6,11 @@
 //!
 //! What is completed goes into an [`Output`]: a [`TreeOutput`] makes values of it, and a [`TextOutput`] writes it as JSON. Where a
 //! null passes on to a place around it, the output is as it was before that place.
+//!
+//! The definitions of execution are generic in a world. Here is that of a document: its groups are those of its selections,
+//! each fragment written out at each spread; the arguments of a field are coerced before its resolver is asked; and what
+//! fits a type is what the schema says of it. The functions of [`laws`] do nothing when they run: their contracts are the
+//! laws of that world.
 #![tactic(auto)]
 
 mod asking;
@@ -13,6 +18,7 @@ mod completed;
 mod executing;
 mod faults;
 mod ground;
+pub mod laws;
 mod output;
 mod path;
 mod place;

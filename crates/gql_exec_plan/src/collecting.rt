@@ -12,10 +12,10 @@ ghost use Rattle.gql_exec_plan.specs.Collected.{setting, setting_of, sets_of};
 use crate::applies::{applies, applies_if};
 use crate::directives::is_kept;
 use crate::pieces::Pieces;
+use crate::steps::Steps;
 use gql_document_types::{
     ExecutableDocument, Field, Fragment, FragmentSpread, InlineFragment, Selection,
 };
-use gql_exec_steps::Steps;
 use gql_schema_types::{ObjectType, Schema, Table};
 use jb_text::{Listed, Memory};
 use jb_tree::Map;

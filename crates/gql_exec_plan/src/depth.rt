@@ -4,8 +4,8 @@ ghost use Rattle.std.specs.Prelude.{◌≡◌, ◌<◌, length, MatchResult};
 ghost use Rattle.gql_exec_plan.specs.Checked.{Accepted, AcceptedOne, Refused, RefusedOne};
 ghost use Rattle.gql_exec_plan.specs.View.{field_of, fragments_nested, inline_of, nested, number_of, one_of, one_spread, spread_of, weight_of};
 
+use crate::steps::Steps;
 use gql_document_types::{Field, Fragment, FragmentSpread, InlineFragment, Selection};
-use gql_exec_steps::Steps;
 use gql_schema_types::Table;
 use gql_source::SourceSpan;
 use jb_text::Listed;

@@ -16,6 +16,7 @@
 //!   there are. A [`Part`] is a group with what objects ask by it, a [`PlannedField`]: its definition is looked up and its arguments
 //!   are coerced once as well. It keeps a [`Node`] for each type of the objects that its field has led to, which has the parts of
 //!   what is selected on them. A [`Planner`] begins a plan, and adds the node of a type when it first comes.
+//! - [`Steps`] counts looks at selections, for contracts alone.
 #![tactic(auto)]
 
 mod applies;
@@ -34,6 +35,7 @@ mod planner;
 mod request;
 mod request_reading;
 mod self_test;
+mod steps;
 mod variable_values;
 
 pub use group::Group;
@@ -47,4 +49,5 @@ pub use planner::Planner;
 pub use request::{Member, Request, RequestFault, decode};
 pub use request_reading::read_message;
 pub use self_test::self_test_text;
+pub use steps::Steps;
 pub use variable_values::coerce_variable_values;

@@ -9,8 +9,8 @@ ghost use Rattle.gql_exec_plan.specs.View.{fragments_nested, nested};
 ghost use Rattle.gql_rules_graph.specs.Cycles.{IsOnCycle};
 
 use crate::depth::DepthCheck;
+use crate::steps::Steps;
 use gql_document_types::{ExecutableDocument, Fragment, Operation, Selection};
-use gql_exec_steps::Steps;
 use gql_response::RequestError;
 use gql_rules_graph::laws;
 use gql_schema_types::{Table, Valid};

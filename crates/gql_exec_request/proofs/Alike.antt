@@ -18,10 +18,10 @@ use Rattle.gql_exec_places.specs.Trail.{Trail}
 use Rattle.gql_exec_places.specs.World.{World, key_of}
 use Rattle.gql_exec_meta.specs.Meta.{Meta}
 use Rattle.gql_exec_meta.specs.MetaMeaning.{meta_meaning}
-use Rattle.gql_exec_world.specs.Asks.{definition_on, arguments_at, answer, fault_of, asked, asks, is_introspection}
-use Rattle.gql_exec_world.specs.Group.{Group}
-use Rattle.gql_exec_world.specs.Request.{Members, Request}
-use Rattle.gql_exec_world.specs.RequestWorld.{plain_world}
+use Rattle.gql_exec_fields.specs.Asks.{definition_on, arguments_at, answer, fault_of, asked, asks, is_introspection}
+use Rattle.gql_exec_fields.specs.Group.{Group}
+use Rattle.gql_exec_fields.specs.Request.{Members, Request}
+use Rattle.gql_exec_fields.specs.RequestWorld.{plain_world}
 use Rattle.gql_exec_request.specs.Mapped.{mapped, all_mapped}
 use Rattle.gql_exec_request.specs.Request.{introspected_request}
 use Rattle.gql_exec_request.specs.Thing.{Thing, of_library}

@@ -12,7 +12,7 @@ use Rattle.gql_exec_plan.specs.declared.plan.Node.{Node}
 use Rattle.gql_exec_plan.specs.declared.plan.Part.{Part}
 use Rattle.gql_exec_plan.proofs.Joined.{all-of, map-one, one-joined, apart-map, apart-joined}
 use Rattle.gql_exec_plan.proofs.Nodes.{IsNodeTo, HasNodesTo}
-use Rattle.gql_exec_world.specs.RequestWorld.{plain_world}
+use Rattle.gql_exec_fields.specs.RequestWorld.{plain_world}
 use Rattle.gql_exec_fields.specs.Executing.{request_of}
 use Rattle.gql_exec_fields.specs.Planning.{ground_in}
 use Rattle.gql_exec_fields.specs.declared.executing.Executing.{Executing}

@@ -14,8 +14,8 @@ use Rattle.gql_exec_plan.specs.declared.plan.Part.{Part}
 use Rattle.gql_exec_plan.proofs.Joined.{all-of}
 use Rattle.gql_exec_plan.proofs.Nodes.{same-collected}
 use Rattle.gql_exec_plan.proofs.Ways.{fresh-ways}
-use Rattle.gql_exec_world.specs.Group.{Group}
-use Rattle.gql_exec_world.specs.RequestWorld.{plain_world}
+use Rattle.gql_exec_fields.specs.Group.{Group}
+use Rattle.gql_exec_fields.specs.RequestWorld.{plain_world}
 use Rattle.gql_exec_fields.specs.Executing.{request_of}
 use Rattle.gql_exec_fields.specs.Looks.{AreLooks, PartsGrow}
 use Rattle.gql_exec_fields.specs.Opened.{Opens, OpensBy}

@@ -14,8 +14,8 @@ use Rattle.gql_schema_types.specs.declared.types.ObjectType.{ObjectType}
 use Rattle.gql_exec_request.specs.Request.{no_name, no_field}
 use Rattle.gql_exec_request.specs.Thing.{of_user, type_of_thing}
 use Rattle.gql_exec_request.specs.ThingMeaning.{thing_meaning}
-use Rattle.gql_exec_world.specs.Request.{Members}
-use Rattle.gql_exec_world.specs.Response.{IsExecuted, IsExplained}
+use Rattle.gql_exec_fields.specs.Request.{Members}
+use Rattle.gql_exec_fields.specs.Response.{IsExecuted, IsExplained}
 use Rattle.gql_exec_request.specs.Execution.{started, with_operation, with_implementers, with_values, with_introspection, Prepared, undefined_root, on_root, request_in, IsAnswer, Answers}
 use Rattle.gql_exec_request.specs.Partial.{IsPartialOn, IsPartial}
 use Rattle.gql_exec_request.specs.declared.execution.Execution.{Execution}

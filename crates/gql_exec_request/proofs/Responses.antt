@@ -16,12 +16,12 @@ use Rattle.gql_exec_places.specs.Trail.{Trail}
 use Rattle.gql_exec_places.proofs.Distinct.{distinct_paths}
 use Rattle.gql_exec_places.proofs.Explains.{explained}
 use Rattle.gql_exec_places.proofs.Faults.{true_faults}
-use Rattle.gql_exec_world.specs.Nesting.{nesting}
-use Rattle.gql_exec_world.specs.Request.{Request}
-use Rattle.gql_exec_world.specs.RequestWorld.{plain_world}
-use Rattle.gql_exec_world.specs.Response.{response_at, IsExecuted, IsExplained}
-use Rattle.gql_exec_world.proofs.Lawful.{lawful}
-use Rattle.gql_exec_world.proofs.Nests.{suffices}
+use Rattle.gql_exec_fields.specs.Nesting.{nesting}
+use Rattle.gql_exec_fields.specs.Request.{Request}
+use Rattle.gql_exec_fields.specs.RequestWorld.{plain_world}
+use Rattle.gql_exec_fields.specs.Response.{response_at, IsExecuted, IsExplained}
+use Rattle.gql_exec_fields.proofs.Lawful.{lawful}
+use Rattle.gql_exec_fields.proofs.Nests.{suffices}
 use Rattle.gql_exec_fields.specs.Executed.{Executes}
 use Rattle.gql_rules_graph.specs.Ranks.{IsRanked}
 

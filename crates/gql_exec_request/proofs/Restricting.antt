@@ -11,12 +11,12 @@ use Rattle.gql_exec_places.specs.Depth.{AllGroups, Suffices}
 use Rattle.gql_exec_places.specs.Execute.{Made, Member, execute}
 use Rattle.gql_exec_places.specs.World.{World, key_of}
 use Rattle.gql_exec_places.proofs.Deeper.{deeper}
-use Rattle.gql_exec_world.specs.Asks.{definition_on, arguments_at}
-use Rattle.gql_exec_world.specs.Group.{Group}
-use Rattle.gql_exec_world.specs.Request.{Members, Request}
-use Rattle.gql_exec_world.specs.RequestWorld.{plain, plain_world}
-use Rattle.gql_exec_world.specs.Response.{IsExecuted}
-use Rattle.gql_exec_world.proofs.Lawful.{lawful}
+use Rattle.gql_exec_fields.specs.Asks.{definition_on, arguments_at}
+use Rattle.gql_exec_fields.specs.Group.{Group}
+use Rattle.gql_exec_fields.specs.Request.{Members, Request}
+use Rattle.gql_exec_fields.specs.RequestWorld.{plain, plain_world}
+use Rattle.gql_exec_fields.specs.Response.{IsExecuted}
+use Rattle.gql_exec_fields.proofs.Lawful.{lawful}
 use Rattle.gql_exec_request.specs.Request.{no_name, no_field, introspected_request, partial_request}
 use Rattle.gql_exec_request.specs.Restricted.{is_meta, is_meta_key, restricted, HasNoOwn, OthersCoerce}
 use Rattle.gql_exec_request.specs.Thing.{Thing, of_user}

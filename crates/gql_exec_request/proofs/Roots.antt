@@ -18,9 +18,9 @@ use Rattle.gql_exec_plan.specs.Groups.{FieldGroup, groups_of, has_field, is_defi
 use Rattle.gql_exec_plan.proofs.Keys.{Text, text-same, text-itself}
 use Rattle.gql_exec_places.specs.Depth.{AllGroups}
 use Rattle.gql_exec_places.specs.World.{World, key_of, DistinctKeys}
-use Rattle.gql_exec_world.specs.Group.{Group, started, groups_from}
-use Rattle.gql_exec_world.specs.Request.{Request}
-use Rattle.gql_exec_world.specs.RequestWorld.{plain, plain_world, setting_on}
+use Rattle.gql_exec_fields.specs.Group.{Group, started, groups_from}
+use Rattle.gql_exec_fields.specs.Request.{Request}
+use Rattle.gql_exec_fields.specs.RequestWorld.{plain, plain_world, setting_on}
 use Rattle.gql_exec_request.specs.Restricted.{is_meta, is_meta_key, HasNoOwn}
 use Rattle.gql_exec_request.proofs.Split.{IsRoot}
 

@@ -21,9 +21,9 @@ use Rattle.gql_exec_places.specs.Spot.{Spot, field_spot}
 use Rattle.gql_exec_places.specs.Trail.{Trail}
 use Rattle.gql_exec_places.specs.World.{World, key_of}
 use Rattle.gql_exec_meta.specs.Meta.{Meta}
-use Rattle.gql_exec_world.specs.Asks.{definition_on, arguments_at, answer, asked, asks, is_introspection}
-use Rattle.gql_exec_world.specs.Group.{Group}
-use Rattle.gql_exec_world.specs.Request.{Members, Request}
+use Rattle.gql_exec_fields.specs.Asks.{definition_on, arguments_at, answer, asked, asks, is_introspection}
+use Rattle.gql_exec_fields.specs.Group.{Group}
+use Rattle.gql_exec_fields.specs.Request.{Members, Request}
 use Rattle.gql_exec_request.specs.Request.{no_name, no_field}
 use Rattle.gql_exec_request.specs.Restricted.{is_meta_name, is_meta}
 use Rattle.gql_exec_request.specs.Thing.{Thing, of_user}

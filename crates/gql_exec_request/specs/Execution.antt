@@ -18,8 +18,8 @@ use Rattle.gql_schema_types.specs.declared.types.ObjectType.{ObjectType}
 use Rattle.gql_exec_plan.specs.RequestErrors.{request_error}
 use Rattle.gql_exec_request.specs.Thing.{of_user, type_of_thing}
 use Rattle.gql_exec_request.specs.ThingMeaning.{Resolving, thing_meaning}
-use Rattle.gql_exec_world.specs.Request.{Members, Request}
-use Rattle.gql_exec_world.specs.Response.{IsExecuted, IsExplained}
+use Rattle.gql_exec_fields.specs.Request.{Members, Request}
+use Rattle.gql_exec_fields.specs.Response.{IsExecuted, IsExplained}
 use Rattle.gql_exec_fields.specs.Executing.{request_by}
 use Rattle.gql_exec_fields.specs.Looks.{AreLooks}
 use Rattle.gql_exec_request.specs.declared.execution.Execution.{Execution}

@@ -9,5 +9,5 @@ pub mod Running
 pub mod Partial
 pub use Rattle.gql_exec_request.specs.Thing
 pub use Rattle.gql_exec_request.specs.ThingMeaning
-pub use Rattle.gql_exec_world.specs.Response
+pub use Rattle.gql_exec_fields.specs.Response
 pub use Rattle.gql_exec_plan.specs.Room

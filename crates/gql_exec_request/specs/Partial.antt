@@ -11,8 +11,8 @@ use Rattle.gql_schema_types.specs.declared.schema.Schema.{Schema}
 use Rattle.gql_schema_types.specs.declared.types.ObjectType.{ObjectType}
 use Rattle.gql_exec_request.specs.Request.{partial_request}
 use Rattle.gql_exec_request.specs.Thing.{Thing, of_user}
-use Rattle.gql_exec_world.specs.Request.{Members, Request}
-use Rattle.gql_exec_world.specs.Response.{IsExecuted, IsExplained}
+use Rattle.gql_exec_fields.specs.Request.{Members, Request}
+use Rattle.gql_exec_fields.specs.Response.{IsExecuted, IsExplained}
 use Rattle.gql_exec_request.specs.Execution.{undefined_root}
 
 -- the request with introspection on an object that leaves every field out

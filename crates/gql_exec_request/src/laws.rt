@@ -8,9 +8,9 @@ ghost use Rattle.gql_exec_request.specs.Restricted.{HasNoOwn, OthersCoerce, rest
 ghost use Rattle.gql_exec_request.specs.Thing.{of_user};
 ghost use Rattle.gql_exec_request.specs.ThingMeaning.{Resolving};
 ghost use Rattle.gql_exec_places.specs.Execute.{Member};
-ghost use Rattle.gql_exec_world.specs.Request.{Members};
-ghost use Rattle.gql_exec_world.specs.RequestWorld.{plain};
-ghost use Rattle.gql_exec_world.specs.Response.{IsExecuted};
+ghost use Rattle.gql_exec_fields.specs.Request.{Members};
+ghost use Rattle.gql_exec_fields.specs.RequestWorld.{plain};
+ghost use Rattle.gql_exec_fields.specs.Response.{IsExecuted};
 ghost use Rattle.gql_response.specs.declared.execution_response.ExecutionResponse.{ExecutionResponse};
 ghost use Rattle.gql_schema_types.specs.declared.schema.Schema.{Schema as TheSchema};
 ghost use Rattle.gql_schema_types.specs.declared.types.ObjectType.{ObjectType};

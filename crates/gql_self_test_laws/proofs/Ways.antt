@@ -38,9 +38,9 @@ use Rattle.gql_exec_plan.specs.Room.{all_selections}
 use Rattle.gql_exec_plan.specs.Ways.{Way}
 use Rattle.gql_exec_fields.specs.Looks.{AreLooks}
 use Rattle.gql_exec_fields.specs.Opened.{AnyGives, AnyGroup, Brings, Gives, Opens}
-use Rattle.gql_exec_world.specs.Group.{Group, groups_from}
-use Rattle.gql_exec_world.specs.Request.{Members, Request}
-use Rattle.gql_exec_world.specs.RequestWorld.{plain_world, setting_on}
+use Rattle.gql_exec_fields.specs.Group.{Group, groups_from}
+use Rattle.gql_exec_fields.specs.Request.{Members, Request}
+use Rattle.gql_exec_fields.specs.RequestWorld.{plain_world, setting_on}
 use Rattle.gql_self_test_laws.specs.Meaning.{AreTypes, IsLeaf, IsSelfTest, Places, inner, outer, selected}
 
 -- ---- the items of a list are of the same name

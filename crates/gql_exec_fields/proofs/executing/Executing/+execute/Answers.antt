@@ -45,7 +45,7 @@ use Rattle.gql_exec_plan.proofs.Nodes.{part-with}
 use Rattle.gql_exec_fields.specs.Planning.{ground_in}
 use Rattle.gql_exec_fields.proofs.Views.{views}
 use Rattle.gql_ast_base.specs.Names.{Named}
-use Rattle.gql_exec_world.specs.RequestWorld.{plain_world}
+use Rattle.gql_exec_fields.specs.RequestWorld.{plain_world}
 use Rattle.gql_exec_plan.proofs.Changes.{with_nodes, changed-field}
 use Rattle.gql_exec_fields.proofs.Collecting.{views-apart, views-end}
 use Rattle.gql_exec_fields.proofs.Groups.{executing-begun, executing-more, executing-less, executing-stops, executing-ends}

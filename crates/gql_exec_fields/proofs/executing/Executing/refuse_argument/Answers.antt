@@ -1,6 +1,6 @@
 use Rattle.std.proofs.Common.{rules, ◌≡◌, [], ◌∷◌, ◌++◌}
 use Rattle.gql_exec_places.specs.Fault.{fault_error}
-use Rattle.gql_exec_world.specs.Asks.{fault_of}
+use Rattle.gql_exec_fields.specs.Asks.{fault_of}
 use Rattle.gql_exec_fields.specs.Executing.{world_of}
 use Rattle.gql_exec_fields.specs.Trails.{spot_of}
 use Rattle.gql_exec_fields.proofs.Done.{null-listed}

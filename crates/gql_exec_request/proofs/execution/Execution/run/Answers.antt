@@ -5,7 +5,7 @@ use Rattle.gql_exec_plan.specs.Collected.{sets_of}
 use Rattle.gql_exec_plan.specs.Plan.{Ground, ArePartsOf, IsWithin, groups_in, most_looks}
 use Rattle.gql_exec_plan.specs.Room.{HasRoom}
 use Rattle.gql_exec_plan.proofs.Room.{room-root}
-use Rattle.gql_exec_world.specs.RequestWorld.{plain_world}
+use Rattle.gql_exec_fields.specs.RequestWorld.{plain_world}
 use Rattle.gql_exec_request.specs.Execution.{request_in}
 use Rattle.gql_exec_fields.specs.Trails.{trail_of}
 use Rattle.gql_exec_fields.specs.declared.executing.Executing.{Executing}

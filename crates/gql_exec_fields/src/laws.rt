@@ -9,11 +9,11 @@ ghost use Rattle.gql_exec_places.specs.Depth.{Suffices};
 ghost use Rattle.gql_exec_places.specs.Execute.{execute};
 ghost use Rattle.gql_exec_places.specs.Trail.{Trail};
 ghost use Rattle.gql_exec_places.specs.World.{DistinctKeys, IsLawful};
-ghost use Rattle.gql_exec_world.specs.Group.{groups_from};
-ghost use Rattle.gql_exec_world.specs.Nesting.{nesting, AllBelow};
-ghost use Rattle.gql_exec_world.specs.Request.{Request};
-ghost use Rattle.gql_exec_world.specs.RequestWorld.{plain_world, setting_on};
-ghost use Rattle.gql_exec_world.specs.Runs.{RunsAs};
+ghost use Rattle.gql_exec_fields.specs.Group.{groups_from};
+ghost use Rattle.gql_exec_fields.specs.Nesting.{nesting, AllBelow};
+ghost use Rattle.gql_exec_fields.specs.Request.{Request};
+ghost use Rattle.gql_exec_fields.specs.RequestWorld.{plain_world, setting_on};
+ghost use Rattle.gql_exec_fields.specs.Runs.{RunsAs};
 ghost use Rattle.gql_schema_types.specs.declared.types.ObjectType.{ObjectType};
 
 /// The world of a document keeps what the laws of execution ask of a world.

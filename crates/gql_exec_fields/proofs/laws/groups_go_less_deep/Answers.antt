@@ -1,6 +1,6 @@
-use Rattle.gql_exec_world.specs.RequestWorld.{setting_on}
-use Rattle.gql_exec_world.proofs.Nests.{groups-below, suffices}
-use Rattle.gql_exec_world.proofs.laws.groups_go_less_deep.Goals as goal
+use Rattle.gql_exec_fields.specs.RequestWorld.{setting_on}
+use Rattle.gql_exec_fields.proofs.Nests.{groups-below, suffices}
+use Rattle.gql_exec_fields.proofs.laws.groups_go_less_deep.Goals as goal
 
 pub returns : goal.returns
 returns types c = record {

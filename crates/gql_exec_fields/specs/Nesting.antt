@@ -7,7 +7,7 @@ use Rattle.gql_exec_plan.specs.Expanded.{most}
 use Rattle.gql_exec_plan.specs.Nested.{Nested, nothing, field_then, spread_then, inline_then, Fragments, body_of}
 use Rattle.gql_exec_plan.specs.View.{nested, fragments_nested}
 use Rattle.gql_exec_plan.specs.Groups.{FieldGroup}
-use Rattle.gql_exec_world.specs.Group.{pieces_of}
+use Rattle.gql_exec_fields.specs.Group.{pieces_of}
 use Rattle.gql_schema_types.specs.Schemas.{field_of}
 use Rattle.gql_schema_types.specs.declared.schema.Schema.{Schema}
 use Rattle.gql_schema_types.specs.declared.types.ObjectType.{ObjectType}

@@ -7,9 +7,9 @@ use Rattle.gql_exec_resolve.specs.Fit.{misfit}
 use Rattle.gql_exec_plan.specs.Groups.{response_name, applying}
 use Rattle.gql_exec_plan.specs.Setting.{Setting}
 use Rattle.gql_exec_places.specs.World.{World}
-use Rattle.gql_exec_world.specs.Asks.{definition_on, asks}
-use Rattle.gql_exec_world.specs.Group.{Group, groups_from}
-use Rattle.gql_exec_world.specs.Request.{Request}
+use Rattle.gql_exec_fields.specs.Asks.{definition_on, asks}
+use Rattle.gql_exec_fields.specs.Group.{Group, groups_from}
+use Rattle.gql_exec_fields.specs.Request.{Request}
 
 -- how the groups of selection sets on an object type are found
 abbrev pub Collector : Type 0

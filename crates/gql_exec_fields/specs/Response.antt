@@ -9,8 +9,8 @@ use Rattle.gql_exec_places.specs.Distinct.{DistinctPaths}
 use Rattle.gql_exec_places.specs.Execute.{execute}
 use Rattle.gql_exec_places.specs.Explained.{IsTrueFault, IsExplainedBy}
 use Rattle.gql_exec_places.specs.Skips.{ReachesNoSkip}
-use Rattle.gql_exec_world.specs.Request.{Request}
-use Rattle.gql_exec_world.specs.RequestWorld.{plain_world}
+use Rattle.gql_exec_fields.specs.Request.{Request}
+use Rattle.gql_exec_fields.specs.RequestWorld.{plain_world}
 
 module _ {X : Type 0} (r : Request X) (root : ObjectType) (initial : X) (selections : List Selection) where
   abbrev pub response_at : ℕ → ExecutionResponse

@@ -1,5 +1,5 @@
-use Rattle.gql_exec_world.proofs.Alike.{blind, collected-distinct, collected-runs}
-use Rattle.gql_exec_world.proofs.laws.repeats_change_nothing.Goals as goal
+use Rattle.gql_exec_fields.proofs.Alike.{blind, collected-distinct, collected-runs}
+use Rattle.gql_exec_fields.proofs.laws.repeats_change_nothing.Goals as goal
 
 pub returns : goal.returns
 returns types c = record {

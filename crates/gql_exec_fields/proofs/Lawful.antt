@@ -26,9 +26,9 @@ use Rattle.gql_exec_plan.proofs.Keys.{Text, has, text-same, text-itself, AreDist
 use Rattle.gql_exec_places.specs.Resolved.{Misfit, gives_leaf, gives_object, fails_with}
 use Rattle.gql_ast_base.specs.TypeParts.{is_non_null}
 use Rattle.gql_exec_places.specs.World.{World, key_of, DistinctKeys, IsLawful}
-use Rattle.gql_exec_world.specs.Group.{Group, started, groups_from}
-use Rattle.gql_exec_world.specs.Request.{Request}
-use Rattle.gql_exec_world.specs.RequestWorld.{setting_on, plain, plain_world}
+use Rattle.gql_exec_fields.specs.Group.{Group, started, groups_from}
+use Rattle.gql_exec_fields.specs.Request.{Request}
+use Rattle.gql_exec_fields.specs.RequestWorld.{setting_on, plain, plain_world}
 
 by_unless : (b : Bool) (m : Misfit) → unless b m ≡ None → b ≡ true
 by_unless true m fits = refl

@@ -20,11 +20,11 @@ use Rattle.gql_exec_places.specs.Trail.{Segment, Trail}
 use Rattle.gql_exec_places.specs.Spot.{Spot, trail, item_spot, field_spot}
 use Rattle.gql_exec_places.specs.Execute.{Made, Member, then_rest, settled, settled_item, unless_misfit}
 use Rattle.gql_exec_places.specs.Execute.{one_array, one_object, with_key, Below, object_made, value_made, items_made, field_made, groups_made, execute}
-use Rattle.gql_exec_world.specs.Group.{Group, piece_of, pieces_of, started, groups_from}
-use Rattle.gql_exec_world.specs.Request.{Request}
-use Rattle.gql_exec_world.specs.RequestWorld.{setting_on, plain, plain_world}
-use Rattle.gql_exec_world.specs.Runs.{RunsAs}
-use Rattle.gql_exec_world.proofs.Lawful.{lawful}
+use Rattle.gql_exec_fields.specs.Group.{Group, piece_of, pieces_of, started, groups_from}
+use Rattle.gql_exec_fields.specs.Request.{Request}
+use Rattle.gql_exec_fields.specs.RequestWorld.{setting_on, plain, plain_world}
+use Rattle.gql_exec_fields.specs.Runs.{RunsAs}
+use Rattle.gql_exec_fields.proofs.Lawful.{lawful}
 
 abbrev pub IsAlike : Group → Group → Type 0
 IsAlike g h = (g.first ≡ h.first) × SameFirst g.pieces h.pieces

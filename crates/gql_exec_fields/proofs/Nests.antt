@@ -36,10 +36,10 @@ use Rattle.gql_exec_plan.proofs.Variants.{out-field, out-spread, out-inline, eac
 use Rattle.gql_rules_graph.specs.Ranks.{IsRanked}
 use Rattle.gql_exec_places.specs.Depth.{AllGroups, Suffices}
 use Rattle.gql_exec_places.specs.World.{World}
-use Rattle.gql_exec_world.specs.Group.{Group, piece_of, pieces_of, started, groups_from}
-use Rattle.gql_exec_world.specs.Nesting.{nesting_with, fragment_nesting, nesting_in, nesting, IsBelow, AllBelow}
-use Rattle.gql_exec_world.specs.Request.{Request}
-use Rattle.gql_exec_world.specs.RequestWorld.{setting_on, plain_world}
+use Rattle.gql_exec_fields.specs.Group.{Group, piece_of, pieces_of, started, groups_from}
+use Rattle.gql_exec_fields.specs.Nesting.{nesting_with, fragment_nesting, nesting_in, nesting, IsBelow, AllBelow}
+use Rattle.gql_exec_fields.specs.Request.{Request}
+use Rattle.gql_exec_fields.specs.RequestWorld.{setting_on, plain_world}
 
 -- ---- fragments inside one another, as many as there are
 

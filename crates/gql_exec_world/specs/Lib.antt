@@ -1,7 +1,0 @@
-pub mod Group
-pub mod Request
-pub mod Asks
-pub mod RequestWorld
-pub mod Nesting
-pub mod Response
-pub mod Runs
