@@ -29,7 +29,7 @@ use Rattle.gql_schema_build.specs.TypeSystems.{no_definitions}
 use Rattle.gql_schema_build.specs.TypeTable.{types}
 use Rattle.gql_schema_build.specs.declared.built_in.BuiltIn.{BuiltIn}
 use Rattle.gql_schema_build.specs.declared.type_system.TypeSystem.{TypeSystem}
-use Rattle.gql_schema_laws.specs.BuiltInText.{is_scalar_of}
+use Rattle.gql_schema_text.specs.BuiltInText.{is_scalar_of}
 use Rattle.gql_coerce_text_laws.proofs.BuiltInText.{is_input_object}
 use Rattle.gql_schema_rules.specs.Scalars.{input_names, built_in_scalars, validated}
 use Rattle.gql_schema_rules.specs.SchemaFaults.{AreSchemaFaults, parts_faults}

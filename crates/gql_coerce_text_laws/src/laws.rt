@@ -13,7 +13,7 @@ use gql_ast_default_laws::laws as default_laws;
 use gql_ast_laws::laws as tree_laws;
 use gql_coerce_laws::laws as coercion_laws;
 use gql_cst_grammar::laws as grammar_laws;
-use gql_schema_laws::laws as built_in_laws;
+use gql_schema_text::laws as built_in_laws;
 
 /// In a schema that a text means, each input field is of an input type and has a constant default, if it has one; and so is and
 /// has each variable of a document that a text means against the schema. So no fault that comes of coercing values to the

@@ -1,3 +1,8 @@
+mod Found
+mod Tokens
+mod Readings
+mod Forests
+mod BuiltInText
 mod Marks
 mod One
 mod OneError

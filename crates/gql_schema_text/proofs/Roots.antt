@@ -41,7 +41,7 @@ use Rattle.gql_schema_types.specs.declared.types.ExtendedType.{ExtendedType}
 use Rattle.gql_schema_types.specs.declared.types.ExtendedType.TheVariants as type
 use Rattle.gql_schema_text.specs.SchemaText.{SchemaText, AreDefinitions, all_of, its_given}
 use Rattle.gql_parser.specs.Parsers.{its_file}
-use Rattle.gql_schema_laws.specs.BuiltInText.{is_scalar_of}
+use Rattle.gql_schema_text.specs.BuiltInText.{is_scalar_of}
 use Rattle.gql_schema_text.specs.Roots.{AreRootsObjects}
 use Rattle.gql_schema_text.proofs.Kept.{validated-kept}
 use Rattle.gql_schema_text.proofs.Scalars.{scalar-no_object}

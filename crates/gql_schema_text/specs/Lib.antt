@@ -1,3 +1,5 @@
+-- The text of the built-in definitions.
+pub mod BuiltInText
 pub mod SchemaText
 pub mod SchemaFaults
 pub mod Roots

@@ -1,18 +1,24 @@
 //! Laws of the definitions alone.
 
-ghost use Rattle.std.specs.Prelude.{◌≡◌, ℕ, List, []};
+ghost use Rattle.std.specs.Prelude.{◌≡◌, ℕ, List, [], true};
 ghost use Rattle.gql_diag.specs.List.{Diagnostics};
 ghost use Rattle.gql_schema_types.specs.declared.schema.Schema.{Schema as SchemaOf};
 ghost use Rattle.gql_schema_rules.specs.SchemaFaults.{AreSchemaFaults};
 ghost use Rattle.gql_schema_text.specs.Roots.{AreRootsObjects};
 ghost use Rattle.gql_schema_text.specs.SchemaFaults.{SchemaFaults};
 ghost use Rattle.gql_schema_text.specs.SchemaText.{SchemaText};
+ghost use Rattle.std.specs.List.{list_all};
+ghost use Rattle.gql_ast.specs.declared.definition.Definition.{Definition};
+ghost use Rattle.gql_ast_laws.specs.Meant.{IsDocumentOf};
+ghost use Rattle.gql_schema.specs.BuiltInSchema.{IsBuiltIn, built_in_file};
+ghost use Rattle.gql_schema_build.specs.declared.built_in.BuiltIn.{BuiltIn};
+ghost use Rattle.gql_schema_text.specs.BuiltInText.{built_in_text, is_scalar_of};
+ghost use Rattle.gql_schema_rules.specs.Scalars.{built_in_scalars};
 
 use gql_ast_laws::laws as tree_laws;
 use gql_cst_grammar::laws as grammar_laws;
 use gql_cst_lexer::laws as token_laws;
 use gql_diag::laws as list_laws;
-use gql_schema_laws::laws as built_in_laws;
 
 /// A text means one schema at most (GraphQL October 2021, section 3), and none where something is wrong with it. What is
 /// wrong with it is one list.
@@ -33,5 +39,14 @@ pub fn roots_are_object_types()
     ensures rules { (schema : SchemaOf) → AreSchemaFaults schema [] → AreRootsObjects schema }
     ensures text { (text : List ℕ) (schema : SchemaOf) → SchemaText text schema → AreRootsObjects schema }
 {
-    built_in_laws::built_in_text_is_a_document();
+    built_in_text_is_a_document();
+}
+
+/// The built-in text is a document, and the five built-in scalars are scalars in it (GraphQL October 2021, section 3.5).
+pub fn built_in_text_is_a_document()
+    ensures document { (definitions : List Definition) × IsDocumentOf built_in_text built_in_file definitions }
+    ensures scalars { (built_in : BuiltIn) → IsBuiltIn built_in → list_all (is_scalar_of built_in) built_in_scalars ≡ true }
+{
+    grammar_laws::factored_is_declared();
+    tree_laws::texts_have_one_document();
 }

@@ -1,5 +1,5 @@
-use Rattle.gql_schema_laws.proofs.BuiltInText.{document, scalars}
-use Rattle.gql_schema_laws.proofs.laws.built_in_text_is_a_document.Goals as goal
+use Rattle.gql_schema_text.proofs.BuiltInText.{document, scalars}
+use Rattle.gql_schema_text.proofs.laws.built_in_text_is_a_document.Goals as goal
 
 pub returns-clause-document : goal.returns-clause-document
 returns-clause-document c = document c.factored_is_declared.ensures.sound

@@ -36,11 +36,11 @@ use Rattle.gql_schema_build.specs.TypeSystems.{with_definitions, no_definitions}
 use Rattle.gql_schema_build.specs.declared.built_in.BuiltIn.{BuiltIn}
 use Rattle.gql_schema_rules.specs.Scalars.{built_in_scalars}
 use Rattle.gql_source.specs.declared.file_id.FileId.{FileId}
-use Rattle.gql_schema_laws.specs.BuiltInText.{built_in_text, is_scalar_of}
-use Rattle.gql_schema_laws.proofs.Forests.{planted}
-use Rattle.gql_schema_laws.proofs.Found.{the}
-use Rattle.gql_schema_laws.proofs.Readings.{ReadAs, read}
-use Rattle.gql_schema_laws.proofs.Tokens.{TilesFrom, tokens}
+use Rattle.gql_schema_text.specs.BuiltInText.{built_in_text, is_scalar_of}
+use Rattle.gql_schema_text.proofs.Forests.{planted}
+use Rattle.gql_schema_text.proofs.Found.{the}
+use Rattle.gql_schema_text.proofs.Readings.{ReadAs, read}
+use Rattle.gql_schema_text.proofs.Tokens.{TilesFrom, tokens}
 
 -- ---- what is opened to compute the tokens of a text, and the definitions of a tree by their kinds and names
 

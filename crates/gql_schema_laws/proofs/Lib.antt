@@ -1,5 +1,0 @@
-mod Found
-mod Tokens
-mod Readings
-mod Forests
-mod BuiltInText

@@ -1,2 +1,0 @@
--- The text of the built-in definitions.
-pub mod BuiltInText
