@@ -13,7 +13,7 @@ use crate::meaning::Texts;
 use crate::refusal::{Refusal, of_step};
 use crate::wanted::Wanted;
 use gql_diag::JsonMap;
-use gql_document_text::laws as document_laws;
+use gql_texts::laws as document_laws;
 use gql_document_types::Operation;
 use gql_exec_plan::{Steps, check_max_depth, coerce_variable_values};
 use gql_schema_types::Valid;
