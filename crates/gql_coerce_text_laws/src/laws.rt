@@ -13,7 +13,7 @@ use gql_ast_default_laws::laws as default_laws;
 use gql_ast_laws::laws as tree_laws;
 use gql_coerce_laws::laws as coercion_laws;
 use gql_cst_grammar::laws as grammar_laws;
-use gql_texts::laws as built_in_laws;
+use gql_texts::laws as text_laws;
 
 /// In a schema that a text means, each input field is of an input type and has a constant default, if it has one; and so is and
 /// has each variable of a document that a text means against the schema. So no fault that comes of coercing values to the
@@ -28,7 +28,7 @@ pub fn validated_documents_leave_no_mark()
 {
     grammar_laws::factored_is_declared();
     tree_laws::texts_have_one_document();
-    built_in_laws::built_in_text_is_a_document();
+    text_laws::built_in_text_is_a_document();
     default_laws::defaults_are_constant();
     coercion_laws::input_types_leave_no_mark();
 }

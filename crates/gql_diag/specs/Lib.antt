@@ -1,3 +1,7 @@
+pub mod Depth
+pub mod DepthGuarding
+pub mod Stack
+pub mod StackGuarding
 pub mod Report
 pub mod Order
 pub mod List

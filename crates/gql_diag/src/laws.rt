@@ -1,4 +1,4 @@
-//! Laws of lists of diagnostics and of their files, and those of responses and of guards under this crate's name.
+//! Laws of lists of diagnostics and of their files, and those of responses and of guards.
 
 ghost use Rattle.std.specs.Prelude.{◌≡◌, List};
 ghost use Rattle.std.specs.Option.{option_or};
@@ -9,11 +9,11 @@ ghost use Rattle.gql_diag_messages.specs.declared.diagnostic_data.DiagnosticData
 ghost use Rattle.gql_diag.specs.Order.{by_place, list_order};
 ghost use Rattle.gql_diag.specs.List.{IsStableSort};
 
-pub use gql_diag_guards::laws::{
+pub use crate::guard_laws::{
     first_level_guard_changes_nothing, first_name_guard_changes_nothing, level_is_undone,
     name_is_undone,
 };
-pub use gql_response::laws::{
+pub use crate::response_laws::{
     error_equality_is_sameness, response_equality_is_sameness, responses_read_back,
 };
 

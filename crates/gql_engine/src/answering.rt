@@ -14,7 +14,7 @@ use crate::call::Call;
 use crate::responding::respond;
 use crate::wanted::Wanted;
 use bytes::Bytes;
-use gql_texts::{laws as document_laws, laws as schema_laws};
+use gql_texts::laws as text_laws;
 use gql_exec_plan::Steps;
 use gql_exec_resolve::ObjectValue;
 use jb_read::{from_bytes_whole, laws};
@@ -96,8 +96,8 @@ pub(crate) fn answer_call<O: ObjectValue, L: Ledger>(
     ensures answered { IfOk result (AnswersWithin O.type_of O.resolves (O.seen root.now) (call_by call.now) steps.old steps.new) }
 {
     laws::each_text_has_one_answer();
-    schema_laws::texts_have_one_schema();
-    document_laws::texts_have_one_document_each();
+    text_laws::texts_have_one_schema();
+    text_laws::texts_have_one_document_each();
     answer_or_refuse(alloc, call, root, steps)
 }
 

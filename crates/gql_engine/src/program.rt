@@ -13,7 +13,7 @@ ghost use Rattle.jb_io.specs.Stream.{HasFailed};
 use crate::output::{Output, output_of, self_test};
 use crate::task::{Task, Wish, task_asked};
 use bytes::Bytes;
-use gql_texts::{laws as document_laws, laws as schema_laws};
+use gql_texts::laws as text_laws;
 use gql_exec_plan::Steps;
 use jb_io::{
     ANSWERED, InputFault, MISUSED, NO_MEMORY, REFUSED, SINK_FAILED, SOURCE_FAILED, Sink, SinkFault,
@@ -92,8 +92,8 @@ pub fn run<S: Source, K: Sink, L: Ledger>(
         → (result ≡ ANSWERED) ⊎ ((result ≡ NO_MEMORY) ⊎ (result ≡ SINK_FAILED)) }
 {
     laws::each_text_has_one_answer();
-    schema_laws::texts_have_one_schema();
-    document_laws::texts_have_one_document_each();
+    text_laws::texts_have_one_schema();
+    text_laws::texts_have_one_document_each();
     match task_asked(words) {
         Some(task) => run_task(alloc, task, source, sink, steps),
         None => write_usage(sink),

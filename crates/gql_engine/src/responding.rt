@@ -14,7 +14,7 @@ use crate::response_bytes::{Written, write_response};
 use crate::steps_before::{check_depth, choose, coerce};
 use crate::wanted::Wanted;
 use gql_diag::JsonMap;
-use gql_texts::{laws as document_laws, laws as schema_laws};
+use gql_texts::laws as text_laws;
 use gql_document_types::Operation;
 use gql_exec_plan::Steps;
 use gql_exec_request::Execution;
@@ -80,7 +80,7 @@ fn respond_to<O: ObjectValue, L: Ledger>(
     requires chosen { chosen (text_of wanted.now.operation_name) texts.now.document.operations ≡ Some operation.now }
     ensures answered { IsResponse O.type_of O.resolves (O.seen root.now) (wanted_by wanted.now) steps.old steps.new result }
 {
-    document_laws::operations_select_something();
+    text_laws::operations_select_something();
     match check_depth(alloc, wanted, texts, operation, steps) {
         Ok(()) => perform(alloc, wanted, texts, operation, root, steps),
         Err(refused) => Err(refused),
@@ -123,8 +123,8 @@ fn execute<O: ObjectValue, L: Ledger>(
     ensures { IfOk result (IsResultOf wanted.now.introspection O.type_of O.resolves (O.seen root.now) texts.now.schema texts.now.document operation.now values.now
         steps.old steps.new) }
 {
-    document_laws::valid_documents_run();
-    schema_laws::roots_are_object_types();
+    text_laws::valid_documents_run();
+    text_laws::roots_are_object_types();
     let execution = Execution::new(&texts.schema, &texts.document)
         .operation(operation)
         .coerced_variable_values(values)

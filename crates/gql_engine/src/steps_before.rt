@@ -13,7 +13,7 @@ use crate::meaning::Texts;
 use crate::refusal::{Refusal, of_step};
 use crate::wanted::Wanted;
 use gql_diag::JsonMap;
-use gql_texts::laws as document_laws;
+use gql_texts::laws as text_laws;
 use gql_document_types::Operation;
 use gql_exec_plan::{Steps, check_max_depth, coerce_variable_values};
 use gql_schema_types::Valid;
@@ -78,7 +78,7 @@ fn check_depth_on<L: Ledger>(
     ensures looks { steps.new ≤ steps.old + all_selections texts.now.document operation.now }
     ensures rises { steps.old ≤ steps.new }
 {
-    document_laws::valid_documents_run();
+    text_laws::valid_documents_run();
     let sources = &texts.document.as_ref().sources;
     match check_max_depth(alloc, &texts.document, operation, steps) {
         Ok(()) => Ok(()),

@@ -1,4 +1,4 @@
 mod InTurn
 pub mod Texts
-mod ReadsBack
-mod Equality
+pub mod ReadsBack
+pub mod Equality

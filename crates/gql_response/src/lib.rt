@@ -9,7 +9,6 @@ mod execution_response;
 mod fault;
 mod graphql_error;
 mod json;
-pub mod laws;
 mod location;
 mod parts;
 mod path;

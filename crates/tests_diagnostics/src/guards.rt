@@ -3,9 +3,7 @@
 //! Whoever takes a step is handed the guard of the step before, so that no function holds more than one.
 
 use gql_ast::Name;
-use gql_diag_guards::{
-    DepthCounter, DepthGuard, RecursionGuard, RecursionLimitError, RecursionStack,
-};
+use gql_diag::{DepthCounter, DepthGuard, RecursionGuard, RecursionLimitError, RecursionStack};
 use std::alloc::Global;
 use std::test::Fail;
 

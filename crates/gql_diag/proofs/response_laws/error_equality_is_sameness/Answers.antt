@@ -1,6 +1,6 @@
 use Rattle.std.proofs.Common.{sym, ◌∙◌}
 use Rattle.gql_response.proofs.Equality.{error_decides}
-use Rattle.gql_response.proofs.laws.error_equality_is_sameness.Goals as goal
+use Rattle.gql_diag.proofs.response_laws.error_equality_is_sameness.Goals as goal
 
 pub returns : goal.returns
 returns c =

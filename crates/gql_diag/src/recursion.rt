@@ -3,7 +3,7 @@
 ghost use Rattle.std.specs.Prelude.{◌≡◌, ◌≤◌, ◌<◌, ◌↔◌, [], ◌∷◌, None, Some, Err, length, slice_get, IfOk, OnOk, OnErr};
 ghost use Rattle.std.specs.Option.{option_copied};
 ghost use Rattle.jb_text.specs.declared.refused.Refused.TheVariants as refused_variant;
-ghost use Rattle.gql_diag_guards.specs.Stack.{popped, with_name};
+ghost use Rattle.gql_diag.specs.Stack.{popped, with_name};
 
 use crate::depth::{DEFAULT_LIMIT, RecursionLimitError};
 use gql_ast_base::{Copying, Name};
@@ -21,7 +21,7 @@ pub struct RecursionStack {
 }
 
 impl Model for RecursionStack {
-    ghost use Rattle.gql_diag_guards.specs.Stack.{Stack};
+    ghost use Rattle.gql_diag.specs.Stack.{Stack};
 
     ghost Value = { Stack };
 
@@ -36,8 +36,8 @@ pub struct RecursionGuard<'a> {
 
 impl RecursionStack {
     ghost use Rattle.std.specs.Borrow.{sem};
-    ghost use Rattle.gql_diag_guards.specs.StackGuarding.{stacked, pops, IsLimited, IsPushed, LeavesStack};
-    ghost use Rattle.gql_diag_guards.specs.Stack.{has_name};
+    ghost use Rattle.gql_diag.specs.StackGuarding.{stacked, pops, IsLimited, IsPushed, LeavesStack};
+    ghost use Rattle.gql_diag.specs.Stack.{has_name};
 
     /// No names, and a limit of 32.
     #[must_use]
@@ -137,8 +137,8 @@ impl RecursionStack {
 }
 
 impl<'a> RecursionGuard<'a> {
-    ghost use Rattle.gql_diag_guards.specs.StackGuarding.{stacked, IsPushed, IsLimited};
-    ghost use Rattle.gql_diag_guards.specs.Stack.{has_name};
+    ghost use Rattle.gql_diag.specs.StackGuarding.{stacked, IsPushed, IsLimited};
+    ghost use Rattle.gql_diag.specs.Stack.{has_name};
 
     /// Enters a name.
     ///

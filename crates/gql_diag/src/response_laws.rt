@@ -10,8 +10,7 @@ ghost use Rattle.gql_response.specs.Response.{response_value};
 ghost use Rattle.gql_response.specs.Same.{IsSameError, IsSameResponse};
 ghost use Rattle.gql_response.specs.declared.execution_response.ExecutionResponse.{ExecutionResponse as Response};
 
-use crate::execution_response::ExecutionResponse;
-use crate::graphql_error::GraphQLError;
+use gql_response::{ExecutionResponse, GraphQLError};
 use jb_io::laws;
 
 /// A response that prints nested at most 127 is read back from its print, the places of names aside: for each response

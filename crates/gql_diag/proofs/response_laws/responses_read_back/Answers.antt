@@ -2,7 +2,7 @@ use Rattle.std.proofs.Common.{ap, ◌∙◌}
 use Rattle.gql_response.specs.Response.{response_value}
 use Rattle.gql_response.specs.Reading.{response_of, shaped}
 use Rattle.gql_response.proofs.ReadsBack.{response_back}
-use Rattle.gql_response.proofs.laws.responses_read_back.Goals as goal
+use Rattle.gql_diag.proofs.response_laws.responses_read_back.Goals as goal
 
 pub returns : goal.returns
 returns c = λ response held proper shallow.

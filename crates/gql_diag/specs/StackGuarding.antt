@@ -3,11 +3,11 @@ use Rattle.std.specs.Prelude.{◌≡◌, ◌≢◌, Result, IsErrAnd, ℕ, lengt
 use Rattle.std.specs.Borrow.{Fml, MutBor, follows_if, name_if_ok}
 use Rattle.jb_text.specs.declared.refused.Refused.{Refused}
 use Rattle.jb_text.specs.declared.refused.Refused.TheVariants as refused_variant
-use Rattle.gql_diag_guards.specs.declared.depth.RecursionLimitError.{RecursionLimitError}
+use Rattle.gql_diag.specs.declared.depth.RecursionLimitError.{RecursionLimitError}
 use Rattle.gql_ast_base.specs.Names.{Named}
-use Rattle.gql_diag_guards.specs.declared.recursion.RecursionGuard.{RecursionGuard}
-use Rattle.gql_diag_guards.specs.contracts.recursion.RecursionStack.{the_row}
-use Rattle.gql_diag_guards.specs.Stack.{Stack, with_name}
+use Rattle.gql_diag.specs.declared.recursion.RecursionGuard.{RecursionGuard}
+use Rattle.gql_diag.specs.contracts.recursion.RecursionStack.{the_row}
+use Rattle.gql_diag.specs.Stack.{Stack, with_name}
 
 -- the stack that it guards
 abbrev pub stacked : RecursionGuard → Stack

@@ -1,6 +1,6 @@
 use Rattle.std.proofs.Common.{sym, ◌∙◌}
 use Rattle.gql_response.proofs.Equality.{response_decides}
-use Rattle.gql_response.proofs.laws.response_equality_is_sameness.Goals as goal
+use Rattle.gql_diag.proofs.response_laws.response_equality_is_sameness.Goals as goal
 
 pub returns : goal.returns
 returns c =

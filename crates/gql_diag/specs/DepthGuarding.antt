@@ -1,9 +1,9 @@
 -- Guards of a count of levels.
 use Rattle.std.specs.Prelude.{◌≡◌, ℕ, Option, Some, Result}
 use Rattle.std.specs.Borrow.{Fml, MutBor, follows_if, name_if_ok}
-use Rattle.gql_diag_guards.specs.declared.depth.DepthGuard.{DepthGuard}
-use Rattle.gql_diag_guards.specs.contracts.depth.DepthCounter.{the_row}
-use Rattle.gql_diag_guards.specs.Depth.{Depth, deeper}
+use Rattle.gql_diag.specs.declared.depth.DepthGuard.{DepthGuard}
+use Rattle.gql_diag.specs.contracts.depth.DepthCounter.{the_row}
+use Rattle.gql_diag.specs.Depth.{Depth, deeper}
 
 -- the count that it guards
 abbrev pub counted : DepthGuard → Depth

@@ -1,4 +1,0 @@
-pub mod Depth
-pub mod DepthGuarding
-pub mod Stack
-pub mod StackGuarding
