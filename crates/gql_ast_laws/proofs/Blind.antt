@@ -6,7 +6,7 @@ use Rattle.gql_cst_grammar.specs.declared.syntax_kind.SyntaxKind.{SyntaxKind}
 use Rattle.gql_cst_grammar.specs.declared.syntax_kind.SyntaxKind.TheVariants.{Token}
 use Rattle.gql_cst.specs.Forest.{Forest, Plain, nothing}
 use Rattle.gql_cst.specs.Leaves.{Part, word, ignored, node, part_of}
-use Rattle.gql_cst_laws.specs.Bare.{bare, Ends, TokensEnd}
+use Rattle.gql_cst.specs.Bare.{bare, Ends, TokensEnd}
 use Rattle.gql_ast_base.specs.Kinds.{is_kind}
 use Rattle.gql_ast_base.specs.Parts.{or_else}
 use Rattle.gql_ast_laws.proofs.TokenKinds.{kind_is}

@@ -3,7 +3,7 @@ use Rattle.std.proofs.Common.{◌≡◌, refl}
 use Rattle.gql_source.specs.declared.file_id.FileId.{FileId}
 use Rattle.gql_cst_grammar.specs.declared.syntax_kind.SyntaxKind.TheVariants as kind
 use Rattle.gql_cst.specs.Forest.{Forest}
-use Rattle.gql_cst_laws.specs.Bare.{bare, TokensEnd}
+use Rattle.gql_cst.specs.Bare.{bare, TokensEnd}
 use Rattle.gql_ast_base.specs.Directives.{argument_of, arguments, directive_of, directives}
 use Rattle.gql_ast_base.specs.Literals.{string_of, description}
 use Rattle.gql_ast_base.specs.Parts.{Text, first}

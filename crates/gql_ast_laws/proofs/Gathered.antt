@@ -3,7 +3,7 @@ use Rattle.std.proofs.Common.{◌≡◌, ℕ, ◌++◌, option_to_list, Option, 
 use Rattle.gql_cst_grammar.specs.declared.syntax_kind.SyntaxKind.{SyntaxKind}
 use Rattle.gql_cst.specs.Forest.{Forest, Plain, nothing, tree_then}
 use Rattle.gql_cst.specs.Leaves.{Part, word, ignored, node, part_of}
-use Rattle.gql_cst_laws.specs.Bare.{bare_then, bare, TokensEnd}
+use Rattle.gql_cst.specs.Bare.{bare_then, bare, TokensEnd}
 use Rattle.gql_ast_base.specs.Parts.{head, gather, first}
 use Rattle.gql_ast_laws.proofs.Blind.{tree, BlindAt, Blind}
 

@@ -5,7 +5,7 @@ use Rattle.std.specs.Option.{option_map}
 use Rattle.gql_cst_grammar.specs.declared.syntax_kind.SyntaxKind.{SyntaxKind}
 use Rattle.gql_cst.specs.Forest.{Forest, Plain, nothing, tree_then}
 use Rattle.gql_cst.specs.Leaves.{Part, word, ignored, node, part_of}
-use Rattle.gql_cst_laws.specs.Bare.{bare_then, bare, TokensEnd}
+use Rattle.gql_cst.specs.Bare.{bare_then, bare, TokensEnd}
 use Rattle.gql_ast_base.specs.Kinds.{is_kind}
 use Rattle.gql_ast_base.specs.Parts.{gather, child, children_of, inside}
 use Rattle.gql_ast_laws.proofs.TokenKinds.{kind_is}

@@ -1,3 +1,8 @@
+mod Rows
+pub mod Constants
+mod Kept
+mod Values
+mod Documents
 pub mod TokenKinds
 pub mod Blind
 pub mod Gathered

@@ -6,7 +6,7 @@ use Rattle.gql_source.specs.declared.file_id.FileId.{FileId}
 use Rattle.gql_cst_grammar.specs.declared.syntax_kind.SyntaxKind.{SyntaxKind}
 use Rattle.gql_cst_grammar.specs.declared.syntax_kind.SyntaxKind.TheVariants.{Token}
 use Rattle.gql_cst.specs.Forest.{Forest, Plain, nothing, tree_then}
-use Rattle.gql_cst_laws.specs.Bare.{bare, TokensEnd}
+use Rattle.gql_cst.specs.Bare.{bare, TokensEnd}
 use Rattle.gql_ast_base.specs.Names.{Named}
 use Rattle.gql_ast_base.specs.Kinds.{is_kind}
 use Rattle.gql_ast_base.specs.Parts.{Text, gather, location, token_text, word as name_text, name_of, word_leaf, nth_text, nth_name, nth_word}

@@ -4,7 +4,7 @@ use Rattle.std.specs.Prelude.{option_and_then}
 use Rattle.gql_source.specs.declared.file_id.FileId.{FileId}
 use Rattle.gql_cst_grammar.specs.declared.syntax_kind.SyntaxKind.TheVariants as kind
 use Rattle.gql_cst.specs.Forest.{Forest}
-use Rattle.gql_cst_laws.specs.Bare.{bare, TokensEnd}
+use Rattle.gql_cst.specs.Bare.{bare, TokensEnd}
 use Rattle.gql_ast_base.specs.OperationTypes.{operation_word, operation_type_of, operation_type_in}
 use Rattle.gql_ast_base.specs.Values.{default_value, value_of}
 use Rattle.gql_ast_definitions.specs.Operations.{variable_of, variables, operation_of, fragment_of}

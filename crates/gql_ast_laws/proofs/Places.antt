@@ -5,7 +5,7 @@ use Rattle.gql_cst_grammar.specs.declared.syntax_kind.SyntaxKind.{SyntaxKind}
 use Rattle.gql_cst_grammar.specs.declared.syntax_kind.SyntaxKind.TheVariants.{Token}
 use Rattle.gql_cst.specs.Forest.{Forest, nothing, tree_then}
 use Rattle.gql_cst.specs.Leaves.{Part, word, ignored, node, part_of, Leaf, own_leaf, leaves}
-use Rattle.gql_cst_laws.specs.Bare.{bare_then, bare, own_spoken, spoken, Ends, TokensEnd}
+use Rattle.gql_cst.specs.Bare.{bare_then, bare, own_spoken, spoken, Ends, TokensEnd}
 use Rattle.gql_ast_base.specs.Kinds.{is_kind}
 use Rattle.gql_ast_base.specs.Parts.{or_else, start_of, end_of, location}
 use Rattle.gql_ast_laws.proofs.TokenKinds.{is_word_part, token_kind, no_token, same_kind}

@@ -6,7 +6,7 @@ use Rattle.gql_cst_grammar.specs.declared.syntax_kind.SyntaxKind.{SyntaxKind}
 use Rattle.gql_cst_grammar.specs.declared.syntax_kind.SyntaxKind.TheVariants as kind
 use Rattle.gql_cst.specs.Forest.{Forest, nothing, tree_then}
 use Rattle.gql_cst.specs.Leaves.{Part, word, ignored, node, part_of}
-use Rattle.gql_cst_laws.specs.Bare.{bare_then, bare, TokensEnd}
+use Rattle.gql_cst.specs.Bare.{bare_then, bare, TokensEnd}
 use Rattle.gql_ast_base.specs.Kinds.{is_kind}
 use Rattle.gql_ast_base.specs.Parts.{Text, gather, word as name_text, after_word}
 use Rattle.gql_ast_definitions.specs.Schemas.{location_word, directive_location_of, directive_locations, root_operations, schema_of, directive_definition_of}

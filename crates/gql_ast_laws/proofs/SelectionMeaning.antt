@@ -6,7 +6,7 @@ use Rattle.gql_cst_grammar.specs.declared.syntax_kind.SyntaxKind.{SyntaxKind}
 use Rattle.gql_cst_grammar.specs.declared.syntax_kind.SyntaxKind.TheVariants as kind
 use Rattle.gql_cst.specs.Forest.{Forest, nothing, tree_then}
 use Rattle.gql_cst.specs.Leaves.{Part, word, ignored, node, part_of}
-use Rattle.gql_cst_laws.specs.Bare.{bare_then, bare, TokensEnd}
+use Rattle.gql_cst.specs.Bare.{bare_then, bare, TokensEnd}
 use Rattle.gql_ast_definitions.specs.declared.selection.Selection.{Field as a_field, InlineFragment as an_inline_fragment}
 use Rattle.gql_ast_definitions.specs.declared.selection.Selection.TheVariants.{FragmentSpread as a_spread}
 use Rattle.gql_ast_base.specs.Kinds.{is_kind}

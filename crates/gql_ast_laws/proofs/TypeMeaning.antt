@@ -5,7 +5,7 @@ use Rattle.gql_source.specs.declared.file_id.FileId.{FileId}
 use Rattle.gql_cst_grammar.specs.declared.syntax_kind.SyntaxKind.{SyntaxKind}
 use Rattle.gql_cst_grammar.specs.declared.syntax_kind.SyntaxKind.TheVariants as kind
 use Rattle.gql_cst.specs.Forest.{Forest, nothing, tree_then}
-use Rattle.gql_cst_laws.specs.Bare.{bare, TokensEnd}
+use Rattle.gql_cst.specs.Bare.{bare, TokensEnd}
 use Rattle.gql_ast_base.specs.declared.type_ref.TypeRef.{List as ListOf}
 use Rattle.gql_ast_base.specs.declared.type_ref.TypeRef.TheVariants.{Named as NamedType}
 use Rattle.gql_ast_base.specs.Parts.{Text, head, gather, nth_name}

@@ -6,7 +6,7 @@ use Rattle.gql_source.specs.declared.file_id.FileId.{FileId}
 use Rattle.gql_cst_grammar.specs.declared.syntax_kind.SyntaxKind.{SyntaxKind}
 use Rattle.gql_cst_grammar.specs.declared.syntax_kind.SyntaxKind.TheVariants as kind
 use Rattle.gql_cst.specs.Forest.{Forest, nothing, tree_then}
-use Rattle.gql_cst_laws.specs.Bare.{bare, TokensEnd}
+use Rattle.gql_cst.specs.Bare.{bare, TokensEnd}
 use Rattle.gql_ast_base.specs.declared.value.ValueKind.{List as ListKind, Object as ObjectKind}
 use Rattle.gql_ast_base.specs.declared.value.ValueKind.TheVariants.{Variable, Boolean, Enum}
 use Rattle.gql_ast_base.specs.Values.{literal, truth, simple_content, content_step, member_step, value_step, values, contents, members, content_of, member_of, value_of}

@@ -3,7 +3,7 @@ use Rattle.std.proofs.Common.{◌≡◌, Option, ◌∙◌, sym, ap, subst}
 use Rattle.gql_cst_grammar.specs.declared.syntax_kind.SyntaxKind.{SyntaxKind}
 use Rattle.gql_cst.specs.Forest.{Forest, Plain}
 use Rattle.gql_cst.specs.Leaves.{node, part_of}
-use Rattle.gql_cst_laws.specs.Bare.{bare, Ends, TokensEnd}
+use Rattle.gql_cst.specs.Bare.{bare, Ends, TokensEnd}
 use Rattle.gql_ast_base.specs.Parts.{gather}
 use Rattle.gql_ast_laws.proofs.Blind.{tree, EndsAt, Blind}
 use Rattle.gql_ast_laws.proofs.Gathered.{gather_blind}

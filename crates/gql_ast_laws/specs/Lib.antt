@@ -1,3 +1,6 @@
+-- The defaults of a document's definitions.
+pub mod Constants
+pub mod Defaults
 -- What a text stands for.
 pub mod Meant
 pub mod Complete

@@ -4,7 +4,7 @@ use Rattle.gql_source.specs.declared.file_id.FileId.{FileId}
 use Rattle.gql_cst_grammar.specs.declared.rule.Rule.TheVariants.{Document, FieldSet, TypeReference}
 use Rattle.gql_cst_grammar.specs.declared.syntax_kind.SyntaxKind.TheVariants as kind
 use Rattle.gql_cst.specs.Forest.{Forest}
-use Rattle.gql_cst_laws.specs.TreeOf.{IsTreeOf}
+use Rattle.gql_cst.specs.TreeOf.{IsTreeOf}
 use Rattle.gql_ast.specs.declared.definition.Definition.{Definition}
 use Rattle.gql_ast_definitions.specs.declared.selection.Selection.{Selection}
 use Rattle.gql_ast_base.specs.declared.type_ref.TypeRef.{TypeRef}

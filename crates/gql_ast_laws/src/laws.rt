@@ -8,7 +8,7 @@ ghost use Rattle.gql_cst.specs.declared.limits.Limits.{Limits};
 ghost use Rattle.gql_cst.specs.declared.limits.Parsed.{Parsed};
 ghost use Rattle.gql_cst.specs.Forest.{Forest, Plain, plain};
 ghost use Rattle.gql_cst.specs.Parses.{IsParse};
-ghost use Rattle.gql_cst_laws.specs.TreeOf.{IsTreeOf};
+ghost use Rattle.gql_cst.specs.TreeOf.{IsTreeOf};
 ghost use Rattle.gql_ast.specs.declared.definition.Definition.{Definition};
 ghost use Rattle.gql_ast_definitions.specs.declared.selection.Selection.{Selection};
 ghost use Rattle.gql_ast_base.specs.declared.type_ref.TypeRef.{TypeRef};
@@ -17,9 +17,11 @@ ghost use Rattle.gql_ast_definitions.specs.Selections.{selections, selected};
 ghost use Rattle.gql_ast_base.specs.Types.{type_of};
 ghost use Rattle.gql_ast_laws.specs.Complete.{EachNode};
 ghost use Rattle.gql_ast_laws.specs.Meant.{IsDocumentOf, AreSelectionsOf, IsTypeOf};
+ghost use Rattle.std.specs.List.{All};
+ghost use Rattle.gql_ast_laws.specs.Defaults.{HasConstantDefaults};
 
+use gql_cst::laws as tree_laws;
 use gql_cst_grammar::laws as grammar_laws;
-use gql_cst_laws::laws as tree_laws;
 
 /// A text is one document at most: all its trees have the same definitions, locations included (section 2.2 of GraphQL
 /// October 2021).
@@ -80,6 +82,15 @@ pub fn sentences_are_complete()
         → IsTreeOf Document text children → EachNode (λ tree. IsSome (definition_of text file tree)) children }
     ensures ty { (text : List ℕ) (file : FileId) (tree : Plain) → tree.kind ≡ kind.TypeReference
         → IsTreeOf TypeReference text tree.children → IsSome (type_of text file tree) }
+{
+    grammar_laws::sentences_have_one_tree();
+}
+
+/// In a document that a text means no default of a variable or of an input field has a variable in it (GraphQL October 2021,
+/// sections 2.10 and 3.10), and what is defined by an input field stands in the text's file.
+pub fn defaults_are_constant()
+    ensures { (text : List ℕ) (file : FileId) (definitions : List Definition) → IsDocumentOf text file definitions
+        → All (HasConstantDefaults file) definitions }
 {
     grammar_laws::sentences_have_one_tree();
 }

@@ -29,7 +29,7 @@ use Rattle.gql_coerce.specs.Translation.{translated}
 use Rattle.gql_coerce.specs.InputValue.{Coercion, misfit, refused_or, places, taken, at_definition, field_given, field_value, input_object, each_at, object_at, leaf, object, array, level, rule, within, coerced}
 use Rattle.gql_coerce.specs.Variables.{variable_name, variable_given, variable_value, coerced_variables}
 use Rattle.gql_coerce.proofs.TypeParts.{innermost-item}
-use Rattle.gql_ast_default_laws.specs.Constants.{is_constant_default}
+use Rattle.gql_ast_laws.specs.Constants.{is_constant_default}
 use Rattle.gql_coerce_laws.specs.Inputs.{is_input, is_input_type, IsInput, IsInputField, IsInputVariable, AreInputFields}
 use Rattle.gql_coerce_laws.specs.Unmarked.{IsUnmarked}
 use Rattle.gql_coerce_laws.proofs.Literals.{mapped-unmarked, and_then-unmarked, all_of-unmarked, constant-unmarked}

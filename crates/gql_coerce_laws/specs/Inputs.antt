@@ -11,7 +11,7 @@ use Rattle.gql_ast_base.specs.TypeParts.{named_type}
 use Rattle.gql_schema_types.specs.Types.{type_called, is_composite}
 use Rattle.gql_schema_types.specs.declared.types.ExtendedType.{ExtendedType}
 use Rattle.gql_schema_types.specs.declared.types.InputObjectType.{InputObjectType}
-use Rattle.gql_ast_default_laws.specs.Constants.{is_constant_default}
+use Rattle.gql_ast_laws.specs.Constants.{is_constant_default}
 
 -- it is defined, and neither an object type nor an interface nor a union
 abbrev pub is_input : Option ExtendedType → Bool

@@ -29,7 +29,7 @@ use Rattle.gql_cst_grammar.specs.Reads.{Reads}
 use Rattle.gql_cst_grammar.specs.Row.{Row, nothing, node}
 use Rattle.gql_cst_grammar.specs.Rule.{kind_of}
 use Rattle.gql_cst_grammar.specs.Sentence.{Sentence}
-use Rattle.gql_cst_laws.specs.TreeOf.{IsTreeOf}
+use Rattle.gql_cst.specs.TreeOf.{IsTreeOf}
 use Rattle.gql_cst_lexer.specs.Lex.{lex, run_len, blank_len, string_len, string, quoted}
 use Rattle.gql_schema.specs.BuiltInSchema.{IsBuiltIn, built_in_file}
 use Rattle.gql_schema_build.specs.TypeSystems.{with_definitions, no_definitions}

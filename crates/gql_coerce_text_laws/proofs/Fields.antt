@@ -7,8 +7,8 @@ use Rattle.gql_source.specs.declared.file_id.FileId.{FileId}
 use Rattle.gql_ast.specs.declared.definition.Definition.{Definition}
 use Rattle.gql_ast.specs.declared.definition.Definition.TheVariants as definition
 use Rattle.gql_ast_base.specs.Names.{Named}
-use Rattle.gql_ast_default_laws.specs.Constants.{is_constant_default}
-use Rattle.gql_ast_default_laws.specs.Defaults.{IsIn, IsConstantField, HasConstantDefaults}
+use Rattle.gql_ast_laws.specs.Constants.{is_constant_default}
+use Rattle.gql_ast_laws.specs.Defaults.{IsIn, IsConstantField, HasConstantDefaults}
 use Rattle.gql_coerce_text_laws.proofs.Each.{Each, each-of}
 use Rattle.gql_ast_definitions.specs.declared.field_definition.InputValueDefinition.{InputValueDefinition}
 use Rattle.gql_rules_base.specs.Written.{is_written}

@@ -9,7 +9,7 @@ use Rattle.std.proofs.lemmas.Slice.Eq.{bytes_eq-Decides}
 use Rattle.gql_source.specs.declared.file_id.FileId.{FileId}
 use Rattle.gql_ast.specs.declared.definition.Definition.{Definition}
 use Rattle.gql_ast.specs.declared.document.Document.{Document}
-use Rattle.gql_ast_default_laws.specs.Defaults.{HasConstantDefaults}
+use Rattle.gql_ast_laws.specs.Defaults.{HasConstantDefaults}
 use Rattle.gql_coerce_text_laws.proofs.Each.{Each, all-of}
 use Rattle.gql_ast_definitions.specs.declared.field_definition.InputValueDefinition.{InputValueDefinition}
 use Rattle.gql_ast_definitions.specs.declared.schema_definition.DirectiveLocation.TheVariants as at

@@ -6,7 +6,7 @@ use Rattle.gql_source.specs.declared.file_id.FileId.{FileId}
 use Rattle.gql_ast.specs.declared.definition.Definition.{Definition}
 use Rattle.gql_ast.specs.declared.definition.Definition.TheVariants as definition
 use Rattle.gql_ast_base.specs.Names.{Named}
-use Rattle.gql_ast_default_laws.specs.Defaults.{IsConstantVariable, HasConstantDefaults}
+use Rattle.gql_ast_laws.specs.Defaults.{IsConstantVariable, HasConstantDefaults}
 use Rattle.gql_ast_definitions.specs.declared.operation.OperationDefinition.{OperationDefinition}
 use Rattle.gql_document_build.specs.AmbiguousAnonymousOperation.{are_several, is_ambiguous}
 use Rattle.gql_document_build.specs.Build.{built_operation, operation_on}

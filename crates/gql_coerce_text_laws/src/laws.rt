@@ -9,7 +9,6 @@ ghost use Rattle.gql_document_types.specs.declared.document.ExecutableDocument.{
 ghost use Rattle.gql_texts.specs.SchemaText.{SchemaText};
 ghost use Rattle.gql_schema_types.specs.declared.schema.Schema.{Schema as SchemaOf};
 
-use gql_ast_default_laws::laws as default_laws;
 use gql_ast_laws::laws as tree_laws;
 use gql_coerce_laws::laws as coercion_laws;
 use gql_cst_grammar::laws as grammar_laws;
@@ -29,6 +28,6 @@ pub fn validated_documents_leave_no_mark()
     grammar_laws::factored_is_declared();
     tree_laws::texts_have_one_document();
     text_laws::built_in_text_is_a_document();
-    default_laws::defaults_are_constant();
+    tree_laws::defaults_are_constant();
     coercion_laws::input_types_leave_no_mark();
 }

@@ -1,3 +1,7 @@
+pub mod Tokens
+pub mod Counts
+pub mod Filled
+pub mod Parsing
 pub mod Ways
 pub mod Rows
 pub mod Laid

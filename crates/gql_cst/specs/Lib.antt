@@ -1,3 +1,6 @@
+-- Trees of a text, and what is left of them without ignored tokens.
+pub mod Bare
+pub mod TreeOf
 pub use Rattle.gql_cst_grammar.specs.declared.syntax_kind.SyntaxKind
 pub use Rattle.gql_cst_grammar.specs.contracts.syntax_kind.SyntaxKind as SyntaxKindContract
 pub use Rattle.gql_cst_lexer.specs.BlockString

@@ -11,6 +11,10 @@
 //!
 //! The rules of tokens are those of section 2.1 and, for the values of strings, 2.9.4 of GraphQL October 2021.
 //!
+//! The grammar does not say in which node an ignored token stands. Apart from that a text has one tree: its tokens are
+//! one list, and any two trees of it are equal once the ignored tokens and the places of inner nodes are left out. The
+//! functions of [`laws`] do nothing when they run: their contracts are these laws.
+//!
 //! ```
 //! let limits = Limits { recursion: 500, tokens: None };
 //! let parsed = parse_document(alloc, "{ name }", &limits)?;
@@ -20,6 +24,7 @@
 
 mod count;
 mod frame;
+pub mod laws;
 mod limits;
 mod machine;
 mod parse;

@@ -12,7 +12,7 @@ use Rattle.gql_cst.specs.declared.limits.Parsed.{Parsed}
 use Rattle.gql_cst.specs.Forest.{Plain, plain}
 use Rattle.gql_cst.specs.Parses.{IsParse}
 use Rattle.gql_cst.specs.Sentences.{root_kind}
-use Rattle.gql_cst_laws.specs.TreeOf.{IsTreeOf}
+use Rattle.gql_cst.specs.TreeOf.{IsTreeOf}
 use Rattle.gql_ast.specs.declared.document.Document.{Document}
 use Rattle.gql_ast.specs.Documents.{definitions}
 use Rattle.gql_ast_base.specs.declared.type_ref.TypeRef.{TypeRef}

@@ -12,7 +12,7 @@ use Rattle.gql_cst.specs.Nesting.{nesting}
 use Rattle.gql_cst.specs.Outcome.{IsWithin, Stops}
 use Rattle.gql_cst.specs.Parses.{IsParse, Accepts, reached_at}
 use Rattle.gql_cst.specs.Sentences.{root_kind, shown}
-use Rattle.gql_cst_laws.specs.TreeOf.{IsTreeOf}
+use Rattle.gql_cst.specs.TreeOf.{IsTreeOf}
 use Rattle.gql_parser.specs.Parsers.{ParserState}
 use Rattle.gql_parser.specs.Readings.{IsSentenceWithin, IsReading, IsWhole, IsStopped, IsJudged}
 use Rattle.gql_parser.proofs.Shallow.{shown-shallow}

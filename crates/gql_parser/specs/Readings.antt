@@ -9,7 +9,7 @@ use Rattle.gql_cst.specs.Leaves.{leaves}
 use Rattle.gql_cst.specs.Nesting.{nesting}
 use Rattle.gql_cst.specs.Outcome.{IsWithin}
 use Rattle.gql_cst.specs.Parses.{IsParse}
-use Rattle.gql_cst_laws.specs.TreeOf.{IsTreeOf}
+use Rattle.gql_cst.specs.TreeOf.{IsTreeOf}
 use Rattle.gql_parser.specs.Parsers.{ParserState}
 
 -- the text is a sentence of the start, and neither its levels nor its tokens pass their limits

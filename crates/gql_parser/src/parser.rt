@@ -6,8 +6,7 @@ ghost use Rattle.gql_parser.specs.Parsers.{fresh};
 ghost use Rattle.gql_parser.specs.Readings.{IsJudged};
 ghost use Rattle.gql_parser.specs.Diagnosed.{IsOrdered};
 
-use gql_cst::{Limits, Parsed, parse_document, parse_selection_set, parse_type};
-use gql_cst_laws::laws;
+use gql_cst::{Limits, Parsed, laws, parse_document, parse_selection_set, parse_type};
 use jb_text::Memory;
 use std::alloc::Global;
 use std::marker::Model;

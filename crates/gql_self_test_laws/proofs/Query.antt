@@ -25,7 +25,7 @@ use Rattle.gql_cst_grammar.specs.Reads.{Reads}
 use Rattle.gql_cst_grammar.specs.Row.{Row, nothing, node}
 use Rattle.gql_cst_grammar.specs.Rule.{kind_of}
 use Rattle.gql_cst_grammar.specs.Sentence.{Sentence}
-use Rattle.gql_cst_laws.specs.TreeOf.{IsTreeOf}
+use Rattle.gql_cst.specs.TreeOf.{IsTreeOf}
 use Rattle.gql_source.specs.Span.{Span}
 use Rattle.gql_source.specs.declared.file_id.FileId.{FileId}
 use Rattle.gql_self_test_laws.specs.Texts.{query_text}

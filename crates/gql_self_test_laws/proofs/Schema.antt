@@ -21,7 +21,7 @@ use Rattle.gql_cst_grammar.specs.declared.symbol.Symbol.TheVariants.{One}
 use Rattle.gql_cst_grammar.specs.declared.syntax_kind.SyntaxKind.TheVariants as kind
 use Rattle.gql_cst_grammar.specs.declared.word.Word.{Word}
 use Rattle.gql_cst_grammar.specs.Row.{Row, nothing, node}
-use Rattle.gql_cst_laws.specs.TreeOf.{IsTreeOf}
+use Rattle.gql_cst.specs.TreeOf.{IsTreeOf}
 use Rattle.gql_source.specs.Span.{Span}
 use Rattle.gql_source.specs.declared.file_id.FileId.{FileId}
 use Rattle.gql_self_test_laws.specs.Texts.{schema_text}

@@ -13,9 +13,9 @@ use Rattle.gql_cst.specs.Forest.{Forest, nothing, tree_then}
 use Rattle.gql_cst.specs.Leaves.{Part, word, ignored, node, part_of, Leaf, own_leaf, leaves, Tiles}
 use Rattle.gql_cst.specs.Sentences.{root_kind, words, row_then, shown}
 use Rattle.gql_cst.specs.Words.{word_of}
-use Rattle.gql_cst_laws.specs.Bare.{bare_then, bare, spoken, Ends, TokensEnd}
-use Rattle.gql_cst_laws.specs.TreeOf.{IsTreeOf}
-use Rattle.gql_cst_laws.proofs.Counts.{spoken-tree, count, seen, words-length, ends, seen-count}
+use Rattle.gql_cst.specs.Bare.{bare_then, bare, spoken, Ends, TokensEnd}
+use Rattle.gql_cst.specs.TreeOf.{IsTreeOf}
+use Rattle.gql_cst.proofs.Counts.{spoken-tree, count, seen, words-length, ends, seen-count}
 
 -- trees of a row, whose tokens are at the front of the list
 fill : Row → List Leaf → Forest

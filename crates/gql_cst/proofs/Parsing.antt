@@ -11,7 +11,7 @@ use Rattle.gql_cst.specs.Leaves.{leaves, Tiles}
 use Rattle.gql_cst.specs.Outcome.{Stops, Reached}
 use Rattle.gql_cst.specs.Parses.{Parses, IsParse}
 use Rattle.gql_cst.specs.Sentences.{root_kind, words, shown}
-use Rattle.gql_cst_laws.specs.TreeOf.{IsTreeOf}
+use Rattle.gql_cst.specs.TreeOf.{IsTreeOf}
 
 whole : (start : Rule) (text : List ℕ) (limits : Limits) (parsed : Parsed) (place : ℕ) (children : Forest) → Parses start text limits parsed place children
     → parsed.error ≡ None → IsTreeOf start text children

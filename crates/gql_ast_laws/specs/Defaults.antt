@@ -5,7 +5,7 @@ use Rattle.gql_source.specs.Span.{Span}
 use Rattle.gql_source.specs.declared.file_id.FileId.{FileId}
 use Rattle.gql_ast.specs.declared.definition.Definition.{Definition}
 use Rattle.gql_ast.specs.declared.definition.Definition.TheVariants.{OperationDefinition, InputObjectTypeDefinition, InputObjectTypeExtension}
-use Rattle.gql_ast_default_laws.specs.Constants.{is_constant_default}
+use Rattle.gql_ast_laws.specs.Constants.{is_constant_default}
 use Rattle.gql_ast_definitions.specs.declared.field_definition.InputValueDefinition.{InputValueDefinition}
 use Rattle.gql_ast_definitions.specs.declared.operation.VariableDefinition.{VariableDefinition}
 

@@ -3,7 +3,7 @@ use Rattle.std.proofs.Common.{◌≡◌, ℕ, List, [], ◌∷◌, map, Bool, tr
 use Rattle.gql_ast_base.specs.Names.{Named}
 use Rattle.gql_ast_base.specs.declared.value.Value.{Value}
 use Rattle.gql_ast_base.specs.declared.value.ValueKind.{ValueKind, Null, Variable, Int, Float, String, Boolean, Enum, List as ListKind, Object as ObjectKind, the_lemmas}
-use Rattle.gql_ast_default_laws.specs.Constants.{all_true, all_members_true, is_constant_kind, is_constant}
+use Rattle.gql_ast_laws.specs.Constants.{all_true, all_members_true, is_constant_kind, is_constant}
 
 pub constant-Null : is_constant_kind Null ≡ true
 unfolding is_constant_kind

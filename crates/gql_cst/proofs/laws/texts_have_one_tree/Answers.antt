@@ -1,5 +1,5 @@
-use Rattle.gql_cst_laws.proofs.Filled.{tree_ends, tree_same}
-use Rattle.gql_cst_laws.proofs.laws.texts_have_one_tree.Goals as goal
+use Rattle.gql_cst.proofs.Filled.{tree_ends, tree_same}
+use Rattle.gql_cst.proofs.laws.texts_have_one_tree.Goals as goal
 
 pub returns : goal.returns
 returns c = record {

@@ -33,9 +33,9 @@ use Rattle.gql_ast_definitions.specs.declared.operation.OperationDefinition.{Ope
 use Rattle.gql_ast_definitions.specs.declared.operation.VariableDefinition.{VariableDefinition}
 use Rattle.gql_ast_definitions.specs.Operations.{variable_of, variables, operation_of, fragment_of}
 use Rattle.gql_ast_base.specs.Types.{type_of}
-use Rattle.gql_ast_default_laws.specs.Defaults.{IsIn, IsConstantVariable, IsConstantField, HasConstantDefaults}
-use Rattle.gql_ast_default_laws.proofs.Kept.{IfAny, IsKnown, all-of, head-any, or-any, map-any, map-always, then-always, gather-each, kind-any, kind-also-any, inside-allowed}
-use Rattle.gql_ast_default_laws.proofs.Values.{default-constant}
+use Rattle.gql_ast_laws.specs.Defaults.{IsIn, IsConstantVariable, IsConstantField, HasConstantDefaults}
+use Rattle.gql_ast_laws.proofs.Kept.{IfAny, IsKnown, all-of, head-any, or-any, map-any, map-always, then-always, gather-each, kind-any, kind-also-any, inside-allowed}
+use Rattle.gql_ast_laws.proofs.Values.{default-constant}
 
 span-in : (file : FileId) (start end : Option ℕ) → IsIn file (span file start end)
 span-in file None end = tt

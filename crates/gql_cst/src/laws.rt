@@ -8,8 +8,8 @@ ghost use Rattle.gql_cst.specs.Forest.{Forest, plain};
 ghost use Rattle.gql_cst.specs.Leaves.{Leaf, Tiles};
 ghost use Rattle.gql_cst.specs.Parses.{IsParse};
 ghost use Rattle.gql_cst.specs.Sentences.{root_kind};
-ghost use Rattle.gql_cst_laws.specs.Bare.{bare, TokensEnd};
-ghost use Rattle.gql_cst_laws.specs.TreeOf.{IsTreeOf};
+ghost use Rattle.gql_cst.specs.Bare.{bare, TokensEnd};
+ghost use Rattle.gql_cst.specs.TreeOf.{IsTreeOf};
 
 use gql_cst_grammar::laws as grammar_laws;
 use gql_cst_lexer::laws as lexer_laws;

@@ -9,7 +9,7 @@ use Rattle.gql_cst_grammar.specs.Row.{Row}
 use Rattle.gql_cst.specs.Forest.{Forest, nothing, tree_then}
 use Rattle.gql_cst.specs.Leaves.{Part, word, ignored, node, part_of, Leaf, own_leaf, leaves}
 use Rattle.gql_cst.specs.Sentences.{own_word, words, row_then, shown}
-use Rattle.gql_cst_laws.specs.Bare.{own_spoken, spoken, Ends, TokensEnd}
+use Rattle.gql_cst.specs.Bare.{own_spoken, spoken, Ends, TokensEnd}
 
 pub spoken-append : (xs ys : List Leaf) → spoken (xs ++ ys) ≡ spoken xs ++ spoken ys
 spoken-append [] ys = refl

@@ -24,10 +24,10 @@ use Rattle.gql_ast_base.specs.Values.{number_kind, literal, truth, token_content
 use Rattle.gql_ast_laws.proofs.Inner.{both_ways, node_of, here, later}
 use Rattle.gql_ast_laws.proofs.Shown.{node-row, rest-row}
 use Rattle.gql_ast_laws.proofs.TokenKinds.{word_is_token, kind_is}
-use Rattle.gql_ast_default_laws.specs.Constants.{all_true, all_members_true, is_constant_kind, is_constant, is_constant_default}
-use Rattle.gql_ast_default_laws.proofs.Constants.{constant-Null, constant-Int, constant-Float, constant-String, constant-Boolean, constant-Enum, constant-List, judged, constant-Object}
-use Rattle.gql_ast_default_laws.proofs.Kept.{Each, IfAny, then-each, head-any, if-any, else-any, map-any, map-always, then-always}
-use Rattle.gql_ast_default_laws.proofs.Rows.{NoVariable, default-free}
+use Rattle.gql_ast_laws.specs.Constants.{all_true, all_members_true, is_constant_kind, is_constant, is_constant_default}
+use Rattle.gql_ast_laws.proofs.Constants.{constant-Null, constant-Int, constant-Float, constant-String, constant-Boolean, constant-Enum, constant-List, judged, constant-Object}
+use Rattle.gql_ast_laws.proofs.Kept.{Each, IfAny, then-each, head-any, if-any, else-any, map-any, map-always, then-always}
+use Rattle.gql_ast_laws.proofs.Rows.{NoVariable, default-free}
 
 abbrev pub IsConstant : Value → Type 0
 IsConstant value = is_constant value ≡ true

@@ -1,5 +1,5 @@
-use Rattle.gql_cst_laws.proofs.Parsing.{parse_tree}
-use Rattle.gql_cst_laws.proofs.laws.parses_are_trees.Goals as goal
+use Rattle.gql_cst.proofs.Parsing.{parse_tree}
+use Rattle.gql_cst.proofs.laws.parses_are_trees.Goals as goal
 
 pub returns : goal.returns
 returns c = record {

@@ -1,5 +1,0 @@
-mod Rows
-pub mod Constants
-mod Kept
-mod Values
-mod Documents

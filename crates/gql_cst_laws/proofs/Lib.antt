@@ -1,4 +1,0 @@
-pub mod Tokens
-pub mod Counts
-pub mod Filled
-pub mod Parsing
