@@ -2,7 +2,7 @@
 use Rattle.std.proofs.Common.{◌≡◌, ℕ, Bool, true, false, ◌&&◌, ◌||◌, List, [], ◌∷◌, ◌++◌, length, codes, refl, sym, ap, ◌∙◌, arith, append_assoc}
 use Rattle.std.specs.List.{flat_map, list_all}
 use Rattle.std.proofs.lemmas.Bool.Decides.{nat_tests}
-use Rattle.jb_plain.specs.Plain.{is_plain}
+use Rattle.jb_text.specs.Plain.{is_plain}
 use Rattle.jb_print.specs.Pieces.{comma_after}
 use Rattle.jb_print.specs.Quoted.{escaped, quoted}
 use Rattle.jb_print.proofs.Escapes.{escaped-plain}

@@ -9,7 +9,7 @@ use Rattle.std.proofs.lemmas.Bool.Decides.{nat_tests}
 use Rattle.std.proofs.lemmas.List.{append-nil}
 use Rattle.std.proofs.lemmas.List.Concat.{flat_map-append}
 use Rattle.std.proofs.lemmas.Str.{inside_one, encode_ascii}
-use Rattle.jb_plain.specs.Plain.{is_plain}
+use Rattle.jb_text.specs.Plain.{is_plain}
 use Rattle.jb_print.specs.Quoted.{short_escape, long_escape, escaped, quoted}
 use Rattle.jb_print.proofs.Escapes.{escaped-plain}
 use Rattle.jb_read.specs.Strings.{is_special, hex_value, is_high, is_low}

@@ -7,7 +7,7 @@ use Rattle.std.proofs.lemmas.List.Sums.{prefix_len-le-length, prefix_len_stops}
 use Rattle.std.proofs.lemmas.Str.{IsCharBoundary-after_ascii}
 use Rattle.std.proofs.lemmas.List.{drop_more, drop_all, append-nil}
 use Rattle.jb_print.specs.Quoted.{short_escape, escaped}
-use Rattle.jb_plain.specs.Plain.{is_plain}
+use Rattle.jb_text.specs.Plain.{is_plain}
 
 pub escaped-plain : (byte : ℕ) → is_plain byte ≡ true → escaped byte ≡ byte ∷ []
 unfolding escaped

@@ -5,9 +5,9 @@ ghost use Rattle.std.specs.Char.{digit_char};
 ghost use Rattle.std.specs.List.{prefix_len, flat_map};
 ghost use Rattle.std.specs.Option.{option_copied};
 ghost use Rattle.jb_print.specs.Quoted.{short_escape, escaped, quoted};
-ghost use Rattle.jb_plain.specs.Plain.{is_plain};
+ghost use Rattle.jb_text.specs.Plain.{is_plain};
 
-use jb_plain::plain_length;
+use jb_text::plain_length;
 use jb_tree::Memory;
 
 /// Appends the text in quotes, with its escapes.

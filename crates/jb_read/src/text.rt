@@ -12,8 +12,8 @@ use crate::escape::read_escape;
 use crate::fault::{Broken, FaultKind, Stop};
 use jb_tree::{ByteString, Memory};
 use std::alloc::Global;
-use std::str;
 use std::str::Utf8Error;
+use std::str;
 
 /// How many bytes at the front stand for themselves.
 #[tactic(auto, using(crate::proofs::Plain::plain_prefix, crate::proofs::Plain::plain_within))]
@@ -21,7 +21,7 @@ fn plain_length(bytes: &[u8]) -> usize
     ensures value { result ≡ plain_length bytes.now }
     ensures within { result ≤ length bytes.now }
 {
-    jb_plain::plain_length(bytes)
+    jb_text::plain_length(bytes)
 }
 
 /// Whether bytes that are no UTF-8 could have become a text by more bytes behind them.

@@ -1,3 +1,4 @@
+pub mod Plain
 pub mod ByteString
 pub mod Number
 pub mod formers

@@ -1,5 +1,0 @@
-use Rattle.gql_exec_examples.proofs.Doubling.{known}
-use Rattle.gql_exec_examples.proofs.laws.doubling_fragments_are_entered_once.Goals as goal
-
-pub returns : goal.returns
-returns c = known

@@ -1,5 +1,0 @@
-use Rattle.gql_exec_examples.proofs.Merged.{known}
-use Rattle.gql_exec_examples.proofs.laws.sets_of_one_key_are_merged.Goals as goal
-
-pub returns : goal.returns
-returns c = known

@@ -1,5 +1,0 @@
-pub mod Parts
-pub mod Example
-pub mod Examples
-pub mod Doubling
-pub mod Counting

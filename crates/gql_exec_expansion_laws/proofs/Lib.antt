@@ -1,4 +1,0 @@
-mod Flats
-mod Groups
-mod Runs
-mod Steady
