@@ -49,7 +49,8 @@ pub enum ValueKind {
 
 impl Value {
     /// What it is, without its place.
-    pub(crate) fn into_kind(self) -> ValueKind
+    #[must_use]
+    pub fn into_kind(self) -> ValueKind
         ensures { result ≡ self.kind }
     {
         let Value { kind, location: _ } = self;

@@ -72,6 +72,7 @@ impl ExecutableDefinitions {
             Definition::OperationDefinition(it) => self.operations.push(it),
             Definition::FragmentDefinition(it) => self.fragments.push(it),
             other => {
+                // By name: left to the compiler, the drop of a large enum is written out in this function.
                 drop(other);
                 Ok(())
             }

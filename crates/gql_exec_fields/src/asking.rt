@@ -1,7 +1,6 @@
 //! What comes of a field on an object: its resolver is asked with the arguments that are planned.
 
 ghost use Rattle.std.specs.Prelude.{◌≡◌, true, is_some, IfOk};
-ghost use Rattle.gql_schema_types.specs.Schemas as schemas;
 ghost use Rattle.gql_schema_types.specs.Schemas.{field_of};
 ghost use Rattle.gql_exec_resolve.specs.Meaning.{Answers};
 ghost use Rattle.gql_exec_places.specs.Resolved.{answered, Meaning};
@@ -194,15 +193,8 @@ fn told<O: ObjectValue>(answer: Result<ResolvedValue<O>, ResolveError>) -> Resul
 pub fn is_introspection(schema: &Schema, object_type: &ObjectType, name: &str) -> bool
     ensures { result ≡ spec.is_introspection schema.now object_type.now name.now }
 {
-    (name == "__schema" || name == "__type") && is_query_root(schema, object_type.name.as_str())
-}
-
-/// Whether this is the name of the root type of queries.
-fn is_query_root(schema: &Schema, name: &str) -> bool
-    ensures { result ≡ schemas.is_query_root schema.now.schema_definition name.now }
-{
-    match &schema.schema_definition.query {
-        Some(root) => name == root.as_str(),
-        None => false,
-    }
+    (name == "__schema" || name == "__type")
+        && schema
+            .schema_definition
+            .is_query_root(object_type.name.as_str())
 }

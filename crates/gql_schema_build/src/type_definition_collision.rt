@@ -47,6 +47,7 @@ fn add_first(
                 first.own_name().location(),
                 faults,
             );
+            // By name: left to the compiler, the drop of a large enum is written out in this function.
             drop(definition);
             told
         }

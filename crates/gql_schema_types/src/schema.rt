@@ -71,8 +71,9 @@ impl SchemaDefinition {
         }
     }
 
-    /// Whether this is the name of the root type of queries.
-    fn is_query_root(&self, name: &str) -> bool
+    /// Whether this is the name of the root type of queries (section 3.3.1).
+    #[must_use]
+    pub fn is_query_root(&self, name: &str) -> bool
         ensures { result ≡ spec.is_query_root self.now name.now }
     {
         match &self.query {

@@ -12,8 +12,8 @@ use crate::escape::read_escape;
 use crate::fault::{Broken, FaultKind, Stop};
 use jb_tree::{ByteString, Memory};
 use std::alloc::Global;
-use std::str::Utf8Error;
 use std::str;
+use std::str::Utf8Error;
 
 /// How many bytes at the front stand for themselves.
 #[tactic(auto, using(crate::proofs::Plain::plain_prefix, crate::proofs::Plain::plain_within))]

@@ -2,7 +2,10 @@
 
 use crate::diagnostics::{FIRST, at, broken, files, unread};
 use bytes::Bytes;
-use gql_diag::{DiagnosticData, DiagnosticList, ExecutionResponse, GraphQLError, RequestError, Rule, ToCliReport, WithErrors};
+use gql_diag::{
+    DiagnosticData, DiagnosticList, ExecutionResponse, GraphQLError, RequestError, Rule,
+    ToCliReport, WithErrors,
+};
 use gql_schema_types::Valid;
 use gql_source::{LineColumn, SourceMap, SourceSpan};
 use jb_text::{Listed, Memory, Text};
