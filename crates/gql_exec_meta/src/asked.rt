@@ -1,6 +1,6 @@
 //! What a field is asked for with.
 
-use gql_diag::JsonMap;
+use gql_response::JsonMap;
 use std::alloc::Global;
 
 /// The name of a field that is asked for, and its arguments.

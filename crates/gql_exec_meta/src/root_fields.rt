@@ -8,8 +8,8 @@ ghost use Rattle.gql_exec_meta.specs.Seen.{stands_for};
 
 use crate::meta_object::MetaObject;
 use crate::named_types::named_type;
-use gql_diag::JsonMap;
 use gql_exec_resolve::{FieldError, ResolveError, ResolvedValue};
+use gql_response::JsonMap;
 use gql_schema_types::{Schema, Valid};
 use jb_text::Text;
 use std::alloc::Global;

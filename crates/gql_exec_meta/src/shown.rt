@@ -19,8 +19,8 @@ use gql_ast_base::Directive;
 use gql_ast_definitions::{
     DirectiveDefinition, EnumValueDefinition, FieldDefinition, InputValueDefinition,
 };
-use gql_diag::JsonMap;
 use gql_exec_resolve::ResolvedValue;
+use gql_response::JsonMap;
 use gql_schema_types::{ExtendedType, Schema, Shared, Valid};
 use jb_text::Memory;
 use std::alloc::Global;

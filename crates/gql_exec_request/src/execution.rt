@@ -9,12 +9,11 @@ ghost use Rattle.gql_exec_request.specs.declared.execution.Given.TheVariants as 
 ghost use Rattle.gql_rules_graph.specs.Cycles.{IsOnCycle};
 
 use crate::written_response::{WrittenResponse, written};
-use gql_diag::{JsonMap, RequestError};
 use gql_document_types::{ExecutableDocument, Operation};
 use gql_exec_fields::{TextOutput, TreeOutput};
 use gql_exec_plan::Steps;
 use gql_exec_resolve::ObjectValue;
-use gql_response::ExecutionResponse;
+use gql_response::{ExecutionResponse, JsonMap, RequestError};
 use gql_schema_types::{ImplementersMap, Schema, Valid};
 use jb_text::Refused;
 use std::alloc::Global;

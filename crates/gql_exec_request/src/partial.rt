@@ -6,10 +6,9 @@ ghost use Rattle.gql_exec_request.specs.Partial as spec;
 ghost use Rattle.gql_rules_graph.specs.Cycles.{IsOnCycle};
 
 use crate::execution::Execution;
-use gql_diag::{JsonMap, RequestError};
 use gql_document_types::{ExecutableDocument, Operation};
 use gql_exec_resolve::{ObjectValue, ResolveError, ResolveInfo, ResolvedValue};
-use gql_response::ExecutionResponse;
+use gql_response::{ExecutionResponse, JsonMap, RequestError};
 use gql_schema_types::{ImplementersMap, Schema, Valid};
 use jb_text::Refused;
 use std::alloc::Global;
