@@ -2,8 +2,7 @@
 ghost use Rattle.std.specs.Prelude.{◌≡◌};
 
 use crate::pairs::Pairs;
-use jb_text::ByteString;
-use jb_walks::IntoIter;
+use jb_text::{ByteString, IntoIter};
 
 impl<V: Drop> IntoIterator for Pairs<V> {
     type Item = (ByteString, V);

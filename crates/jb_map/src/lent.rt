@@ -6,11 +6,11 @@ ghost use Rattle.std.specs.Str.{bytes_eq};
 ghost use Rattle.std.specs.Map.{values_of, lookup, set_value};
 ghost use Rattle.indexmap.specs.IndexMap.{set_value_at};
 ghost use Rattle.indexmap.specs.Layout.{set_values};
-ghost use Rattle.jb_walks.specs.WalkMut.{pairs_left, pairs_name, values_left, values_name};
+ghost use Rattle.jb_text.specs.WalkMut.{pairs_left, pairs_name, values_left, values_name};
 ghost use Rattle.jb_map.specs.contracts.pairs.Pairs.{the_row};
 
 use crate::pairs::Pairs;
-use jb_walks::{IterMut, ValuesMut};
+use jb_text::{IterMut, ValuesMut};
 
 impl<V> Pairs<V> {
     /// The value at `key`, to be changed in place, `None` exactly where it is not there. What is written there changes that value alone.

@@ -22,7 +22,6 @@ mod same_text;
 
 pub use copy::TryClone;
 pub use entry::{Entry, OccupiedEntry, VacantEntry};
-pub use jb_text::Memory;
-pub use jb_walks::{IntoIter, Iter, IterMut, Keys, Values, ValuesMut};
+pub use jb_text::{IntoIter, Iter, IterMut, Keys, Memory, Values, ValuesMut};
 pub use key_table::KeyTable;
 pub use pairs::Pairs;

@@ -8,8 +8,7 @@ ghost use Rattle.std.specs.Map.Iter.{deref_pair};
 ghost use Rattle.indexmap.specs.IndexMap.{insert_entry, set_value_at};
 
 use crate::key_column::KeyColumn;
-use jb_text::{ByteString, Memory};
-use jb_walks::{Iter, Keys, Values};
+use jb_text::{ByteString, Iter, Keys, Memory, Values};
 use std::alloc::{AllocError, Global};
 use std::marker::Model;
 use std::mem;

@@ -1,3 +1,5 @@
+pub mod Ends
+pub mod WalkMut
 pub mod Plain
 pub mod ByteString
 pub mod Number

@@ -11,7 +11,7 @@ ghost use Rattle.jb_tree.specs.contracts.value.ValuePartialEq.TheImpl.{ghosts as
 ghost use Rattle.jb_tree.specs.contracts.value.ValueHash.TheImpl.{ghosts as hashed};
 
 use crate::value::{Map, Value};
-pub use jb_walks::laws::walks_end_for_good;
+pub use jb_text::laws::walks_end_for_good;
 
 /// Being the same, the order of pairs aside, is an equivalence.
 pub fn same_is_an_equivalence()

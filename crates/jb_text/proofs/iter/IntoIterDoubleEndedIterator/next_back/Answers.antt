@@ -1,0 +1,16 @@
+use Rattle.std.proofs.Common.{sym, ◌∙◌}
+use Rattle.std_collections.proofs.IterRuns.{last_progress}
+use Rattle.indexmap.proofs.IterLemmas.{into_rest_back, pair_back}
+use Rattle.jb_text.proofs.iter.IntoIterDoubleEndedIterator.next_back.Goals as goal
+
+pub returns-clause-steps : goal.returns-clause-steps
+returns-clause-steps g c =
+    let ks = into_rest_back c.self.inside.keys c.next_back.new.self _ _ c.in_ok-key.was c.next_back.ensures.steps in
+    let vs = into_rest_back c.self.inside.values c.next_back-2.new.self _ _ c.unwrap.ensures c.next_back-2.ensures.steps in
+    sym c.self.view_is ∙ pair_back _ _ _ _ _ _ ks vs c.self.invariant
+
+pub returns-clause-goes : goal.returns-clause-goes
+returns-clause-goes g c =
+    let ks = into_rest_back c.self.inside.keys c.next_back.new.self _ _ c.in_ok-key.was c.next_back.ensures.steps in
+    let vs = into_rest_back c.self.inside.values c.next_back-2.new.self _ _ c.unwrap.ensures c.next_back-2.ensures.steps in
+    last_progress (λ p. p) _ _ _ (sym c.self.view_is ∙ pair_back _ _ _ _ _ _ ks vs c.self.invariant)
