@@ -4,7 +4,7 @@ use Rattle.std.specs.Map.{lookup}
 use Rattle.std.specs.Str.{bytes_eq}
 use Rattle.jb_tree.specs.Value.{string_text, truth_value, whole_number}
 use Rattle.gql_exec_resolve.specs.Meaning.{Members}
-pub use Rattle.gql_exec_places.specs.Resolved.{Meaning, Meanings, gives_leaf, gives_object, gives_list, gives_skip, fails_with, no_answer, answer_then}
+pub use Rattle.gql_exec_resolve.specs.Resolved.{Meaning, Meanings, gives_leaf, gives_object, gives_list, gives_skip, fails_with, no_answer, answer_then}
 pub use Rattle.gql_exec_resolve.specs.Meaning.{Members, itself, meaning_by}
 pub use Rattle.gql_exec_resolve.specs.Objects.{gives_objects}
 pub use Rattle.gql_exec_resolve.specs.UnknownField.{unknown_field}

@@ -10,8 +10,8 @@ use Rattle.gql_exec_plan.specs.Grouping.{groups_seen}
 use Rattle.gql_exec_plan.specs.Groups.{SameGroups, applying}
 use Rattle.gql_exec_plan.specs.Ranks.{AreRanked}
 use Rattle.gql_exec_plan.specs.declared.group.Group.{Group as FieldsOfKey}
-use Rattle.gql_exec_places.specs.Depth.{Suffices}
-use Rattle.gql_exec_places.specs.World.{DistinctKeys}
+use Rattle.gql_exec_resolve.specs.Depth.{Suffices}
+use Rattle.gql_exec_resolve.specs.World.{DistinctKeys}
 use Rattle.gql_exec_fields.specs.Nesting.{nesting}
 use Rattle.gql_exec_fields.specs.Request.{Request}
 use Rattle.gql_exec_fields.specs.RequestWorld.{plain_world, setting_on}

@@ -8,12 +8,12 @@ use Rattle.gql_response.specs.declared.graphql_error.GraphQLError.{GraphQLError}
 use Rattle.gql_schema_types.specs.declared.types.ObjectType.{ObjectType}
 use Rattle.gql_exec_resolve.specs.Fit.{wrong}
 use Rattle.gql_exec_resolve.specs.Messages as message
-use Rattle.gql_exec_places.specs.Execute.{Made, Below, settled, settled_item, unless_misfit, value_made, completed, field_made, one_object, execute}
-use Rattle.gql_exec_places.specs.Fault.{told_at, fault_error}
-use Rattle.gql_exec_places.specs.Resolved.{Meaning, gives_object, Misfit, Fault, answered, refused}
-use Rattle.gql_exec_places.specs.Spot.{Spot, trail, field_spot}
-use Rattle.gql_exec_places.specs.Trail.{Trail}
-use Rattle.gql_exec_places.specs.World.{World}
+use Rattle.gql_exec_resolve.specs.Execute.{Made, Below, settled, settled_item, unless_misfit, value_made, completed, field_made, one_object, execute}
+use Rattle.gql_exec_resolve.specs.Fault.{told_at, fault_error}
+use Rattle.gql_exec_resolve.specs.Resolved.{Meaning, gives_object, Misfit, Fault, answered, refused}
+use Rattle.gql_exec_resolve.specs.Spot.{Spot, trail, field_spot}
+use Rattle.gql_exec_resolve.specs.Trail.{Trail}
+use Rattle.gql_exec_resolve.specs.World.{World}
 use Rattle.gql_exec_resolve.specs.Meaning.{meaning_by, item_by}
 use Rattle.gql_exec_resolve.specs.declared.resolve_error.FieldError.{FieldError}
 use Rattle.gql_exec_resolve.specs.declared.resolved_value.ResolvedValue.{ResolvedValue}

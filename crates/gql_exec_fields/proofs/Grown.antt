@@ -5,10 +5,10 @@ use Rattle.gql_schema_types.specs.declared.types.ObjectType.{ObjectType}
 use Rattle.gql_exec_plan.specs.Groups.{SameGroups, applying}
 use Rattle.gql_exec_plan.specs.Grouping.{groups_seen}
 use Rattle.gql_exec_plan.specs.declared.group.Group.{Group as FieldsOfKey}
-use Rattle.gql_exec_places.specs.Resolved.{Meaning, Meanings, gives_object, gives_list, answer_then, Outcome, answered}
-use Rattle.gql_exec_places.specs.Spot.{Spot}
-use Rattle.gql_exec_places.specs.Types.{item_type}
-use Rattle.gql_exec_places.specs.World.{World, key_of}
+use Rattle.gql_exec_resolve.specs.Resolved.{Meaning, Meanings, gives_object, gives_list, answer_then, Outcome, answered}
+use Rattle.gql_exec_resolve.specs.Spot.{Spot}
+use Rattle.gql_exec_resolve.specs.Types.{item_type}
+use Rattle.gql_exec_resolve.specs.World.{World, key_of}
 use Rattle.gql_exec_plan.specs.Plan.{Ground, group_in, groups_in, most_looks, nodes_in, parts_in, type_in}
 use Rattle.gql_exec_plan.specs.Ways.{Turn, Way, Grows, TurnsTo, key_in, turns_to, ways_to}
 use Rattle.gql_exec_plan.specs.declared.plan.Node.{Node}

@@ -23,9 +23,9 @@ use Rattle.gql_exec_resolve.specs.Messages as message
 use Rattle.gql_exec_plan.specs.Flat.{flat_sets}
 use Rattle.gql_exec_plan.specs.Groups.{response_key, has_key, keys, FieldGroup, group_at, groups_of, is_defined, applying}
 use Rattle.gql_exec_plan.proofs.Keys.{Text, has, text-same, text-itself, AreDistinct, are-distinct}
-use Rattle.gql_exec_places.specs.Resolved.{Misfit, gives_leaf, gives_object, fails_with}
+use Rattle.gql_exec_resolve.specs.Resolved.{Misfit, gives_leaf, gives_object, fails_with}
 use Rattle.gql_ast_base.specs.TypeParts.{is_non_null}
-use Rattle.gql_exec_places.specs.World.{World, key_of, DistinctKeys, IsLawful}
+use Rattle.gql_exec_resolve.specs.World.{World, key_of, DistinctKeys, IsLawful}
 use Rattle.gql_exec_fields.specs.Group.{Group, started, groups_from}
 use Rattle.gql_exec_fields.specs.Request.{Request}
 use Rattle.gql_exec_fields.specs.RequestWorld.{setting_on, plain, plain_world}

@@ -6,7 +6,7 @@ use Rattle.gql_schema_types.specs.declared.schema.Schema.{Schema}
 use Rattle.gql_exec_resolve.specs.Fit.{list_misfit, object_misfit, unless, wrong}
 use Rattle.gql_exec_resolve.specs.Lists.{is_list}
 use Rattle.gql_exec_resolve.specs.Messages as message
-use Rattle.gql_exec_places.specs.Resolved.{Misfit}
+use Rattle.gql_exec_resolve.specs.Resolved.{Misfit}
 
 -- a list fits at lists' types alone
 pub fits-list : (ty : TypeRef) → list_misfit ty ≡ None → is_list ty ≡ true

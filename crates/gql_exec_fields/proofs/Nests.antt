@@ -34,8 +34,8 @@ use Rattle.gql_exec_plan.specs.Setting.{Setting}
 use Rattle.gql_exec_plan.proofs.Numbers.{body-is, body-none}
 use Rattle.gql_exec_plan.proofs.Variants.{out-field, out-spread, out-inline, each}
 use Rattle.gql_rules_graph.specs.Ranks.{IsRanked}
-use Rattle.gql_exec_places.specs.Depth.{AllGroups, Suffices}
-use Rattle.gql_exec_places.specs.World.{World}
+use Rattle.gql_exec_resolve.specs.Depth.{AllGroups, Suffices}
+use Rattle.gql_exec_resolve.specs.World.{World}
 use Rattle.gql_exec_fields.specs.Group.{Group, piece_of, pieces_of, started, groups_from}
 use Rattle.gql_exec_fields.specs.Nesting.{nesting_with, fragment_nesting, nesting_in, nesting, IsBelow, AllBelow}
 use Rattle.gql_exec_fields.specs.Request.{Request}

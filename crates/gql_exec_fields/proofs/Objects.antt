@@ -6,8 +6,8 @@ use Rattle.gql_document_types.specs.declared.selection.Selection.{Selection}
 use Rattle.gql_response.specs.declared.graphql_error.GraphQLError.{GraphQLError}
 use Rattle.gql_schema_types.specs.declared.types.ObjectType.{ObjectType}
 use Rattle.gql_exec_plan.specs.Ranks.{AreRanked}
-use Rattle.gql_exec_places.specs.Execute.{Member, one_object, settled}
-use Rattle.gql_exec_places.specs.Spot.{trail}
+use Rattle.gql_exec_resolve.specs.Execute.{Member, one_object, settled}
+use Rattle.gql_exec_resolve.specs.Spot.{trail}
 use Rattle.gql_exec_plan.specs.Plan.{Ground, AreNodes, ArePartsOf, HaveNodes, IsNodeOf, fields_in, groups_in, most_looks, parts_in, sets_below}
 use Rattle.gql_exec_plan.specs.Ways.{Grows, TurnsTo, turns_to}
 use Rattle.gql_exec_plan.specs.declared.plan.Node.{Node}

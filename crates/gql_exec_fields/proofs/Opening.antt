@@ -7,10 +7,10 @@ use Rattle.gql_exec_plan.specs.Grouping.{groups_seen}
 use Rattle.gql_exec_plan.specs.Groups.{SameGroups, applying}
 use Rattle.gql_exec_plan.specs.Same.{SameFirst}
 use Rattle.gql_exec_plan.specs.declared.group.Group.{Group as FieldsOfKey}
-use Rattle.gql_exec_places.specs.Resolved.{Meaning, Meanings, gives_leaf, gives_object, gives_list, gives_skip, fails_with, no_answer, answer_then}
-use Rattle.gql_exec_places.specs.Resolved.{Outcome, answered, refused}
-use Rattle.gql_exec_places.specs.Types.{item_type}
-use Rattle.gql_exec_places.specs.World.{World, key_of}
+use Rattle.gql_exec_resolve.specs.Resolved.{Meaning, Meanings, gives_leaf, gives_object, gives_list, gives_skip, fails_with, no_answer, answer_then}
+use Rattle.gql_exec_resolve.specs.Resolved.{Outcome, answered, refused}
+use Rattle.gql_exec_resolve.specs.Types.{item_type}
+use Rattle.gql_exec_resolve.specs.World.{World, key_of}
 use Rattle.gql_exec_fields.specs.Group.{Group}
 use Rattle.gql_exec_fields.specs.Request.{Request}
 use Rattle.gql_exec_fields.specs.RequestWorld.{plain_world, setting_on}

@@ -16,8 +16,8 @@ use Rattle.gql_schema_types.specs.declared.types.ObjectType.{ObjectType}
 use Rattle.gql_exec_plan.specs.Grouping.{groups_seen}
 use Rattle.gql_exec_plan.specs.Ranks.{AreRanked}
 use Rattle.gql_exec_plan.specs.declared.group.Group.{Group as FieldsOfKey}
-use Rattle.gql_exec_places.specs.Execute.{Member}
-use Rattle.gql_exec_places.specs.Trail.{Trail}
+use Rattle.gql_exec_resolve.specs.Execute.{Member}
+use Rattle.gql_exec_resolve.specs.Trail.{Trail}
 use Rattle.gql_exec_plan.specs.Plan.{Ground, AreNodes, ArePartsOf, HaveNodes, IsNodeOf, IsPlanned, IsTyped, field_in, fields_in, group_in, groups_from, groups_in, nodes_in, parts_in, sets_below, type_in}
 use Rattle.gql_exec_plan.specs.declared.plan.Node.{Node}
 use Rattle.gql_exec_plan.specs.declared.plan.Part.{Part}

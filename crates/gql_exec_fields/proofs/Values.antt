@@ -1,9 +1,9 @@
 -- What resolved values mean, variant by variant.
 use Rattle.std.proofs.Common.{◌≡◌, refl, ap, sym, ◌∙◌}
 use Rattle.jb_tree.specs.declared.value.Value.{Value}
-use Rattle.gql_exec_places.specs.Execute.{Made, settled, settled_item}
-use Rattle.gql_exec_places.specs.Resolved.{Meaning, gives_leaf, gives_object, gives_skip}
-use Rattle.gql_exec_places.specs.Spot.{Spot}
+use Rattle.gql_exec_resolve.specs.Execute.{Made, settled, settled_item}
+use Rattle.gql_exec_resolve.specs.Resolved.{Meaning, gives_leaf, gives_object, gives_skip}
+use Rattle.gql_exec_resolve.specs.Spot.{Spot}
 use Rattle.gql_exec_resolve.specs.declared.resolved_value.ResolvedValue.{ResolvedValue, fold-roll-ResolvedValue, out-ResolvedValue, fold_out-ResolvedValue}
 use Rattle.gql_exec_resolve.specs.declared.resolved_value.ResolvedValue as value
 use Rattle.gql_exec_resolve.specs.declared.resolved_value.ResolvedValue.TheVariants.{rolls-Leaf, rolls-Object, rolls-SkipForPartialExecution}

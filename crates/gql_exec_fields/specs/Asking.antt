@@ -5,7 +5,7 @@ use Rattle.gql_schema_types.specs.Schemas.{field_of}
 use Rattle.gql_schema_types.specs.declared.schema.Schema.{Schema}
 use Rattle.gql_schema_types.specs.declared.types.ObjectType.{ObjectType}
 use Rattle.gql_schema_types.specs.Schemas.{type_named}
-use Rattle.gql_exec_places.specs.Resolved.{fails_with, Outcome, answered, refused}
+use Rattle.gql_exec_resolve.specs.Resolved.{fails_with, Outcome, answered, refused}
 use Rattle.gql_exec_plan.specs.declared.planned_field.PlannedField.{PlannedField}
 use Rattle.gql_exec_resolve.specs.Meaning.{meaning_by}
 use Rattle.gql_exec_fields.specs.Asks.{fault_of}

@@ -6,7 +6,7 @@ use Rattle.gql_schema_types.specs.declared.types.ObjectType.{ObjectType}
 use Rattle.gql_exec_resolve.specs.Fit.{misfit}
 use Rattle.gql_exec_plan.specs.Groups.{response_name, applying}
 use Rattle.gql_exec_plan.specs.Setting.{Setting}
-use Rattle.gql_exec_places.specs.World.{World}
+use Rattle.gql_exec_resolve.specs.World.{World}
 use Rattle.gql_exec_fields.specs.Asks.{definition_on, asks}
 use Rattle.gql_exec_fields.specs.Group.{Group, groups_from}
 use Rattle.gql_exec_fields.specs.Request.{Request}

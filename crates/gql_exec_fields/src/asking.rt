@@ -3,7 +3,7 @@
 ghost use Rattle.std.specs.Prelude.{◌≡◌, true, is_some, IfOk};
 ghost use Rattle.gql_schema_types.specs.Schemas.{field_of};
 ghost use Rattle.gql_exec_resolve.specs.Meaning.{Answers};
-ghost use Rattle.gql_exec_places.specs.Resolved.{answered, Meaning};
+ghost use Rattle.gql_exec_resolve.specs.Resolved.{answered, Meaning};
 ghost use Rattle.gql_exec_plan.specs.Plan.{IsPlanned, arguments_by, definition_on};
 ghost use Rattle.gql_exec_fields.specs.Asks as spec;
 ghost use Rattle.gql_exec_fields.specs.Asking as asking;

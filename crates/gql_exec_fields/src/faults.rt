@@ -4,9 +4,9 @@ ghost use Rattle.std.specs.Prelude.{◌≡◌, ◌++◌, ◌∷◌, [], None, If
 ghost use Rattle.gql_exec_resolve.specs.Fit.{wrong};
 ghost use Rattle.gql_exec_resolve.specs.Messages as message;
 ghost use Rattle.gql_exec_resolve.specs.Seen.{seen};
-ghost use Rattle.gql_exec_places.specs.Execute.{completed, settled};
-ghost use Rattle.gql_exec_places.specs.Fault.{fault_error, told_at};
-ghost use Rattle.gql_exec_places.specs.Resolved.{fails_with, gives_leaf};
+ghost use Rattle.gql_exec_resolve.specs.Execute.{completed, settled};
+ghost use Rattle.gql_exec_resolve.specs.Fault.{fault_error, told_at};
+ghost use Rattle.gql_exec_resolve.specs.Resolved.{fails_with, gives_leaf};
 ghost use Rattle.gql_exec_fields.specs.Asks.{fault_of};
 ghost use Rattle.gql_exec_fields.specs.Executed.{IsMade, Makes};
 ghost use Rattle.gql_exec_fields.specs.Executing.{world_of};

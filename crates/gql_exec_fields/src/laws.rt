@@ -5,10 +5,10 @@ ghost use Rattle.gql_document_types.specs.declared.selection.Selection.{Selectio
 ghost use Rattle.gql_exec_plan.specs.Groups.{FieldGroup, SameGroups, applying};
 ghost use Rattle.gql_exec_plan.specs.Ranks.{AreRanked};
 ghost use Rattle.gql_exec_plan.specs.Same.{SameFirst};
-ghost use Rattle.gql_exec_places.specs.Depth.{Suffices};
-ghost use Rattle.gql_exec_places.specs.Execute.{execute};
-ghost use Rattle.gql_exec_places.specs.Trail.{Trail};
-ghost use Rattle.gql_exec_places.specs.World.{DistinctKeys, IsLawful};
+ghost use Rattle.gql_exec_resolve.specs.Depth.{Suffices};
+ghost use Rattle.gql_exec_resolve.specs.Execute.{execute};
+ghost use Rattle.gql_exec_resolve.specs.Trail.{Trail};
+ghost use Rattle.gql_exec_resolve.specs.World.{DistinctKeys, IsLawful};
 ghost use Rattle.gql_exec_fields.specs.Group.{groups_from};
 ghost use Rattle.gql_exec_fields.specs.Nesting.{nesting, AllBelow};
 ghost use Rattle.gql_exec_fields.specs.Request.{Request};

@@ -1,7 +1,7 @@
 //! A place of the response that is executed.
 
 ghost use Rattle.std.specs.Prelude.{◌≡◌, [], ◌∷◌, ◌++◌, IfOk, OnOk};
-ghost use Rattle.gql_exec_places.specs.Types as places;
+ghost use Rattle.gql_exec_resolve.specs.Types as places;
 ghost use Rattle.gql_exec_fields.specs.Output.{IsWritten};
 ghost use Rattle.gql_exec_fields.specs.Trails as spec;
 

@@ -8,10 +8,10 @@ use Rattle.gql_document_types.specs.declared.selection.Selection.{Selection}
 use Rattle.gql_exec_plan.specs.Flat.{flat, flat_sets}
 use Rattle.gql_exec_plan.specs.Groups.{groups_of, is_defined}
 use Rattle.gql_exec_plan.specs.Ranks.{AreRanked}
-use Rattle.gql_exec_places.specs.Depth.{Suffices}
-use Rattle.gql_exec_places.specs.Execute.{Made, Member, execute, groups_made}
-use Rattle.gql_exec_places.specs.Trail.{Trail}
-use Rattle.gql_exec_places.specs.World.{World}
+use Rattle.gql_exec_resolve.specs.Depth.{Suffices}
+use Rattle.gql_exec_resolve.specs.Execute.{Made, Member, execute, groups_made}
+use Rattle.gql_exec_resolve.specs.Trail.{Trail}
+use Rattle.gql_exec_resolve.specs.World.{World}
 use Rattle.gql_exec_fields.specs.Group.{Group, groups_from}
 use Rattle.gql_exec_fields.specs.Nesting.{nesting}
 use Rattle.gql_exec_fields.specs.RequestWorld.{plain_world, setting_on}

@@ -2,8 +2,8 @@
 use Rattle.std.proofs.Common.{◌≡◌, List, [], ◌∷◌, Some, refl, ◌∙◌, codes}
 use Rattle.jb_tree.specs.declared.value.Value.TheVariants as json
 use Rattle.gql_exec_plan.specs.Flat.{flat_sets}
-use Rattle.gql_exec_places.specs.Execute.{Made, Member, execute}
-use Rattle.gql_exec_places.specs.Trail.{Segment}
+use Rattle.gql_exec_resolve.specs.Execute.{Made, Member, execute}
+use Rattle.gql_exec_resolve.specs.Trail.{Segment}
 use Rattle.gql_exec_fields.specs.Group.{Group}
 use Rattle.gql_exec_fields.specs.RequestWorld.{setting_on}
 use Rattle.gql_response.specs.declared.path.ResponseDataPathSegment.TheVariants.{Field, ListIndex}

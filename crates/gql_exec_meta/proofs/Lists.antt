@@ -1,7 +1,7 @@
 -- What a list of answers means, by what each item means, and lists that grow item by item.
 use Rattle.std.proofs.Common.{◌≡◌, ℕ, Bool, true, false, Option, Some, None, List, [], ◌∷◌, ◌++◌, map, filter, Result, if◌then◌else◌, option_to_list, refl, sym, ap, ◌∙◌, append_assoc}
 use Rattle.std.specs.List.{filter_map, cons_option}
-use Rattle.gql_exec_places.specs.Resolved.{Meaning, answer_then, gives_list, gives_object}
+use Rattle.gql_exec_resolve.specs.Resolved.{Meaning, answer_then, gives_list, gives_object}
 use Rattle.gql_exec_resolve.proofs.Views.{meaning_list}
 use Rattle.gql_exec_resolve.specs.Meaning.{meaning_by, item_by, meanings_by}
 use Rattle.gql_exec_resolve.specs.declared.resolve_error.FieldError.{FieldError}

@@ -1,7 +1,7 @@
 -- Leaves and lists that introspection answers with.
 use Rattle.std.specs.Prelude.{ℕ, Bool, List, [], ◌∷◌, map, Option, Some, None}
 use Rattle.jb_tree.specs.declared.value.Value.TheVariants as json
-use Rattle.gql_exec_places.specs.Resolved.{Meaning, Meanings, gives_leaf, gives_object, gives_list, no_answer, answer_then}
+use Rattle.gql_exec_resolve.specs.Resolved.{Meaning, Meanings, gives_leaf, gives_object, gives_list, no_answer, answer_then}
 use Rattle.gql_exec_meta.specs.Meta.{Meta}
 
 abbrev pub null_leaf : Meaning Meta

@@ -4,7 +4,7 @@ use Rattle.std.specs.Str.{bytes_eq}
 use Rattle.gql_ast_definitions.specs.declared.schema_definition.DirectiveDefinition.{DirectiveDefinition}
 use Rattle.gql_ast_definitions.specs.declared.schema_definition.DirectiveLocation.{DirectiveLocation}
 use Rattle.gql_ast_definitions.specs.declared.schema_definition.DirectiveLocation.TheVariants as at
-use Rattle.gql_exec_places.specs.Resolved.{Meaning}
+use Rattle.gql_exec_resolve.specs.Resolved.{Meaning}
 use Rattle.gql_exec_resolve.specs.Meaning.{Members}
 use Rattle.gql_schema_types.specs.declared.schema.Schema.{Schema}
 use Rattle.gql_exec_meta.specs.Answers.{text_leaf, truth_leaf, text_or_null, texts}

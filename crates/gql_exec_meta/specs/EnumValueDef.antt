@@ -2,7 +2,7 @@
 use Rattle.std.specs.Prelude.{ℕ, List, Option, Some, None, if◌then◌else◌, codes}
 use Rattle.std.specs.Str.{bytes_eq}
 use Rattle.gql_ast_definitions.specs.declared.field_definition.EnumValueDefinition.{EnumValueDefinition}
-use Rattle.gql_exec_places.specs.Resolved.{Meaning}
+use Rattle.gql_exec_resolve.specs.Resolved.{Meaning}
 use Rattle.gql_schema_types.specs.declared.schema.Schema.{Schema}
 use Rattle.gql_exec_meta.specs.Answers.{text_leaf, truth_leaf, text_or_null}
 use Rattle.gql_exec_meta.specs.Deprecation.{is_deprecated, deprecation_reason}

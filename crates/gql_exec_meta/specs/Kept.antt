@@ -7,7 +7,7 @@ use Rattle.gql_ast_definitions.specs.declared.field_definition.EnumValueDefiniti
 use Rattle.gql_ast_definitions.specs.declared.field_definition.FieldDefinition.{FieldDefinition}
 use Rattle.gql_ast_definitions.specs.declared.field_definition.InputValueDefinition.{InputValueDefinition}
 use Rattle.gql_ast_base.specs.declared.directive.Directive.{Directive}
-use Rattle.gql_exec_places.specs.Resolved.{Meaning}
+use Rattle.gql_exec_resolve.specs.Resolved.{Meaning}
 use Rattle.gql_exec_resolve.specs.Meaning.{Members}
 use Rattle.gql_schema_types.specs.declared.schema.Schema.{Schema}
 use Rattle.gql_exec_meta.specs.Answers.{objects}

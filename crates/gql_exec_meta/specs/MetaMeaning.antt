@@ -1,6 +1,6 @@
 -- What the fields of the objects of introspection are: section 4.2 of GraphQL October 2021.
 use Rattle.std.specs.Prelude.{ℕ, List, Option, Some, None}
-use Rattle.gql_exec_places.specs.Resolved.{Meaning, fails_with}
+use Rattle.gql_exec_resolve.specs.Resolved.{Meaning, fails_with}
 use Rattle.gql_exec_resolve.specs.Meaning.{Members}
 use Rattle.gql_exec_resolve.specs.UnknownField.{unknown_field}
 use Rattle.gql_exec_meta.specs.DirectiveDef.{directive_row}

@@ -3,7 +3,7 @@ use Rattle.std.specs.Prelude.{ℕ, List, Option, Some, None, option_and_then, co
 use Rattle.std.specs.Map.{lookup}
 use Rattle.std.specs.Str.{bytes_eq}
 use Rattle.jb_tree.specs.Value.{string_text}
-use Rattle.gql_exec_places.specs.Resolved.{Meaning, gives_object, fails_with}
+use Rattle.gql_exec_resolve.specs.Resolved.{Meaning, gives_object, fails_with}
 use Rattle.gql_exec_resolve.specs.Meaning.{Members}
 use Rattle.gql_schema_types.specs.declared.schema.Schema.{Schema}
 use Rattle.gql_exec_meta.specs.Meta.{Meta, schema_meta}

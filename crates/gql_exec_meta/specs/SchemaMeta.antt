@@ -1,7 +1,7 @@
 -- The fields of `__Schema`: section 4.2.1 of GraphQL October 2021.
 use Rattle.std.specs.Prelude.{ℕ, List, map, Option, Some, None, if◌then◌else◌, codes}
 use Rattle.std.specs.Str.{bytes_eq}
-use Rattle.gql_exec_places.specs.Resolved.{Meaning}
+use Rattle.gql_exec_resolve.specs.Resolved.{Meaning}
 use Rattle.gql_schema_types.specs.declared.schema.Schema.{Schema}
 use Rattle.gql_exec_meta.specs.Answers.{text_or_null, objects}
 use Rattle.gql_exec_meta.specs.Meta.{Meta, type_def, directive_def}

@@ -1,7 +1,7 @@
 -- The fields of `__Type` of a type with a name: section 4.2.2 of GraphQL October 2021.
 use Rattle.std.specs.Prelude.{ℕ, Bool, ◌&&◌, List, map, filter, Option, Some, None, if◌then◌else◌, codes}
 use Rattle.std.specs.Str.{bytes_eq}
-use Rattle.gql_exec_places.specs.Resolved.{Meaning}
+use Rattle.gql_exec_resolve.specs.Resolved.{Meaning}
 use Rattle.gql_exec_resolve.specs.Meaning.{Members}
 use Rattle.gql_schema_types.specs.Implementers.{is_object, implements}
 use Rattle.gql_schema_types.specs.Types.{type_name}

@@ -4,7 +4,7 @@ use Rattle.std.specs.List.{list_any}
 use Rattle.std.specs.Str.{bytes_eq}
 use Rattle.gql_ast_base.specs.declared.type_ref.TypeRef.{TypeRef, out-TypeRef}
 use Rattle.gql_ast_base.specs.declared.type_ref.TypeRef.TheOpen.{TypeRef-F}
-use Rattle.gql_exec_places.specs.Resolved.{Meaning, gives_object}
+use Rattle.gql_exec_resolve.specs.Resolved.{Meaning, gives_object}
 use Rattle.gql_schema_types.specs.declared.schema.Schema.{Schema}
 use Rattle.gql_exec_meta.specs.Answers.{null_leaf, text_or_null}
 use Rattle.gql_exec_meta.specs.Meta.{Meta, wrapped}

@@ -2,7 +2,7 @@
 
 ghost use Rattle.std.specs.Prelude.{◌≡◌, ◌++◌, map, OnOk, option_to_list};
 ghost use Rattle.std.specs.Option.{option_copied};
-ghost use Rattle.gql_exec_places.specs.Resolved.{gives_object};
+ghost use Rattle.gql_exec_resolve.specs.Resolved.{gives_object};
 ghost use Rattle.gql_exec_resolve.specs.Meaning.{meaning_by};
 ghost use Rattle.gql_schema_types.specs.Types.{type_called};
 ghost use Rattle.gql_exec_meta.specs.Items.{answers_in};

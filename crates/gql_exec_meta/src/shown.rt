@@ -3,7 +3,7 @@
 ghost use Rattle.std.specs.Prelude.{◌≡◌, List, ◌++◌, map, OnOk, if◌then◌else◌, [], ◌∷◌};
 ghost use Rattle.jb_tree.specs.Value.{truth_value};
 ghost use Rattle.gql_ast_base.specs.declared.directive.Directive.{Directive as Use};
-ghost use Rattle.gql_exec_places.specs.Resolved.{gives_object};
+ghost use Rattle.gql_exec_resolve.specs.Resolved.{gives_object};
 ghost use Rattle.gql_schema_types.specs.declared.schema.Schema.{Schema as TheSchema};
 ghost use Rattle.gql_exec_meta.specs.Answers.{objects};
 ghost use Rattle.gql_exec_meta.specs.Items.{answers_in};

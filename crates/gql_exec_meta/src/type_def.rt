@@ -5,7 +5,7 @@ ghost use Rattle.std.specs.Option.{option_copied};
 ghost use Rattle.std.specs.List.{list_any};
 ghost use Rattle.std.specs.Str.{bytes_eq};
 ghost use Rattle.gql_ast_base.specs.Names.{Named as NameSeen};
-ghost use Rattle.gql_exec_places.specs.Resolved.{gives_object};
+ghost use Rattle.gql_exec_resolve.specs.Resolved.{gives_object};
 ghost use Rattle.gql_exec_meta.specs.Items.{answers_in};
 ghost use Rattle.gql_exec_meta.specs.Meta as meta;
 ghost use Rattle.gql_exec_meta.specs.Seen.{Gives, GivesField};

@@ -11,11 +11,11 @@ use Rattle.gql_document_types.specs.declared.selection.Selection.{Selection}
 use Rattle.gql_schema_types.specs.declared.schema.Schema.{Schema}
 use Rattle.gql_schema_types.specs.declared.types.ObjectType.{ObjectType}
 use Rattle.gql_source.specs.File.{Files}
-use Rattle.gql_exec_places.specs.Execute.{Made, Member, then_rest, settled, settled_item, unless_misfit, one_array, one_object, with_key, Below, object_made, value_made, items_made, field_made, groups_made, execute}
-use Rattle.gql_exec_places.specs.Resolved.{Meaning, Meanings, gives_leaf, gives_object, gives_list, gives_skip, fails_with, no_answer, answer_then, Misfit, Outcome, answered, refused}
-use Rattle.gql_exec_places.specs.Spot.{Spot, trail, item_spot, field_spot}
-use Rattle.gql_exec_places.specs.Trail.{Trail}
-use Rattle.gql_exec_places.specs.World.{World, key_of}
+use Rattle.gql_exec_resolve.specs.Execute.{Made, Member, then_rest, settled, settled_item, unless_misfit, one_array, one_object, with_key, Below, object_made, value_made, items_made, field_made, groups_made, execute}
+use Rattle.gql_exec_resolve.specs.Resolved.{Meaning, Meanings, gives_leaf, gives_object, gives_list, gives_skip, fails_with, no_answer, answer_then, Misfit, Outcome, answered, refused}
+use Rattle.gql_exec_resolve.specs.Spot.{Spot, trail, item_spot, field_spot}
+use Rattle.gql_exec_resolve.specs.Trail.{Trail}
+use Rattle.gql_exec_resolve.specs.World.{World, key_of}
 use Rattle.gql_exec_meta.specs.Meta.{Meta}
 use Rattle.gql_exec_meta.specs.MetaMeaning.{meta_meaning}
 use Rattle.gql_exec_fields.specs.Asks.{definition_on, arguments_at, answer, fault_of, asked, asks, is_introspection}

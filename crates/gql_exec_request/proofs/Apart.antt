@@ -4,7 +4,7 @@ use Rattle.std.specs.List.{AllByRecursion}
 use Rattle.gql_document_types.specs.declared.selection.Selection.{Selection}
 use Rattle.gql_schema_types.specs.declared.types.ObjectType.{ObjectType}
 use Rattle.gql_exec_request.specs.ThingMeaning.{Resolving}
-use Rattle.gql_exec_places.specs.World.{key_of, DistinctKeys}
+use Rattle.gql_exec_resolve.specs.World.{key_of, DistinctKeys}
 use Rattle.gql_exec_plan.specs.Lists.{IsOneOf, AreApart}
 use Rattle.gql_exec_plan.specs.Plan.{AreCollected, AreNodes, HaveNodes, group_in, groups_in, nodes_in, parts_in, sets_below, type_in}
 use Rattle.gql_exec_plan.specs.Ways.{Way, Turn, key_in, part_ways, node_turns, turns_to, ways_to}

@@ -1,10 +1,10 @@
 -- Runs that cut nothing off give the same, however deep they are.
 use Rattle.std.proofs.Common.{arith, ◌≡◌, ℕ, zero, suc, ◌+◌, List, [], ◌∷◌, refl, sym, ap, ◌∙◌, subst}
-use Rattle.gql_exec_places.specs.Depth.{AllGroups, Suffices}
-use Rattle.gql_exec_places.specs.Execute.{execute}
-use Rattle.gql_exec_places.specs.Trail.{Trail}
-use Rattle.gql_exec_places.specs.World.{World}
-use Rattle.gql_exec_places.proofs.Deeper.{deeper}
+use Rattle.gql_exec_resolve.specs.Depth.{AllGroups, Suffices}
+use Rattle.gql_exec_resolve.specs.Execute.{execute}
+use Rattle.gql_exec_resolve.specs.Trail.{Trail}
+use Rattle.gql_exec_resolve.specs.World.{World}
+use Rattle.gql_exec_resolve.proofs.Deeper.{deeper}
 
 -- a depth with so many steps more
 abbrev raised : ℕ → ℕ → ℕ

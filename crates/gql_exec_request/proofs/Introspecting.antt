@@ -4,7 +4,7 @@ use Rattle.jb_text.specs.declared.refused.Refused.{Refused}
 use Rattle.jb_text.specs.declared.refused.Refused.TheVariants.{Fault, Memory}
 use Rattle.gql_response.specs.declared.request_error.RequestError.{RequestError}
 use Rattle.gql_response.specs.declared.execution_response.ExecutionResponse.{ExecutionResponse}
-use Rattle.gql_exec_places.specs.Execute.{Member}
+use Rattle.gql_exec_resolve.specs.Execute.{Member}
 use Rattle.gql_exec_request.specs.Thing.{of_user, type_of_thing}
 use Rattle.gql_exec_request.specs.ThingMeaning.{Resolving, thing_meaning}
 use Rattle.gql_exec_request.specs.Execution.{Prepared, prepared, AnswersBy, Answers, IsAnswer, Looks, CountsBy, Counts, IsCounted}

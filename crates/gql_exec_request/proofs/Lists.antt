@@ -1,7 +1,7 @@
 -- Lists whose objects stand as others.
 use Rattle.std.proofs.Common.{◌≡◌, List, [], ◌∷◌, ◌++◌, map, Result, refl, sym, ap, ◌∙◌}
 use Rattle.std.proofs.lemmas.List.{append-nil}
-use Rattle.gql_exec_places.specs.Resolved.{answer_then}
+use Rattle.gql_exec_resolve.specs.Resolved.{answer_then}
 use Rattle.gql_exec_resolve.specs.Meaning.{item_by, meanings_by}
 use Rattle.gql_exec_resolve.specs.declared.resolve_error.FieldError.{FieldError}
 use Rattle.gql_exec_resolve.specs.declared.resolved_value.ResolvedValue.{ResolvedValue}

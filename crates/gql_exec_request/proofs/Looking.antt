@@ -5,7 +5,7 @@ use Rattle.gql_document_types.specs.declared.selection.Selection.{Selection}
 use Rattle.gql_schema_types.specs.declared.types.ObjectType.{ObjectType}
 use Rattle.gql_exec_plan.specs.Sizes.{outer_size}
 use Rattle.gql_exec_request.specs.ThingMeaning.{Resolving}
-use Rattle.gql_exec_places.specs.World.{World}
+use Rattle.gql_exec_resolve.specs.World.{World}
 use Rattle.gql_exec_plan.specs.Growth.{AreFresh}
 use Rattle.gql_exec_plan.specs.Lists.{IsOneOf}
 use Rattle.gql_exec_plan.specs.Plan.{ArePartsOf, HaveNodes, fields_in, groups_in, most_looks}

@@ -10,12 +10,12 @@ use Rattle.gql_response.specs.declared.execution_response.ExecutionResponse.{Exe
 use Rattle.gql_response.specs.declared.graphql_error.GraphQLError.{GraphQLError}
 use Rattle.gql_schema_types.specs.declared.types.ObjectType.{ObjectType}
 use Rattle.gql_exec_plan.specs.Ranks.{AreRanked}
-use Rattle.gql_exec_places.specs.Depth.{Suffices}
-use Rattle.gql_exec_places.specs.Execute.{Member, execute}
-use Rattle.gql_exec_places.specs.Trail.{Trail}
-use Rattle.gql_exec_places.proofs.Distinct.{distinct_paths}
-use Rattle.gql_exec_places.proofs.Explains.{explained}
-use Rattle.gql_exec_places.proofs.Faults.{true_faults}
+use Rattle.gql_exec_resolve.specs.Depth.{Suffices}
+use Rattle.gql_exec_resolve.specs.Execute.{Member, execute}
+use Rattle.gql_exec_resolve.specs.Trail.{Trail}
+use Rattle.gql_exec_resolve.proofs.Distinct.{distinct_paths}
+use Rattle.gql_exec_resolve.proofs.Explains.{explained}
+use Rattle.gql_exec_resolve.proofs.Faults.{true_faults}
 use Rattle.gql_exec_fields.specs.Nesting.{nesting}
 use Rattle.gql_exec_fields.specs.Request.{Request}
 use Rattle.gql_exec_fields.specs.RequestWorld.{plain_world}

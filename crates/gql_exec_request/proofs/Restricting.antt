@@ -7,10 +7,10 @@ use Rattle.gql_response.specs.declared.execution_response.ExecutionResponse.{Exe
 use Rattle.gql_schema_types.specs.declared.schema.Schema.{Schema}
 use Rattle.gql_schema_types.specs.declared.types.ObjectType.{ObjectType}
 use Rattle.gql_source.specs.File.{Files}
-use Rattle.gql_exec_places.specs.Depth.{AllGroups, Suffices}
-use Rattle.gql_exec_places.specs.Execute.{Made, Member, execute}
-use Rattle.gql_exec_places.specs.World.{World, key_of}
-use Rattle.gql_exec_places.proofs.Deeper.{deeper}
+use Rattle.gql_exec_resolve.specs.Depth.{AllGroups, Suffices}
+use Rattle.gql_exec_resolve.specs.Execute.{Made, Member, execute}
+use Rattle.gql_exec_resolve.specs.World.{World, key_of}
+use Rattle.gql_exec_resolve.proofs.Deeper.{deeper}
 use Rattle.gql_exec_fields.specs.Asks.{definition_on, arguments_at}
 use Rattle.gql_exec_fields.specs.Group.{Group}
 use Rattle.gql_exec_fields.specs.Request.{Members, Request}

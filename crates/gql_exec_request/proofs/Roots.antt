@@ -16,8 +16,8 @@ use Rattle.gql_schema_types.specs.declared.types.ObjectType.{ObjectType}
 use Rattle.gql_exec_plan.specs.Flat.{flat_sets}
 use Rattle.gql_exec_plan.specs.Groups.{FieldGroup, groups_of, has_field, is_defined}
 use Rattle.gql_exec_plan.proofs.Keys.{Text, text-same, text-itself}
-use Rattle.gql_exec_places.specs.Depth.{AllGroups}
-use Rattle.gql_exec_places.specs.World.{World, key_of, DistinctKeys}
+use Rattle.gql_exec_resolve.specs.Depth.{AllGroups}
+use Rattle.gql_exec_resolve.specs.World.{World, key_of, DistinctKeys}
 use Rattle.gql_exec_fields.specs.Group.{Group, started, groups_from}
 use Rattle.gql_exec_fields.specs.Request.{Request}
 use Rattle.gql_exec_fields.specs.RequestWorld.{plain, plain_world, setting_on}

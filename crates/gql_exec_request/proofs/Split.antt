@@ -14,12 +14,12 @@ use Rattle.gql_schema_types.specs.Schemas.{is_query_root}
 use Rattle.gql_schema_types.specs.declared.schema.Schema.{Schema}
 use Rattle.gql_schema_types.specs.declared.types.ObjectType.{ObjectType}
 use Rattle.gql_source.specs.File.{Files}
-use Rattle.gql_exec_places.specs.Depth.{AllGroups}
-use Rattle.gql_exec_places.specs.Execute.{Made, Member, front_of, then_rest, then_rest_of, with_key, keyed, Below, field_made, groups_made}
-use Rattle.gql_exec_places.specs.Resolved.{Meaning, gives_leaf, gives_skip, Outcome, answered}
-use Rattle.gql_exec_places.specs.Spot.{Spot, field_spot}
-use Rattle.gql_exec_places.specs.Trail.{Trail}
-use Rattle.gql_exec_places.specs.World.{World, key_of}
+use Rattle.gql_exec_resolve.specs.Depth.{AllGroups}
+use Rattle.gql_exec_resolve.specs.Execute.{Made, Member, front_of, then_rest, then_rest_of, with_key, keyed, Below, field_made, groups_made}
+use Rattle.gql_exec_resolve.specs.Resolved.{Meaning, gives_leaf, gives_skip, Outcome, answered}
+use Rattle.gql_exec_resolve.specs.Spot.{Spot, field_spot}
+use Rattle.gql_exec_resolve.specs.Trail.{Trail}
+use Rattle.gql_exec_resolve.specs.World.{World, key_of}
 use Rattle.gql_exec_meta.specs.Meta.{Meta}
 use Rattle.gql_exec_fields.specs.Asks.{definition_on, arguments_at, answer, asked, asks, is_introspection}
 use Rattle.gql_exec_fields.specs.Group.{Group}

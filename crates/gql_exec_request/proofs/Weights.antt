@@ -1,6 +1,6 @@
 -- How much there is of an answer, by which going down through its lists ends.
 use Rattle.std.proofs.Common.{arith, ◌≡◌, ℕ, ◌+◌, ◌<◌, List, [], ◌∷◌, ◌++◌, map, Result, refl, sym, ap, ◌∙◌}
-use Rattle.gql_exec_places.specs.Resolved.{Meaning, Meanings, gives_leaf, gives_object, gives_list, gives_skip, fails_with, no_answer, answer_then}
+use Rattle.gql_exec_resolve.specs.Resolved.{Meaning, Meanings, gives_leaf, gives_object, gives_list, gives_skip, fails_with, no_answer, answer_then}
 use Rattle.gql_exec_resolve.specs.Meaning.{item_by, meanings_by}
 use Rattle.gql_exec_resolve.specs.declared.resolve_error.FieldError.{FieldError}
 use Rattle.gql_exec_resolve.specs.declared.resolved_value.ResolvedValue.{ResolvedValue}

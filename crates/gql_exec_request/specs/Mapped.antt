@@ -1,5 +1,5 @@
 -- What a resolver answers, whose objects stand as others.
-use Rattle.gql_exec_places.specs.Resolved.{Meaning, Meanings, gives_leaf, gives_object, gives_list, gives_skip, fails_with, no_answer, answer_then}
+use Rattle.gql_exec_resolve.specs.Resolved.{Meaning, Meanings, gives_leaf, gives_object, gives_list, gives_skip, fails_with, no_answer, answer_then}
 
 module _ {X Y : Type 0} (stands : X → Y) where
   abbrev mutual

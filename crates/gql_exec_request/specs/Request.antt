@@ -3,7 +3,7 @@ use Rattle.std.specs.Prelude.{ℕ, List, []}
 use Rattle.gql_source.specs.File.{Files}
 use Rattle.gql_document_types.specs.declared.fragment.Fragment.{Fragment}
 use Rattle.gql_schema_types.specs.declared.schema.Schema.{Schema}
-use Rattle.gql_exec_places.specs.Resolved.{gives_skip}
+use Rattle.gql_exec_resolve.specs.Resolved.{gives_skip}
 use Rattle.gql_exec_fields.specs.Request.{Members, Request}
 use Rattle.gql_exec_request.specs.Thing.{Thing, type_of_thing}
 use Rattle.gql_exec_request.specs.ThingMeaning.{Resolving, thing_meaning}

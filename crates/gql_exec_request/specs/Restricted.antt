@@ -9,8 +9,8 @@ use Rattle.gql_schema_types.specs.declared.schema.Schema.{Schema}
 use Rattle.gql_schema_types.specs.declared.types.ExtendedType.{ExtendedType}
 use Rattle.gql_schema_types.specs.declared.types.ObjectType.{ObjectType}
 use Rattle.gql_exec_plan.specs.Groups.{response_key}
-use Rattle.gql_exec_places.specs.Depth.{AllGroups}
-use Rattle.gql_exec_places.specs.Execute.{Member}
+use Rattle.gql_exec_resolve.specs.Depth.{AllGroups}
+use Rattle.gql_exec_resolve.specs.Execute.{Member}
 use Rattle.gql_exec_fields.specs.Asks.{definition_on, arguments_at}
 use Rattle.gql_exec_fields.specs.Group.{Group}
 use Rattle.gql_exec_fields.specs.Request.{Request}

@@ -7,7 +7,7 @@ use Rattle.gql_response.specs.Response.{data_value}
 use Rattle.gql_response.specs.declared.execution_response.ExecutionResponse.{ExecutionResponse}
 use Rattle.gql_exec_request.specs.Thing.{of_user, type_of_thing}
 use Rattle.gql_exec_request.specs.ThingMeaning.{Resolving, thing_meaning}
-use Rattle.gql_exec_places.specs.Execute.{Member}
+use Rattle.gql_exec_resolve.specs.Execute.{Member}
 use Rattle.gql_exec_request.specs.Execution.{Prepared, prepared, Answers, Counts, IsCounted}
 use Rattle.gql_exec_fields.specs.Output.{Finds}
 use Rattle.gql_exec_request.specs.declared.executed.Executed.{Executed}

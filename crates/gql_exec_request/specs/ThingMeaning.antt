@@ -1,7 +1,7 @@
 -- What the fields of objects are where introspection is on: section 4 of GraphQL October 2021.
 use Rattle.std.specs.Prelude.{ℕ, List, if◌then◌else◌, codes}
 use Rattle.std.specs.Str.{bytes_eq}
-use Rattle.gql_exec_places.specs.Resolved.{Meaning}
+use Rattle.gql_exec_resolve.specs.Resolved.{Meaning}
 use Rattle.gql_exec_resolve.specs.Meaning.{Members}
 use Rattle.gql_exec_fields.specs.Asks.{is_introspection}
 use Rattle.gql_schema_types.specs.declared.schema.Schema.{Schema}

@@ -7,7 +7,7 @@ ghost use Rattle.gql_exec_request.specs.Request.{introspected_request, partial_r
 ghost use Rattle.gql_exec_request.specs.Restricted.{HasNoOwn, OthersCoerce, restricted};
 ghost use Rattle.gql_exec_request.specs.Thing.{of_user};
 ghost use Rattle.gql_exec_request.specs.ThingMeaning.{Resolving};
-ghost use Rattle.gql_exec_places.specs.Execute.{Member};
+ghost use Rattle.gql_exec_resolve.specs.Execute.{Member};
 ghost use Rattle.gql_exec_fields.specs.Request.{Members};
 ghost use Rattle.gql_exec_fields.specs.RequestWorld.{plain};
 ghost use Rattle.gql_exec_fields.specs.Response.{IsExecuted};

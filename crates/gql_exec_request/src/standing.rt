@@ -1,7 +1,7 @@
 //! Answers of resolvers, whose objects stand as objects of another kind.
 
 ghost use Rattle.std.specs.Prelude.{◌≡◌, IfOk};
-ghost use Rattle.gql_exec_places.specs.Resolved.{Meaning, gives_list};
+ghost use Rattle.gql_exec_resolve.specs.Resolved.{Meaning, gives_list};
 ghost use Rattle.gql_exec_resolve.specs.Meaning.{Answers, item_by, meaning_by, meanings_by};
 ghost use Rattle.gql_exec_request.specs.Mapped.{all_mapped, mapped};
 

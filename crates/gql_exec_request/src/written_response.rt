@@ -2,7 +2,7 @@
 
 ghost use Rattle.std.specs.Prelude.{◌≡◌, [], List, Option, IfOk};
 ghost use Rattle.jb_print.specs.Compact.{compact};
-ghost use Rattle.gql_exec_places.specs.Execute.{Member};
+ghost use Rattle.gql_exec_resolve.specs.Execute.{Member};
 ghost use Rattle.gql_exec_fields.specs.Output.{AreWritten};
 ghost use Rattle.gql_exec_fields.specs.Written.{IsOpenObject};
 ghost use Rattle.gql_response.specs.Response.{data_value};

@@ -5,7 +5,7 @@ use Rattle.gql_ast_base.specs.declared.type_ref.TypeRef as ref
 use Rattle.gql_ast_base.specs.declared.type_ref.TypeRef.TheOpen.{TypeRef-F}
 use Rattle.gql_ast_base.specs.TypeParts.{item_type, item_level}
 use Rattle.gql_exec_resolve.specs.Lists.{is_list}
-use Rattle.gql_exec_places.specs.Types as places
+use Rattle.gql_exec_resolve.specs.Types as places
 
 abbrev pub height_step : TypeRef-F ℕ → ℕ
 height_step (TypeRef-F.Named name) = 0

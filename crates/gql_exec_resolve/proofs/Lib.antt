@@ -1,3 +1,11 @@
+pub mod Steps
+pub mod Explains
+pub mod Faults
+pub mod Deeper
+pub mod Skipless
+pub mod Distinct
+pub mod Unique
+pub mod Meets
 pub mod Refusing
 pub mod Height
 pub mod ObjectLists

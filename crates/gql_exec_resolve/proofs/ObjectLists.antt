@@ -1,6 +1,6 @@
 -- What a list of objects means.
 use Rattle.std.proofs.Common.{◌≡◌, List, [], ◌∷◌, map, Ok, refl, ap, sym, ◌∙◌}
-use Rattle.gql_exec_places.specs.Resolved.{Meaning, gives_object, gives_list, answer_then}
+use Rattle.gql_exec_resolve.specs.Resolved.{Meaning, gives_object, gives_list, answer_then}
 use Rattle.gql_exec_resolve.proofs.Views.{meaning_list}
 use Rattle.gql_exec_resolve.specs.Meaning.{meaning_by, meanings_by, meaning_step}
 use Rattle.gql_exec_resolve.specs.Objects.{each_object, gives_objects, list_of_objects}

@@ -3,7 +3,7 @@ use Rattle.std.proofs.Common.{◌≡◌, Option, Some, Result, Ok, Err, sym, ap,
 use Rattle.jb_text.specs.declared.refused.Refused.{Refused}
 use Rattle.jb_text.specs.declared.refused.Refused.TheVariants.{Fault, Memory}
 use Rattle.gql_schema_types.specs.declared.types.ObjectType.{ObjectType}
-use Rattle.gql_exec_places.specs.Resolved.{Misfit as Wrong}
+use Rattle.gql_exec_resolve.specs.Resolved.{Misfit as Wrong}
 use Rattle.gql_exec_resolve.specs.Seen.{Refuses, IsFitOf}
 use Rattle.gql_exec_resolve.specs.declared.misfit.Misfit.{Misfit}
 

@@ -6,14 +6,14 @@ use Rattle.gql_ast_definitions.specs.declared.field_definition.FieldDefinition.{
 use Rattle.gql_ast_base.specs.TypeParts.{named_type}
 use Rattle.gql_ast_base.specs.TypeParts.{item_type}
 use Rattle.gql_schema_types.specs.declared.schema.Schema.{Schema}
-use Rattle.gql_exec_places.specs.Resolved.{gives_leaf}
+use Rattle.gql_exec_resolve.specs.Resolved.{gives_leaf}
 use Rattle.jb_tree.specs.declared.value.Value.{Value}
 use Rattle.gql_ast_base.specs.Names.{Named}
 use Rattle.gql_ast_base.specs.declared.type_ref.TypeRef.{TypeRef, out-TypeRef, fold_out-TypeRef}
 use Rattle.gql_ast_base.specs.declared.type_ref.TypeRef as ref
 use Rattle.gql_ast_base.specs.declared.type_ref.TypeRef.TheOpen.{TypeRef-F}
 use Rattle.gql_ast_base.specs.TypeParts.{item_level}
-use Rattle.gql_exec_places.specs.Resolved.{Meaning, answer_then}
+use Rattle.gql_exec_resolve.specs.Resolved.{Meaning, answer_then}
 use Rattle.gql_exec_resolve.specs.Data.{Data}
 use Rattle.gql_exec_resolve.specs.DataMeaning.{failure_text, text_member, unless_failed, shaped_items, list_or_leaf, object_or_leaf, shape_level, shaped, unfailed_level, unfailed_at, unfailed, composite_name, value_of}
 use Rattle.gql_schema_types.specs.Schemas.{type_named}

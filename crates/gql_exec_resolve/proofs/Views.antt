@@ -1,6 +1,6 @@
 -- What a list of answers means, by the meanings of its items.
 use Rattle.std.proofs.Common.{◌≡◌, List, [], ◌∷◌, refl, ap, sym, ◌∙◌, Result, Ok, Err}
-use Rattle.gql_exec_places.specs.Resolved.{Meaning, Meanings, gives_leaf, gives_object, gives_skip, no_answer, gives_list, answer_then, fails_with}
+use Rattle.gql_exec_resolve.specs.Resolved.{Meaning, Meanings, gives_leaf, gives_object, gives_skip, no_answer, gives_list, answer_then, fails_with}
 use Rattle.gql_exec_resolve.specs.declared.resolve_error.FieldError.{FieldError}
 use Rattle.gql_exec_resolve.specs.declared.resolved_value.ResolvedValue.{ResolvedValue, fold-roll-ResolvedValue}
 use Rattle.gql_exec_resolve.specs.declared.resolved_value.ResolvedValue as value

@@ -13,7 +13,7 @@ use Rattle.gql_schema_types.specs.declared.schema.Schema.{Schema}
 use Rattle.gql_schema_types.specs.declared.types.ExtendedType.{ExtendedType}
 use Rattle.gql_schema_types.specs.declared.types.ExtendedType.TheVariants as type
 use Rattle.gql_schema_types.specs.declared.types.ObjectType.{ObjectType}
-use Rattle.gql_exec_places.specs.Resolved.{Meaning, gives_leaf, gives_object, gives_list, gives_skip, fails_with, Misfit}
+use Rattle.gql_exec_resolve.specs.Resolved.{Meaning, gives_leaf, gives_object, gives_list, gives_skip, fails_with, Misfit}
 use Rattle.gql_exec_resolve.specs.Lists.{is_list}
 use Rattle.gql_exec_resolve.specs.Messages as message
 use Rattle.gql_exec_resolve.specs.Takes.{is_int, is_signed, takes, is_value}

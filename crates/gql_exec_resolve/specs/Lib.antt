@@ -1,3 +1,16 @@
+pub mod Types
+pub mod Resolved
+pub mod World
+pub mod Trail
+pub mod Spot
+pub mod Fault
+pub mod Reached
+pub mod Execute
+pub mod Depth
+pub mod Explained
+pub mod Distinct
+pub mod Skips
+pub mod Along
 pub mod Lists
 pub mod Messages
 pub mod Takes

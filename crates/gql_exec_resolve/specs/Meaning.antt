@@ -1,7 +1,7 @@
 -- What a resolver answers (GraphQL October 2021, section 6.4.2), whatever memory does.
 use Rattle.std.specs.Prelude.{◌≡◌, ℕ, List, [], ◌∷◌, Result, Ok, Err}
 use Rattle.jb_tree.specs.declared.value.Value.{Value}
-use Rattle.gql_exec_places.specs.Resolved.{Meaning, Meanings, gives_leaf, gives_object, gives_list, gives_skip, fails_with, no_answer, answer_then}
+use Rattle.gql_exec_resolve.specs.Resolved.{Meaning, Meanings, gives_leaf, gives_object, gives_list, gives_skip, fails_with, no_answer, answer_then}
 use Rattle.gql_exec_resolve.specs.declared.resolve_error.FieldError.{FieldError}
 use Rattle.gql_exec_resolve.specs.declared.resolve_error.ResolveError.{ResolveError}
 use Rattle.gql_exec_resolve.specs.declared.resolve_error.ResolveError.TheVariants.{Field, Memory}

@@ -1,6 +1,6 @@
 -- Lists of objects, as resolvers answer with them.
 use Rattle.std.specs.Prelude.{List, [], ◌∷◌, map, Ok}
-use Rattle.gql_exec_places.specs.Resolved.{Meaning, Meanings, gives_object, gives_list, no_answer, answer_then}
+use Rattle.gql_exec_resolve.specs.Resolved.{Meaning, Meanings, gives_object, gives_list, no_answer, answer_then}
 use Rattle.gql_exec_resolve.specs.declared.resolved_value.ResolvedValue.{ResolvedValue}
 use Rattle.gql_exec_resolve.specs.declared.resolved_value.ResolvedValue.TheVariants as value
 

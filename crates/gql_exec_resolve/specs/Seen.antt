@@ -10,7 +10,7 @@ use Rattle.gql_schema_types.specs.Types.{type_called}
 use Rattle.gql_schema_types.specs.declared.schema.Schema.{Schema}
 use Rattle.gql_schema_types.specs.declared.types.ExtendedType.{ExtendedType}
 use Rattle.gql_schema_types.specs.declared.types.ObjectType.{ObjectType}
-use Rattle.gql_exec_places.specs.Resolved.{Misfit as Wrong}
+use Rattle.gql_exec_resolve.specs.Resolved.{Misfit as Wrong}
 use Rattle.gql_exec_resolve.specs.declared.misfit.Misfit.{Misfit}
 use Rattle.gql_exec_resolve.specs.Fit.{object_misfit, object_at}
 

@@ -11,7 +11,7 @@ pub trait ObjectValue: Drop {
     ghost use Rattle.std.specs.Prelude.{◌≡◌, List, ℕ, IfOk};
     ghost use Rattle.gql_schema_types.specs.declared.schema.Schema.{Schema};
     ghost use Rattle.gql_schema_types.specs.declared.types.ObjectType.{ObjectType};
-    ghost use Rattle.gql_exec_places.specs.Resolved.{Meaning};
+    ghost use Rattle.gql_exec_resolve.specs.Resolved.{Meaning};
     ghost use Rattle.gql_exec_resolve.specs.Meaning.{Members, Answers};
     ghost use Rattle.gql_exec_resolve.specs.ResolveInfo.{schema_of, object_type_of, field_name_of, arguments_of};
     ghost use Rattle.gql_exec_resolve.specs.UnknownField.{unknown_field};

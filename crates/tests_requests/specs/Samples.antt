@@ -1,7 +1,7 @@
 -- What the objects of the tests answer (GraphQL October 2021, section 6.4.2).
 use Rattle.std.specs.Prelude.{ℕ, List, true, codes, pos}
 use Rattle.jb_tree.specs.declared.value.Value.TheVariants as json
-use Rattle.gql_exec_places.specs.Resolved.{Meaning, gives_leaf, gives_object, gives_list, gives_skip, fails_with, no_answer, answer_then}
+use Rattle.gql_exec_resolve.specs.Resolved.{Meaning, gives_leaf, gives_object, gives_list, gives_skip, fails_with, no_answer, answer_then}
 use Rattle.gql_exec_resolve.specs.UnknownField.{unknown_field}
 use Rattle.tests_requests.specs.declared.sample.Kind.{Kind}
 use Rattle.tests_requests.specs.declared.sample.Kind.TheVariants as kind

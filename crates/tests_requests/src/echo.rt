@@ -10,7 +10,7 @@ pub(crate) struct Echo;
 
 impl ObjectValue for Echo {
     ghost use Rattle.std.specs.Prelude.{codes};
-    ghost use Rattle.gql_exec_places.specs.Resolved.{gives_leaf};
+    ghost use Rattle.gql_exec_resolve.specs.Resolved.{gives_leaf};
     ghost use Rattle.jb_tree.specs.declared.value.Value.TheVariants as json;
 
     ghost Seen = { Unit {0} };

@@ -3,7 +3,7 @@ use Rattle.std.specs.List.{filter_map}
 use Rattle.gql_ast_base.specs.Names.{Named}
 use Rattle.gql_schema_types.specs.Types.{type_called}
 use Rattle.gql_schema_types.specs.declared.types.ExtendedType.{ExtendedType}
-use Rattle.gql_exec_places.specs.Resolved.{gives_object}
+use Rattle.gql_exec_resolve.specs.Resolved.{gives_object}
 use Rattle.gql_exec_meta.specs.Items.{answers_in}
 use Rattle.gql_exec_meta.specs.Meta.{type_def}
 use Rattle.gql_exec_meta.proofs.named_types.named_types.Given as goal

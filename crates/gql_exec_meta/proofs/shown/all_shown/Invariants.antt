@@ -1,5 +1,5 @@
 use Rattle.std.proofs.Common.{◌≡◌, ◌++◌, map, drop}
-use Rattle.gql_exec_places.specs.Resolved.{gives_object}
+use Rattle.gql_exec_resolve.specs.Resolved.{gives_object}
 use Rattle.gql_exec_meta.specs.Items.{answers_in}
 use Rattle.gql_exec_meta.proofs.shown.all_shown.Given as goal
 

@@ -1,6 +1,6 @@
 use Rattle.std.proofs.Common.{◌≡◌, ◌++◌, map, drop}
 use Rattle.std.specs.List.{filter}
-use Rattle.gql_exec_places.specs.Resolved.{gives_object}
+use Rattle.gql_exec_resolve.specs.Resolved.{gives_object}
 use Rattle.gql_exec_meta.specs.Items.{answers_in}
 use Rattle.gql_exec_meta.specs.Kept.{is_kept}
 use Rattle.gql_exec_meta.proofs.shown.kept_parts.Given as goal

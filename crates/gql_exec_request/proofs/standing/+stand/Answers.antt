@@ -1,5 +1,5 @@
 use Rattle.std.proofs.Common.{rules, arith, ◌≡◌, ◌+◌, ◌<◌, map, IfOk, sym, ap, ◌∙◌, subst}
-use Rattle.gql_exec_places.specs.Resolved.{gives_list}
+use Rattle.gql_exec_resolve.specs.Resolved.{gives_list}
 use Rattle.gql_exec_resolve.specs.Meaning.{item_by, meaning_by, meanings_by}
 use Rattle.gql_exec_resolve.proofs.Views.{meaning_list}
 use Rattle.gql_exec_request.specs.Mapped.{mapped}

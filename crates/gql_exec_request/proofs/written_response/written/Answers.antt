@@ -2,7 +2,7 @@ use Rattle.std.proofs.Common.{List, [], ◌++◌, Option, sym, ap, ◌∙◌}
 use Rattle.jb_tree.specs.declared.value.Value.TheVariants as json
 use Rattle.jb_print.specs.Compact.{compact}
 use Rattle.gql_response.specs.Response.{data_value}
-use Rattle.gql_exec_places.specs.Execute.{Member}
+use Rattle.gql_exec_resolve.specs.Execute.{Member}
 use Rattle.gql_exec_fields.specs.Written.{IsOpenObject}
 use Rattle.gql_exec_fields.proofs.Outputs.{members-written, none-written}
 use Rattle.gql_exec_request.proofs.written_response.written.Goals as goal

@@ -5,10 +5,10 @@ use Rattle.gql_schema_types.specs.declared.schema.Schema.{Schema}
 use Rattle.gql_schema_types.specs.Schemas.{type_named}
 use Rattle.gql_exec_resolve.specs.Seen.{seen, misfit_seen, IsFitOfObject}
 use Rattle.jb_tree.specs.declared.value.Value.TheVariants as json
-use Rattle.gql_exec_places.specs.Execute.{completed, items_made, one_array, one_object, settled}
-use Rattle.gql_exec_places.specs.Resolved.{gives_leaf, gives_list, gives_object, gives_skip}
-use Rattle.gql_exec_places.specs.Spot.{item_spot, trail}
-use Rattle.gql_exec_places.specs.Types.{item_type}
+use Rattle.gql_exec_resolve.specs.Execute.{completed, items_made, one_array, one_object, settled}
+use Rattle.gql_exec_resolve.specs.Resolved.{gives_leaf, gives_list, gives_object, gives_skip}
+use Rattle.gql_exec_resolve.specs.Spot.{item_spot, trail}
+use Rattle.gql_exec_resolve.specs.Types.{item_type}
 use Rattle.gql_exec_resolve.specs.Meaning.{item_by, meaning_by, meanings_by}
 use Rattle.gql_exec_resolve.proofs.Height.{height, height-item}
 use Rattle.gql_exec_resolve.proofs.Views.{meaning_list}

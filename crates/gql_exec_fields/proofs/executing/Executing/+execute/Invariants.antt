@@ -1,7 +1,7 @@
 use Rattle.std.proofs.Common.{◌≡◌, ◌+◌, ◌*◌, List, drop, length}
 use Rattle.jb_tree.specs.declared.value.Value.{Value}
-use Rattle.gql_exec_places.specs.Execute.{Member}
-use Rattle.gql_exec_places.specs.Types.{item_type}
+use Rattle.gql_exec_resolve.specs.Execute.{Member}
+use Rattle.gql_exec_resolve.specs.Types.{item_type}
 use Rattle.gql_exec_plan.specs.Plan.{AreNodes, HaveNodes, fields_in, groups_in, sets_below}
 use Rattle.gql_exec_plan.specs.Ways.{Turn}
 use Rattle.gql_exec_resolve.specs.Meaning.{meanings_by}

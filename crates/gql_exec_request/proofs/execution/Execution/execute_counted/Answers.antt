@@ -1,5 +1,5 @@
 use Rattle.std.proofs.Common.{List, Option, Ok, subst}
-use Rattle.gql_exec_places.specs.Execute.{Member}
+use Rattle.gql_exec_resolve.specs.Execute.{Member}
 use Rattle.gql_exec_request.specs.Execution.{Answers, Counts}
 use Rattle.gql_exec_request.specs.Running.{response_of}
 use Rattle.gql_exec_request.proofs.Introspecting.{run-answered, run-refused, refused-counts, tree-found}

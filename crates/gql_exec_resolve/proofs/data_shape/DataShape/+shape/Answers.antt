@@ -1,5 +1,5 @@
 use Rattle.std.proofs.Common.{arith, ◌≡◌, ◌≤◌, length, map, take_all, sym, ap, ◌∙◌}
-use Rattle.gql_exec_places.specs.Resolved.{gives_list}
+use Rattle.gql_exec_resolve.specs.Resolved.{gives_list}
 use Rattle.gql_exec_resolve.specs.DataMeaning.{shaped}
 use Rattle.gql_exec_resolve.specs.DataShape.{composite_of}
 use Rattle.gql_exec_resolve.specs.Meaning.{item_by, itself}
