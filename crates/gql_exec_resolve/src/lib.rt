@@ -9,11 +9,18 @@
 //! [`leaf_misfit`], [`list_misfit`] and [`fitting_object`] judge a leaf, a list and an object by a type. A schema is only
 //! assumed to be valid: a type that is not defined, or is an input object type, is a misfit that validation should have
 //! found.
+//!
+//! The theory of execution (sections 6.3 and 6.4) stands here too: the places of a response, which of them are reached, where a
+//! null falls, when data and errors are explained, and what execution gives. Its definitions are generic in a world, which tells
+//! what groups a selection has and what comes of a group on an object. So they know nothing of documents, schemas or
+//! introspection, nor of how fields are collected. The functions of [`laws`] do nothing when they run: their contracts are the
+//! laws of these definitions.
 #![tactic(auto)]
 
 mod data_object;
 mod data_shape;
 mod fitting;
+pub mod laws;
 mod leaf;
 mod messages;
 mod misfit;

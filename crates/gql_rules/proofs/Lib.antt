@@ -1,3 +1,11 @@
+mod Entries
+mod Firsts
+mod Known
+mod Noted
+mod Reaches
+mod Selections
+mod Steps
+mod Told
 pub mod Layers
 pub mod Listed
 pub mod UntypedLayers

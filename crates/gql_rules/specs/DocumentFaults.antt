@@ -8,7 +8,7 @@ use Rattle.gql_rules_selections.specs.DocumentNodes.{document_nodes_faults}
 use Rattle.gql_rules_selections.specs.SpreadFaults.{AreSpreadFaults}
 use Rattle.gql_rules_selections.specs.UnusedFragment.{AreUnused}
 use Rattle.gql_rules_merging.specs.FieldSelectionMerging.{AreConflicts}
-use Rattle.gql_rules_variables.specs.VariableFaults.{AreVariableFaults}
+use Rattle.gql_rules.specs.VariableFaults.{AreVariableFaults}
 use Rattle.gql_schema_rules.specs.Taken.{HasListedSome}
 use Rattle.gql_schema_types.specs.declared.schema.Schema.{Schema}
 

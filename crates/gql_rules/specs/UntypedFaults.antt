@@ -13,7 +13,7 @@ use Rattle.gql_rules.specs.NoSchema.{no_schema}
 use Rattle.gql_rules.specs.UniqueArguments.{node_arguments}
 use Rattle.gql_rules.specs.UniqueVariables.{unique_variables}
 use Rattle.gql_rules.specs.UntypedDocument.{untyped_document}
-use Rattle.gql_rules_variables.specs.VariableFaults.{AreVariableFaults}
+use Rattle.gql_rules.specs.VariableFaults.{AreVariableFaults}
 
 -- What the rules say of a document whose spreads are right. No variable is used where a type is known, so that none is told to stand
 -- where its values may not.

@@ -4,11 +4,11 @@ ghost use Rattle.std.specs.Prelude.{◌≡◌, ◌++◌, List, IfOk, OnOk};
 ghost use Rattle.gql_diag_messages.specs.declared.diagnostic_data.DiagnosticData as item;
 ghost use Rattle.gql_rules.specs.DocumentFaults as spec;
 
+use crate::variable_faults::list_variable_faults;
 use gql_diag_messages::DiagnosticData;
 use gql_document_types::ExecutableDocument;
 use gql_rules_merging::list_conflicting_fields;
 use gql_rules_selections::{list_document_nodes, list_spread_faults, list_unused_fragments};
-use gql_rules_variables::list_variable_faults;
 use gql_schema_types::Schema;
 use jb_text::{Listed, Memory};
 use std::alloc::Global;

@@ -6,18 +6,18 @@ ghost use Rattle.gql_rules.specs.DocumentFaults.{AreFirstOrAll};
 ghost use Rattle.gql_rules.specs.NoSchema.{no_schema as no_schema_of};
 ghost use Rattle.gql_rules.specs.UntypedDocument.{untyped_document as document_of};
 ghost use Rattle.gql_rules.specs.UntypedFaults as spec;
-ghost use Rattle.gql_rules_variables.specs.VariableFaults.{AreVariableFaults};
+ghost use Rattle.gql_rules.specs.VariableFaults.{AreVariableFaults};
 
 use crate::no_schema::no_schema;
 use crate::unique_arguments::list_unique_arguments;
 use crate::unique_variables::list_unique_variables;
 use crate::untyped_document::untyped_document;
+use crate::variable_faults::list_variable_faults;
 use gql_ast::Definition;
 use gql_diag_messages::DiagnosticData;
 use gql_document_build::{ExecutableDefinitions, distinct_definitions};
 use gql_document_types::ExecutableDocument;
 use gql_rules_selections::{list_spread_faults, list_unused_fragments};
-use gql_rules_variables::list_variable_faults;
 use jb_text::{Listed, Memory};
 use std::alloc::Global;
 

@@ -17,9 +17,9 @@ use Rattle.gql_rules_selections.specs.WayRound.{first_recursive}
 use Rattle.gql_rules_graph.specs.Cycles.{AreMarked}
 use Rattle.gql_rules_graph.specs.Flooding.{has}
 use Rattle.gql_rules_graph.specs.Graph.{Graph}
-use Rattle.gql_rules_variables.specs.UnusedVariable.{unused_variables}
-use Rattle.gql_rules_variables.specs.Uses.{Use, operation_uses, fragment_uses}
-use Rattle.gql_rules_variables.specs.VariableFaults.{AreVariableFaults, IsReach, Reach, fragments_faults, operation_faults, reached_uses, reaching, use_faults}
+use Rattle.gql_rules.specs.UnusedVariable.{unused_variables}
+use Rattle.gql_rules.specs.Uses.{Use, operation_uses, fragment_uses}
+use Rattle.gql_rules.specs.VariableFaults.{AreVariableFaults, IsReach, Reach, fragments_faults, operation_faults, reached_uses, reaching, use_faults}
 use Rattle.gql_schema_types.specs.declared.schema.Schema.{Schema}
 
 -- ---- spreads

@@ -1,7 +1,7 @@
 use Rattle.std.proofs.Common.{◌≡◌, ◌++◌, List, OnOk, subst}
 use Rattle.gql_diag_messages.specs.declared.diagnostic_data.DiagnosticData.{DiagnosticData}
 use Rattle.gql_rules.proofs.untyped_faults.list_uses.Goals as goal
-use Rattle.gql_rules_variables.specs.VariableFaults.{AreVariableFaults}
+use Rattle.gql_rules.specs.VariableFaults.{AreVariableFaults}
 use Rattle.gql_schema_types.specs.declared.schema.Schema.{Schema}
 
 pub returns : goal.returns

@@ -1,0 +1,16 @@
+use Rattle.std.proofs.Common.{◌≡◌, ◌++◌, drop, map}
+use Rattle.gql_rules.specs.Uses.{value_uses, items_uses, members_uses}
+use Rattle.gql_rules.specs.Views.{place_of, uses_of}
+use Rattle.gql_rules.proofs.value_uses.+uses.Given as goal
+
+-- what is there and what is left make the whole
+abbrev pub invariant-add_items-loop-item : goal.invariant-add_items-loop-item
+invariant-add_items-loop-item l =
+    uses_of l.uses ++ items_uses l.types (place_of l.place) (map (value_uses l.types) (drop l.item-index l.item-items))
+    ≡ uses_of l.fn.uses ++ items_uses l.types (place_of l.place) (map (value_uses l.types) l.item-items)
+
+abbrev pub invariant-add_members-loop-member : goal.invariant-add_members-loop-member
+invariant-add_members-loop-member l =
+    uses_of l.uses
+    ++ members_uses l.types (place_of l.place) (map (λ member. (member.0, value_uses l.types member.1)) (drop l.member-index l.member-items))
+    ≡ uses_of l.fn.uses ++ members_uses l.types (place_of l.place) (map (λ member. (member.0, value_uses l.types member.1)) l.member-items)

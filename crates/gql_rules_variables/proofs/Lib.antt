@@ -1,8 +1,0 @@
-mod Entries
-mod Firsts
-mod Known
-mod Noted
-mod Reaches
-mod Selections
-mod Steps
-mod Told

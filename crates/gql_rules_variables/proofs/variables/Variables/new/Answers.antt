@@ -1,5 +1,0 @@
-use Rattle.gql_rules_variables.proofs.Known.{known}
-use Rattle.gql_rules_variables.proofs.variables.Variables.new.Goals as goal
-
-pub invariant_of-result : goal.invariant_of-result
-invariant_of-result c = record { known = known c.in_ok-table.table c.args.definitions.now c.in_ok-table.ensures }

@@ -1,9 +1,0 @@
-pub mod DisallowedVariableUsage
-pub mod Judged
-pub mod Operations
-pub mod TypesInto
-pub mod UndefinedVariable
-pub mod UnusedVariable
-pub mod Uses
-pub mod VariableFaults
-pub mod Views
