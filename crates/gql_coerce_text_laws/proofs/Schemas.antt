@@ -31,8 +31,8 @@ use Rattle.gql_schema_build.specs.declared.built_in.BuiltIn.{BuiltIn}
 use Rattle.gql_schema_build.specs.declared.type_system.TypeSystem.{TypeSystem}
 use Rattle.gql_texts.specs.BuiltInText.{is_scalar_of}
 use Rattle.gql_coerce_text_laws.proofs.BuiltInText.{is_input_object}
-use Rattle.gql_schema_rules.specs.Scalars.{input_names, built_in_scalars, validated}
-use Rattle.gql_schema_rules.specs.SchemaFaults.{AreSchemaFaults, parts_faults}
+use Rattle.gql_schema.specs.Scalars.{input_names, built_in_scalars, validated}
+use Rattle.gql_schema.specs.SchemaFaults.{AreSchemaFaults, parts_faults}
 use Rattle.gql_schema_rules_types.specs.InterfaceRules.{interfaces_faults}
 use Rattle.gql_schema_rules_types.specs.EmptyInputValueSet.{empty_input_value_set}
 use Rattle.gql_schema_rules_types.specs.InputType.{input_type}

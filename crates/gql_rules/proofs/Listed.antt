@@ -2,7 +2,7 @@
 use Rattle.std.proofs.Common.{◌≡◌, ◌⊎◌, inl, inr, Result, Ok, Err, OnErr, List, [], ◌++◌, refl, sym}
 use Rattle.std.proofs.lemmas.List.{append-nil}
 use Rattle.gql_diag_messages.specs.declared.diagnostic_data.DiagnosticData.{DiagnosticData}
-use Rattle.gql_schema_rules.specs.Taken.{HasTakenSome, HasListedSome}
+use Rattle.gql_schema.specs.Taken.{HasTakenSome, HasListedSome}
 
 -- what has taken some of the faults lists some of them
 pub some_listed : (AreFaults : List DiagnosticData → Type 0) (faults old new : List DiagnosticData) → AreFaults faults → HasTakenSome old faults new

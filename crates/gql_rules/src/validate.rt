@@ -6,7 +6,7 @@ ghost use Rattle.gql_rules.specs.DocumentFaults.{HasListedAllFaults, HasListedSo
 use crate::document_faults::document_faults;
 use gql_diag::DiagnosticList;
 use gql_document_types::ExecutableDocument;
-use gql_schema_rules::take_faults;
+use gql_schema::take_faults;
 use gql_schema_types::Schema;
 use jb_text::Memory;
 use std::alloc::Global;

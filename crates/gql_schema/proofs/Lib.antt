@@ -1,3 +1,4 @@
+pub mod Added
 mod Found
 mod Tokens
 mod Readings

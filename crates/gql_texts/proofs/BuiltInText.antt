@@ -34,7 +34,7 @@ use Rattle.gql_cst_lexer.specs.Lex.{lex, run_len, blank_len, string_len, string,
 use Rattle.gql_schema.specs.BuiltInSchema.{IsBuiltIn, built_in_file}
 use Rattle.gql_schema_build.specs.TypeSystems.{with_definitions, no_definitions}
 use Rattle.gql_schema_build.specs.declared.built_in.BuiltIn.{BuiltIn}
-use Rattle.gql_schema_rules.specs.Scalars.{built_in_scalars}
+use Rattle.gql_schema.specs.Scalars.{built_in_scalars}
 use Rattle.gql_source.specs.declared.file_id.FileId.{FileId}
 use Rattle.gql_texts.specs.BuiltInText.{built_in_text, is_scalar_of}
 use Rattle.gql_texts.proofs.Forests.{planted}

@@ -22,8 +22,8 @@ use Rattle.gql_schema_build.specs.Considered.{considered}
 use Rattle.gql_schema_build.specs.BuiltInScalarTypeRedefinition.{without_redefinitions}
 use Rattle.gql_schema_build.specs.declared.built_in.BuiltIn.{BuiltIn}
 use Rattle.gql_schema_build.specs.declared.type_system.TypeSystem.{TypeSystem}
-use Rattle.gql_schema_rules.specs.Scalars.{built_in_scalars, validated}
-use Rattle.gql_schema_rules.specs.SchemaFaults.{AreSchemaFaults, parts_faults}
+use Rattle.gql_schema.specs.Scalars.{built_in_scalars, validated}
+use Rattle.gql_schema.specs.SchemaFaults.{AreSchemaFaults, parts_faults}
 use Rattle.gql_rules_base.specs.Directives.{directive_faults}
 use Rattle.gql_schema_rules_types.specs.InterfaceRules.{interfaces_faults}
 use Rattle.gql_schema_rules_types.specs.DuplicateRootOperationType.{duplicate_root_operation_type}

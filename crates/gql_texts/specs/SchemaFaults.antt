@@ -12,7 +12,7 @@ use Rattle.gql_parser.specs.Diagnosed.{diagnostic}
 use Rattle.gql_parser.specs.Parsers.{fresh, its_file}
 use Rattle.gql_schema.specs.BuiltInSchema.{built_in_sources}
 use Rattle.gql_schema.specs.Builders.{Taken, built, all_faults}
-use Rattle.gql_schema_rules.specs.SchemaFaults.{AreSchemaFaults}
+use Rattle.gql_schema.specs.SchemaFaults.{AreSchemaFaults}
 use Rattle.gql_texts.specs.SchemaText.{AreDefinitions, IsSentence, its_given}
 
 -- the file of the built-in definitions, and the text's

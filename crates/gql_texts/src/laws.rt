@@ -20,8 +20,8 @@ ghost use Rattle.gql_exec_plan.specs.Ranks.{AreRanked};
 ghost use Rattle.gql_rules_graph.specs.Cycles.{IsOnCycle};
 ghost use Rattle.gql_schema.specs.BuiltInSchema.{IsBuiltIn, built_in_file};
 ghost use Rattle.gql_schema_build.specs.declared.built_in.BuiltIn.{BuiltIn};
-ghost use Rattle.gql_schema_rules.specs.Scalars.{built_in_scalars};
-ghost use Rattle.gql_schema_rules.specs.SchemaFaults.{AreSchemaFaults};
+ghost use Rattle.gql_schema.specs.Scalars.{built_in_scalars};
+ghost use Rattle.gql_schema.specs.SchemaFaults.{AreSchemaFaults};
 ghost use Rattle.gql_schema_types.specs.declared.schema.Schema.{Schema as SchemaOf};
 
 use gql_ast_laws::laws as tree_laws;

@@ -9,8 +9,7 @@ ghost use Rattle.gql_texts.specs.SchemaAnswers.{HasTaken, IsBuildRead, IsBuiltBy
 use gql_ast::Document;
 use gql_diag::{DiagnosticData, DiagnosticList};
 use gql_parser::Parser;
-use gql_schema::SchemaBuilder;
-use gql_schema_rules::validate_schema;
+use gql_schema::{SchemaBuilder, validate_schema};
 use gql_schema_types::Schema;
 use gql_source::{FileIds, SourceMap};
 use jb_text::{Memory, Refused};
