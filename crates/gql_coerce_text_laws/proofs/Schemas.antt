@@ -15,7 +15,7 @@ use Rattle.gql_ast_definitions.specs.declared.field_definition.InputValueDefinit
 use Rattle.gql_ast_definitions.specs.declared.schema_definition.DirectiveLocation.TheVariants as at
 use Rattle.gql_ast_laws.specs.Meant.{IsDocumentOf}
 use Rattle.gql_diag_messages.specs.declared.rule.Rule.TheVariants.{UndefinedDefinition, InputType}
-use Rattle.gql_parser.specs.Parsers.{its_file}
+use Rattle.gql_texts.specs.Parsers.{its_file}
 use Rattle.gql_rules_base.specs.Faults.{fault, name_fault}
 use Rattle.gql_rules_base.specs.Known.{is_built_in_scalar, is_known}
 use Rattle.gql_ast_base.specs.TypeParts.{named_type}

@@ -1,3 +1,8 @@
+mod Answering
+mod Gathered
+mod Judging
+mod Ordered
+mod Shallow
 mod BuiltInFound
 mod Tokens
 mod Readings

@@ -13,7 +13,7 @@ use Rattle.gql_schema.specs.Scalars.{validated}
 use Rattle.gql_schema.specs.SchemaFaults.{AreSchemaFaults}
 use Rattle.gql_schema_types.specs.declared.schema.Schema.{Schema}
 use Rattle.gql_texts.specs.MixedRead.{AreMixedFaults, AreRuleFaults, AreTold, IsHeld, IsMixed, IsMixedAnswer}
-use Rattle.gql_parser.specs.Parsers.{ParserState, Given}
+use Rattle.gql_texts.specs.Parsers.{ParserState, Given}
 use Rattle.gql_texts.proofs.Sorts.{nothing_after, nothing_before}
 
 -- ---- a list, tested for being empty

@@ -11,8 +11,8 @@ use Rattle.gql_diag.specs.Order.{list_order}
 use Rattle.gql_diag_messages.specs.declared.diagnostic_data.DiagnosticData.{DiagnosticData}
 use Rattle.gql_document_build.specs.Builders.{Taken, built, all_faults}
 use Rattle.gql_document_types.specs.declared.document.ExecutableDocument.{ExecutableDocument}
-use Rattle.gql_parser.specs.Diagnosed.{list_of}
-use Rattle.gql_parser.specs.Parsers.{its_file}
+use Rattle.gql_texts.specs.Diagnosed.{list_of}
+use Rattle.gql_texts.specs.Parsers.{its_file}
 use Rattle.gql_rules.specs.DocumentFaults.{AreDocumentFaults}
 use Rattle.gql_schema_types.specs.declared.schema.Schema.{Schema}
 use Rattle.gql_source.specs.declared.file_id.FileId.{FileId}

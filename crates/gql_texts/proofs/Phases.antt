@@ -16,11 +16,11 @@ use Rattle.gql_diag.specs.declared.with_errors.WithErrors.{WithErrors}
 use Rattle.gql_diag_messages.specs.declared.diagnostic_data.DiagnosticData.{DiagnosticData}
 use Rattle.gql_document_build.specs.Builders.{Taken, with_document, nothing_taken, all_faults}
 use Rattle.gql_document_types.specs.declared.document.ExecutableDocument.{ExecutableDocument}
-use Rattle.gql_parser.specs.Diagnosed.{diagnostic, list_of}
-use Rattle.gql_parser.specs.ExecutablesRead.{IsBuilt}
-use Rattle.gql_parser.specs.FileRead.{IsFileRead, IsFileStopped, IsFileWhole, no_document}
-use Rattle.gql_parser.specs.Parsers.{ParserState, fresh, its_file}
-use Rattle.gql_parser.specs.Readings.{IsSentenceWithin}
+use Rattle.gql_texts.specs.Diagnosed.{diagnostic, list_of}
+use Rattle.gql_texts.specs.ExecutablesRead.{IsBuilt}
+use Rattle.gql_texts.specs.FileRead.{IsFileRead, IsFileStopped, IsFileWhole, no_document}
+use Rattle.gql_texts.specs.Parsers.{ParserState, fresh, its_file}
+use Rattle.gql_texts.specs.Readings.{IsSentenceWithin}
 use Rattle.gql_rules.specs.DocumentFaults.{AreDocumentFaults, HasListedAllFaults}
 use Rattle.gql_schema_types.specs.declared.schema.Schema.{Schema}
 use Rattle.gql_source.specs.File.{Files}

@@ -40,7 +40,7 @@ use Rattle.gql_schema_types.specs.declared.schema.Schema.{Schema}
 use Rattle.gql_schema_types.specs.declared.types.ExtendedType.{ExtendedType}
 use Rattle.gql_schema_types.specs.declared.types.ExtendedType.TheVariants as type
 use Rattle.gql_texts.specs.SchemaText.{SchemaText, AreDefinitions, all_of, its_given}
-use Rattle.gql_parser.specs.Parsers.{its_file}
+use Rattle.gql_texts.specs.Parsers.{its_file}
 use Rattle.gql_texts.specs.BuiltInText.{is_scalar_of}
 use Rattle.gql_texts.specs.Roots.{AreRootsObjects}
 use Rattle.gql_texts.proofs.SchemaKept.{validated-kept}

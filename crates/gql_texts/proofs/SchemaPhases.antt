@@ -14,11 +14,11 @@ use Rattle.gql_diag.specs.List.{Diagnostics, IsStableSort}
 use Rattle.gql_diag.specs.Order.{list_order}
 use Rattle.gql_diag.specs.declared.with_errors.WithErrors.{WithErrors}
 use Rattle.gql_diag_messages.specs.declared.diagnostic_data.DiagnosticData.{DiagnosticData}
-use Rattle.gql_parser.specs.Diagnosed.{diagnostic}
-use Rattle.gql_parser.specs.DocumentsRead as parsed
-use Rattle.gql_parser.specs.DocumentsRead.{IsDocumentStopped}
-use Rattle.gql_parser.specs.Parsers.{ParserState, fresh}
-use Rattle.gql_parser.specs.Readings.{IsSentenceWithin}
+use Rattle.gql_texts.specs.Diagnosed.{diagnostic}
+use Rattle.gql_texts.specs.DocumentsRead as parsed
+use Rattle.gql_texts.specs.DocumentsRead.{IsDocumentStopped}
+use Rattle.gql_texts.specs.Parsers.{ParserState, fresh}
+use Rattle.gql_texts.specs.Readings.{IsSentenceWithin}
 use Rattle.gql_schema.specs.BuiltInSchema.{IsBuiltIn, built_in_sources}
 use Rattle.gql_schema.specs.Builders.{Taken, built, all_faults, nothing_taken}
 use Rattle.gql_schema.specs.Judged.{IsJudged}

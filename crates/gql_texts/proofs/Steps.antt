@@ -9,9 +9,9 @@ use Rattle.gql_diag.specs.declared.with_errors.WithErrors.{WithErrors}
 use Rattle.gql_diag_messages.specs.declared.diagnostic_data.DiagnosticData.{DiagnosticData}
 use Rattle.gql_document_build.specs.Builders as document
 use Rattle.gql_document_types.specs.declared.document.ExecutableDocument.{ExecutableDocument}
-use Rattle.gql_parser.specs.DocumentsRead.{IsDocumentRead, IsDocumentStopped}
-use Rattle.gql_parser.specs.FileRead.{IsFileRead, no_document, no_faults}
-use Rattle.gql_parser.specs.Parsers.{ParserState, Given}
+use Rattle.gql_texts.specs.DocumentsRead.{IsDocumentRead, IsDocumentStopped}
+use Rattle.gql_texts.specs.FileRead.{IsFileRead, no_document, no_faults}
+use Rattle.gql_texts.specs.Parsers.{ParserState, Given}
 use Rattle.gql_schema.specs.Builders as schema
 use Rattle.gql_schema.specs.BuiltInSchema.{IsBuiltIn}
 use Rattle.gql_schema_build.specs.declared.built_in.BuiltIn.{BuiltIn}

@@ -6,9 +6,9 @@ use Rattle.gql_ast_laws.specs.Meant.{IsDocumentOf}
 use Rattle.gql_cst_grammar.specs.declared.rule.Rule.TheVariants as rule
 use Rattle.gql_document_build.specs.Builders.{Taken, with_document, nothing_taken, built, all_faults}
 use Rattle.gql_document_types.specs.declared.document.ExecutableDocument.{ExecutableDocument}
-use Rattle.gql_parser.specs.FileRead.{no_faults}
-use Rattle.gql_parser.specs.Parsers.{Given, fresh, given_next, its_file}
-use Rattle.gql_parser.specs.Readings.{IsSentenceWithin}
+use Rattle.gql_texts.specs.FileRead.{no_faults}
+use Rattle.gql_texts.specs.Parsers.{Given, fresh, given_next, its_file}
+use Rattle.gql_texts.specs.Readings.{IsSentenceWithin}
 use Rattle.gql_rules.specs.DocumentFaults.{AreDocumentFaults}
 use Rattle.gql_schema_types.specs.declared.schema.Schema.{Schema}
 

@@ -1,3 +1,12 @@
+pub mod Parsers
+pub mod Readings
+pub mod Diagnosed
+pub mod DocumentsRead
+pub mod TypesRead
+pub mod FileRead
+pub mod SchemasRead
+pub mod ExecutablesRead
+pub mod FieldSetsRead
 -- The text of the built-in definitions.
 pub mod BuiltInText
 pub mod SchemaText

@@ -16,8 +16,8 @@ use Rattle.gql_schema_build.specs.declared.built_in.BuiltIn.{BuiltIn}
 use Rattle.gql_schema.specs.Scalars.{validated}
 use Rattle.gql_schema.specs.SchemaFaults.{AreSchemaFaults}
 use Rattle.gql_schema_types.specs.declared.schema.Schema.{Schema}
-use Rattle.gql_parser.specs.FileRead.{IsFileRead, no_faults}
-use Rattle.gql_parser.specs.Parsers.{ParserState, Given}
+use Rattle.gql_texts.specs.FileRead.{IsFileRead, no_faults}
+use Rattle.gql_texts.specs.Parsers.{ParserState, Given}
 
 -- ---- both builds
 

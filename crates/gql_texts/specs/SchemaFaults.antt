@@ -8,8 +8,8 @@ use Rattle.gql_cst_lexer.specs.declared.error.CstError.{CstError}
 use Rattle.gql_diag.specs.List.{Diagnostics, IsStableSort}
 use Rattle.gql_diag.specs.Order.{list_order}
 use Rattle.gql_diag_messages.specs.declared.diagnostic_data.DiagnosticData.{DiagnosticData}
-use Rattle.gql_parser.specs.Diagnosed.{diagnostic}
-use Rattle.gql_parser.specs.Parsers.{fresh, its_file}
+use Rattle.gql_texts.specs.Diagnosed.{diagnostic}
+use Rattle.gql_texts.specs.Parsers.{fresh, its_file}
 use Rattle.gql_schema.specs.BuiltInSchema.{built_in_sources}
 use Rattle.gql_schema.specs.Builders.{Taken, built, all_faults}
 use Rattle.gql_schema.specs.SchemaFaults.{AreSchemaFaults}

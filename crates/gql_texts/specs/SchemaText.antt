@@ -4,9 +4,9 @@ use Rattle.gql_cst_grammar.specs.declared.rule.Rule.TheVariants as rule
 use Rattle.gql_ast.specs.declared.definition.Definition.{Definition}
 use Rattle.gql_ast.specs.declared.document.Document.{Document}
 use Rattle.gql_ast_laws.specs.Meant.{IsDocumentOf}
-use Rattle.gql_parser.specs.FileRead.{no_faults}
-use Rattle.gql_parser.specs.Parsers.{Given, fresh, given_next, its_file}
-use Rattle.gql_parser.specs.Readings.{IsSentenceWithin}
+use Rattle.gql_texts.specs.FileRead.{no_faults}
+use Rattle.gql_texts.specs.Parsers.{Given, fresh, given_next, its_file}
+use Rattle.gql_texts.specs.Readings.{IsSentenceWithin}
 use Rattle.gql_schema.specs.BuiltInSchema.{IsBuiltIn, built_in_sources}
 use Rattle.gql_schema.specs.Builders.{Taken, with_document, nothing_taken, built, all_faults}
 use Rattle.gql_schema_build.specs.declared.built_in.BuiltIn.{BuiltIn}

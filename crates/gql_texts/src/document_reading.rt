@@ -2,9 +2,9 @@
 
 ghost use Rattle.gql_texts.specs.DocumentAnswers.{IsBuildRead, IsDocumentAnswer, IsRuled};
 
+use crate::parser::Parser;
 use gql_diag::DiagnosticList;
 use gql_document_types::ExecutableDocument;
-use gql_parser::Parser;
 use gql_rules::validate_document;
 use gql_schema_types::{Schema, Valid};
 use gql_source::FileIds;

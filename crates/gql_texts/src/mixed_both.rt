@@ -4,8 +4,8 @@ ghost use Rattle.std.specs.Prelude.{List};
 ghost use Rattle.gql_diag.specs.List.{IsStableSort};
 ghost use Rattle.gql_diag.specs.Order.{list_order};
 ghost use Rattle.gql_diag_messages.specs.declared.diagnostic_data.DiagnosticData as item;
-ghost use Rattle.gql_parser.specs.FileRead.{IsFileRead};
-ghost use Rattle.gql_parser.specs.Parsers.{Given, ParserState};
+ghost use Rattle.gql_texts.specs.FileRead.{IsFileRead};
+ghost use Rattle.gql_texts.specs.Parsers.{Given, ParserState};
 ghost use Rattle.gql_texts.specs.MixedBuilt.{IsDocumentRuled};
 ghost use Rattle.gql_texts.specs.MixedRead.{IsMixedAnswer};
 

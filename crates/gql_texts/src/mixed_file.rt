@@ -2,13 +2,13 @@
 
 ghost use Rattle.std.specs.Prelude.{◌≡◌, ◌+◌, ◌<◌, ◌^◌, IfOk};
 ghost use Rattle.gql_cst_grammar.specs.declared.rule.Rule.TheVariants as rule;
-ghost use Rattle.gql_parser.specs.FileRead.{IsFileRead, no_document as document_without, no_faults as no_faults_of};
-ghost use Rattle.gql_parser.specs.Parsers.{given_next};
-ghost use Rattle.gql_parser.specs.Readings.{IsLeft};
+ghost use Rattle.gql_texts.specs.FileRead.{IsFileRead, no_document as document_without, no_faults as no_faults_of};
+ghost use Rattle.gql_texts.specs.Parsers.{given_next};
+ghost use Rattle.gql_texts.specs.Readings.{IsLeft};
 
+use crate::parser::Parser;
 use gql_ast::Document;
 use gql_diag::DiagnosticList;
-use gql_parser::Parser;
 use gql_source::{FileIds, SourceMap};
 use jb_text::{Listed, Memory, Refused};
 use std::alloc::{AllocError, Global};

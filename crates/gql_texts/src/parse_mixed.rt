@@ -2,15 +2,15 @@
 
 ghost use Rattle.std.specs.Prelude.{◌≡◌, ◌+◌, ◌<◌, ◌^◌};
 ghost use Rattle.gql_cst_grammar.specs.declared.rule.Rule.TheVariants as rule;
-ghost use Rattle.gql_parser.specs.Parsers.{given_next};
-ghost use Rattle.gql_parser.specs.Readings.{IsLeft};
+ghost use Rattle.gql_texts.specs.Parsers.{given_next};
+ghost use Rattle.gql_texts.specs.Readings.{IsLeft};
 ghost use Rattle.gql_texts.specs.MixedRead.{IsMixedAnswer};
 
 use crate::mixed_both::both;
 use crate::mixed_file::read_file;
+use crate::parser::Parser;
 use gql_diag::DiagnosticList;
 use gql_document_types::ExecutableDocument;
-use gql_parser::Parser;
 use gql_schema_types::{Schema, Valid};
 use gql_source::FileIds;
 use jb_text::Refused;

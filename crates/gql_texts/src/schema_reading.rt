@@ -6,9 +6,9 @@ ghost use Rattle.gql_source.specs.File.{joined};
 ghost use Rattle.gql_schema.specs.Builders.{taken};
 ghost use Rattle.gql_texts.specs.SchemaAnswers.{HasTaken, IsBuildRead, IsBuiltBy, IsDocumentRead, IsRuled, IsSchemaRead};
 
+use crate::parser::Parser;
 use gql_ast::Document;
 use gql_diag::{DiagnosticData, DiagnosticList};
-use gql_parser::Parser;
 use gql_schema::{SchemaBuilder, validate_schema};
 use gql_schema_types::Schema;
 use gql_source::{FileIds, SourceMap};

@@ -1,7 +1,7 @@
 use Rattle.std.proofs.Common.{◌∙◌, ℕ, codes, Ok, Err, ap, subst}
 use Rattle.jb_text.specs.declared.refused.Refused.TheVariants.{Fault}
-use Rattle.gql_parser.specs.ExecutablesRead.{IsBuilt}
-use Rattle.gql_parser.specs.Parsers.{ParserState, given_next}
+use Rattle.gql_texts.specs.ExecutablesRead.{IsBuilt}
+use Rattle.gql_texts.specs.Parsers.{ParserState, given_next}
 use Rattle.gql_texts.proofs.Phases.{is_built, is_refused}
 use Rattle.gql_texts.proofs.document_reading.build_read.Goals as goal
 

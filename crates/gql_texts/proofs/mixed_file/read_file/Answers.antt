@@ -1,4 +1,4 @@
-use Rattle.gql_parser.specs.Parsers.{given_next}
+use Rattle.gql_texts.specs.Parsers.{given_next}
 use Rattle.gql_texts.proofs.Steps.{file_stopped, file_whole}
 use Rattle.gql_texts.proofs.mixed_file.read_file.Goals as goal
 

@@ -1,6 +1,6 @@
 use Rattle.std.proofs.Common.{◌∙◌, ℕ, codes, ap, subst}
-use Rattle.gql_parser.specs.DocumentsRead.{IsDocumentStopped}
-use Rattle.gql_parser.specs.Parsers.{ParserState, given_next}
+use Rattle.gql_texts.specs.DocumentsRead.{IsDocumentStopped}
+use Rattle.gql_texts.specs.Parsers.{ParserState, given_next}
 use Rattle.gql_texts.proofs.SchemaPhases.{is_stopped}
 use Rattle.gql_texts.proofs.schema_reading.read.Goals as goal
 

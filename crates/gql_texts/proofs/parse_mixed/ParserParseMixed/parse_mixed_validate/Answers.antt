@@ -1,4 +1,4 @@
-use Rattle.gql_parser.specs.Parsers.{given_next}
+use Rattle.gql_texts.specs.Parsers.{given_next}
 use Rattle.gql_texts.proofs.Steps.{no_answer}
 use Rattle.gql_texts.proofs.parse_mixed.ParserParseMixed.parse_mixed_validate.Goals as goal
 

@@ -1,5 +1,0 @@
-mod Answering
-mod Gathered
-mod Judging
-mod Ordered
-mod Shallow

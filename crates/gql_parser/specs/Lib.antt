@@ -1,9 +1,0 @@
-pub mod Parsers
-pub mod Readings
-pub mod Diagnosed
-pub mod DocumentsRead
-pub mod TypesRead
-pub mod FileRead
-pub mod SchemasRead
-pub mod ExecutablesRead
-pub mod FieldSetsRead
