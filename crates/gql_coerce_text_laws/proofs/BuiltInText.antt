@@ -37,7 +37,7 @@ use Rattle.gql_schema_build.specs.declared.built_in.BuiltIn.{BuiltIn}
 use Rattle.gql_schema_build.specs.declared.type_definition.TypeDefinition.{TypeDefinition}
 use Rattle.gql_schema_build.specs.declared.type_definition.TypeDefinition.TheVariants.{InputObject}
 use Rattle.gql_source.specs.declared.file_id.FileId.{FileId}
-use Rattle.gql_texts.specs.BuiltInText.{built_in_text}
+use Rattle.gql_parser.specs.BuiltInText.{built_in_text}
 use Rattle.gql_coerce_text_laws.proofs.Forests.{planted}
 use Rattle.gql_coerce_text_laws.proofs.Found.{the}
 use Rattle.gql_coerce_text_laws.proofs.Readings.{ReadAs, read}

@@ -15,7 +15,7 @@ use Rattle.gql_ast_definitions.specs.declared.field_definition.InputValueDefinit
 use Rattle.gql_ast_definitions.specs.declared.schema_definition.DirectiveLocation.TheVariants as at
 use Rattle.gql_ast_laws.specs.Meant.{IsDocumentOf}
 use Rattle.gql_diag_messages.specs.declared.rule.Rule.TheVariants.{UndefinedDefinition, InputType}
-use Rattle.gql_texts.specs.Parsers.{its_file}
+use Rattle.gql_parser.specs.Parsers.{its_file}
 use Rattle.gql_rules_base.specs.Faults.{fault, name_fault}
 use Rattle.gql_rules_base.specs.Known.{is_built_in_scalar, is_known}
 use Rattle.gql_ast_base.specs.TypeParts.{named_type}
@@ -29,7 +29,7 @@ use Rattle.gql_schema_build.specs.TypeSystems.{no_definitions}
 use Rattle.gql_schema_build.specs.TypeTable.{types}
 use Rattle.gql_schema_build.specs.declared.built_in.BuiltIn.{BuiltIn}
 use Rattle.gql_schema_build.specs.declared.type_system.TypeSystem.{TypeSystem}
-use Rattle.gql_texts.specs.BuiltInText.{is_scalar_of}
+use Rattle.gql_parser.specs.BuiltInText.{is_scalar_of}
 use Rattle.gql_coerce_text_laws.proofs.BuiltInText.{is_input_object}
 use Rattle.gql_schema.specs.Scalars.{input_names, built_in_scalars, validated}
 use Rattle.gql_schema.specs.SchemaFaults.{AreSchemaFaults, parts_faults}
@@ -46,7 +46,7 @@ use Rattle.gql_schema_types.specs.declared.schema.Schema.{Schema}
 use Rattle.gql_schema_types.specs.declared.types.ExtendedType.{ExtendedType}
 use Rattle.gql_schema_types.specs.declared.types.ExtendedType.TheVariants as type
 use Rattle.gql_schema_types.specs.declared.types.InputObjectType.{InputObjectType}
-use Rattle.gql_texts.specs.SchemaText.{SchemaText, AreDefinitions, all_of, its_given}
+use Rattle.gql_parser.specs.SchemaText.{SchemaText, AreDefinitions, all_of, its_given}
 use Rattle.gql_coerce_text_laws.proofs.Scalars.{scalar-scalar}
 use Rattle.gql_coerce.specs.InputTypes.{as_input_object}
 use Rattle.gql_coerce_laws.specs.Inputs.{is_input, IsInputField, AreInputFields}

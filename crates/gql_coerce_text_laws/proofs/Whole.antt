@@ -15,7 +15,7 @@ use Rattle.gql_document_build.specs.Definitions.{with_definition, with_definitio
 use Rattle.gql_document_build.specs.OperationNameCollision.{with_option, is_first, first_or_none, first_after, first_operations}
 use Rattle.gql_document_build.specs.UndefinedRootOperation.{root_type}
 use Rattle.gql_document_build.specs.declared.executable_definitions.ExecutableDefinitions.{ExecutableDefinitions}
-use Rattle.gql_texts.specs.DocumentText.{DocumentText, its_given}
+use Rattle.gql_parser.specs.DocumentText.{DocumentText, its_given}
 use Rattle.gql_document_types.specs.declared.document.ExecutableDocument.{ExecutableDocument}
 use Rattle.gql_document_types.specs.declared.operation.Operation.{Operation}
 use Rattle.gql_schema_types.specs.declared.schema.Schema.{Schema}

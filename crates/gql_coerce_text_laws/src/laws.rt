@@ -4,15 +4,15 @@ ghost use Rattle.std.specs.Prelude.{ℕ, List};
 ghost use Rattle.std.specs.List.{All};
 ghost use Rattle.gql_coerce_laws.specs.Inputs.{AreInputFields, IsInputVariable};
 ghost use Rattle.gql_coerce_text_laws.specs.Marks.{LeavesNoMark};
-ghost use Rattle.gql_texts.specs.DocumentText.{DocumentText};
+ghost use Rattle.gql_parser.specs.DocumentText.{DocumentText};
 ghost use Rattle.gql_document_types.specs.declared.document.ExecutableDocument.{ExecutableDocument as DocumentOf};
-ghost use Rattle.gql_texts.specs.SchemaText.{SchemaText};
+ghost use Rattle.gql_parser.specs.SchemaText.{SchemaText};
 ghost use Rattle.gql_schema_types.specs.declared.schema.Schema.{Schema as SchemaOf};
 
 use gql_ast_laws::laws as tree_laws;
 use gql_coerce_laws::laws as coercion_laws;
 use gql_cst_grammar::laws as grammar_laws;
-use gql_texts::laws as text_laws;
+use gql_parser::laws as text_laws;
 
 /// In a schema that a text means, each input field is of an input type and has a constant default, if it has one; and so is and
 /// has each variable of a document that a text means against the schema. So no fault that comes of coercing values to the

@@ -9,9 +9,9 @@ use Rattle.gql_coerce.specs.Variables.{coerced_variables}
 use Rattle.gql_coerce.specs.declared.fault.CoercionFault.{CoercionFault}
 use Rattle.gql_diag.specs.List.{Diagnostics}
 use Rattle.gql_response.specs.RequestFault.{request_error}
-use Rattle.gql_texts.specs.DocumentFaults.{DocumentFaults}
-use Rattle.gql_texts.specs.DocumentText.{DocumentText}
-use Rattle.gql_texts.specs.SameFaults.{TellTheSame}
+use Rattle.gql_parser.specs.DocumentFaults.{DocumentFaults}
+use Rattle.gql_parser.specs.DocumentText.{DocumentText}
+use Rattle.gql_parser.specs.SameFaults.{TellTheSame}
 use Rattle.gql_document_types.specs.ChosenOperation.{chosen, refusal, why_none}
 use Rattle.gql_document_types.specs.declared.document.ExecutableDocument.{ExecutableDocument}
 use Rattle.gql_document_types.specs.declared.operation.Operation.{Operation}
@@ -22,8 +22,8 @@ use Rattle.gql_exec_plan.specs.Refusal.{IsFoundDeep, too_deep}
 use Rattle.gql_exec_plan.specs.View.{fragments_nested, nested}
 use Rattle.gql_exec_plan.specs.RequestErrors.{request_error as fault_told}
 use Rattle.gql_response.specs.declared.graphql_error.GraphQLError.{GraphQLError}
-use Rattle.gql_texts.specs.SchemaFaults.{SchemaFaults}
-use Rattle.gql_texts.specs.SchemaText.{SchemaText}
+use Rattle.gql_parser.specs.SchemaFaults.{SchemaFaults}
+use Rattle.gql_parser.specs.SchemaText.{SchemaText}
 use Rattle.gql_schema_types.specs.declared.schema.Schema.{Schema}
 use Rattle.gql_engine.specs.declared.answer_error.AnswerError.{AnswerError}
 use Rattle.gql_engine.specs.declared.answer_error.AnswerError.TheVariants as error

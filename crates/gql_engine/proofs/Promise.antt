@@ -10,7 +10,7 @@ use Rattle.gql_response.specs.declared.graphql_error.GraphQLError.{GraphQLError}
 use Rattle.gql_exec_plan.specs.NotAsked.{IsAsked, NotAsked, no_text, no_request}
 use Rattle.gql_exec_plan.specs.Request.{Asked, asked}
 use Rattle.gql_engine.specs.Meant.{AreFaults, Meant, no_schema, no_document}
-use Rattle.gql_texts.specs.DocumentText.{DocumentText}
+use Rattle.gql_parser.specs.DocumentText.{DocumentText}
 use Rattle.gql_schema_types.specs.declared.schema.Schema.{Schema}
 use Rattle.gql_engine.specs.declared.task.Task.TheVariants.{Request}
 use Rattle.gql_engine.specs.declared.task.Wish.{Wish}

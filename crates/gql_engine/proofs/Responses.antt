@@ -34,7 +34,7 @@ use Rattle.gql_engine.specs.declared.refusal.Refusal.{Refusal}
 use Rattle.gql_engine.specs.declared.refusal.Refusal.TheVariants as refused
 use Rattle.gql_engine.specs.declared.response_bytes.Written.{Written}
 use Rattle.gql_engine.specs.AnswerError.{Asks, Call, HasCause, IsObjectText, wanted_with}
-use Rattle.gql_texts.specs.Selecting.{SelectsSomething}
+use Rattle.gql_parser.specs.Selecting.{SelectsSomething}
 use Rattle.gql_engine.specs.Answered.{ExecutionLooks, IsPrint, IsResponseBy, IsResponseOver, IsResultOf, IsRoot}
 use Rattle.gql_engine.specs.Answering.{Answers, AnswersWithin}
 use Rattle.gql_engine.specs.Depths.{IsShallow, all_selections, depth_looks}

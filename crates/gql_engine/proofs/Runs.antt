@@ -2,12 +2,12 @@
 use Rattle.std.proofs.Common.{◌≡◌, ℕ, Bool, true, false, cond, List, [], ◌∷◌, Option, Some, None, is_some, refl, subst}
 use Rattle.std.specs.List.{All, find}
 use Rattle.std.proofs.lemmas.List.Elements.{All-head, All-tail}
-use Rattle.gql_texts.specs.Running.{AreOnRoots, IsOnRoot}
-use Rattle.gql_texts.specs.Selecting.{SelectSomething, SelectsSomething}
+use Rattle.gql_parser.specs.Running.{AreOnRoots, IsOnRoot}
+use Rattle.gql_parser.specs.Selecting.{SelectSomething, SelectsSomething}
 use Rattle.gql_document_types.specs.ChosenOperation.{chosen, has_name}
 use Rattle.gql_document_types.specs.declared.document.ExecutableDocument.{ExecutableDocument}
 use Rattle.gql_document_types.specs.declared.operation.Operation.{Operation}
-use Rattle.gql_texts.specs.Roots.{AreRootsObjects}
+use Rattle.gql_parser.specs.Roots.{AreRootsObjects}
 use Rattle.gql_schema_types.specs.Schemas.{object_of}
 use Rattle.gql_schema_types.specs.declared.schema.Schema.{Schema}
 use Rattle.gql_engine.proofs.Results.{same_some, some_or_none}

@@ -3,7 +3,7 @@ use Rattle.std.proofs.Common.{◌≡◌, ◌<◌, ◌≤◌, ◌+◌, ◌^◌, �
 use Rattle.gql_engine.specs.Answered.{ExecutionLooks, IsRoot}
 use Rattle.gql_engine.specs.Depths.{depth_looks}
 use Rattle.gql_engine.specs.Wanted.{Members}
-use Rattle.gql_texts.specs.DocumentText.{DocumentText}
+use Rattle.gql_parser.specs.DocumentText.{DocumentText}
 use Rattle.gql_document_types.specs.ChosenOperation.{chosen}
 use Rattle.gql_document_types.specs.declared.document.ExecutableDocument.{ExecutableDocument}
 use Rattle.gql_document_types.specs.declared.operation.Operation.{Operation}
@@ -15,7 +15,7 @@ use Rattle.gql_exec_resolve.specs.DataMeaning.{data_meaning}
 use Rattle.gql_exec_plan.specs.NotAsked.{IsAsked}
 use Rattle.gql_exec_plan.specs.Request.{Asked}
 use Rattle.gql_exec_plan.specs.SelfTest.{self_test}
-use Rattle.gql_texts.specs.SchemaText.{SchemaText}
+use Rattle.gql_parser.specs.SchemaText.{SchemaText}
 use Rattle.gql_schema_types.specs.declared.schema.Schema.{Schema}
 use Rattle.gql_schema_types.specs.declared.types.ObjectType.{ObjectType}
 use Rattle.gql_self_test_laws.specs.Meaning.{IsSelfTest}

@@ -5,9 +5,9 @@ use Rattle.jb_tree.specs.declared.value.Value.{Value}
 use Rattle.jb_tree.specs.Value.{object_members}
 use Rattle.jb_read.specs.Spelling.{JsonText}
 use Rattle.jb_read.specs.Faults.{JsonFault}
-use Rattle.gql_texts.specs.SameFaults.{TellTheSame}
+use Rattle.gql_parser.specs.SameFaults.{TellTheSame}
 use Rattle.gql_document_types.specs.ChosenOperation.{text_of}
-use Rattle.gql_texts.specs.SchemaFaults.{SchemaFaults}
+use Rattle.gql_parser.specs.SchemaFaults.{SchemaFaults}
 use Rattle.gql_engine.specs.Meant.{IsNoDocument}
 use Rattle.gql_engine.specs.Ready.{Ready}
 use Rattle.gql_engine.specs.Unanswered.{IsUnchosen, IsTooDeep, IsUncoerced}

@@ -4,11 +4,11 @@ use Rattle.std.specs.Prelude.{ℕ, List, Option, Some, None, Result, Ok, Err}
 use Rattle.jb_text.specs.declared.refused.Refused.{Refused}
 use Rattle.jb_text.specs.declared.refused.Refused.TheVariants.{Fault, Memory}
 use Rattle.gql_diag.specs.List.{Diagnostics}
-use Rattle.gql_texts.specs.DocumentFaults.{DocumentFaults}
-use Rattle.gql_texts.specs.DocumentText.{DocumentText}
+use Rattle.gql_parser.specs.DocumentFaults.{DocumentFaults}
+use Rattle.gql_parser.specs.DocumentText.{DocumentText}
 use Rattle.gql_document_types.specs.declared.document.ExecutableDocument.{ExecutableDocument}
-use Rattle.gql_texts.specs.SchemaFaults.{SchemaFaults}
-use Rattle.gql_texts.specs.SchemaText.{SchemaText}
+use Rattle.gql_parser.specs.SchemaFaults.{SchemaFaults}
+use Rattle.gql_parser.specs.SchemaText.{SchemaText}
 use Rattle.gql_schema_types.specs.declared.schema.Schema.{Schema}
 use Rattle.gql_engine.specs.declared.meaning.TextFaults.{TextFaults}
 use Rattle.gql_engine.specs.declared.meaning.TextFaults.TheVariants as faults

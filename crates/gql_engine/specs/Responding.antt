@@ -10,7 +10,7 @@ use Rattle.gql_document_types.specs.declared.operation.Operation.{Operation}
 use Rattle.gql_exec_request.specs.ThingMeaning.{Resolving}
 use Rattle.gql_diag.specs.Refusal.{errors_of}
 use Rattle.gql_response.specs.declared.graphql_error.GraphQLError.{GraphQLError}
-use Rattle.gql_texts.specs.SchemaFaults.{SchemaFaults}
+use Rattle.gql_parser.specs.SchemaFaults.{SchemaFaults}
 use Rattle.gql_schema_types.specs.declared.schema.Schema.{Schema}
 use Rattle.gql_source.specs.File.{Files}
 use Rattle.gql_engine.specs.Meant.{IsNoDocument}

@@ -16,7 +16,7 @@ use crate::wanted::Wanted;
 use bytes::Bytes;
 use gql_exec_plan::Steps;
 use gql_exec_resolve::ObjectValue;
-use gql_texts::laws as text_laws;
+use gql_parser::laws as text_laws;
 use jb_read::{from_bytes_whole, laws};
 use jb_tree::{Refused, Value};
 use std::alloc::Global;

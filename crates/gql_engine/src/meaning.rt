@@ -1,13 +1,13 @@
 //! What two texts mean.
 
 ghost use Rattle.std.specs.Prelude.{◌≡◌, ℕ, List, IfOk};
-ghost use Rattle.gql_texts.specs.SchemaText.{SchemaText};
+ghost use Rattle.gql_parser.specs.SchemaText.{SchemaText};
 ghost use Rattle.gql_engine.specs.Meant.{AreTextsChecked, AreTextsRead, list_in};
 
 use gql_diag::DiagnosticList;
 use gql_document_types::ExecutableDocument;
 use gql_schema_types::{Schema, Valid};
-use gql_texts::{document_of_text, schema_of_text};
+use gql_parser::{document_of_text, schema_of_text};
 use jb_text::{Memory, Refused};
 use std::alloc::{AllocError, Global};
 

@@ -14,7 +14,7 @@ use crate::output::{Output, output_of, self_test};
 use crate::task::{Task, Wish, task_asked};
 use bytes::Bytes;
 use gql_exec_plan::Steps;
-use gql_texts::laws as text_laws;
+use gql_parser::laws as text_laws;
 use jb_io::{
     ANSWERED, InputFault, MISUSED, NO_MEMORY, REFUSED, SINK_FAILED, SOURCE_FAILED, Sink, SinkFault,
     Source, SureSink, SureSource, TOO_LONG, read_to_end, write_all,

@@ -19,7 +19,7 @@ use gql_exec_plan::Steps;
 use gql_exec_request::Execution;
 use gql_exec_resolve::ObjectValue;
 use gql_schema_types::Valid;
-use gql_texts::laws as text_laws;
+use gql_parser::laws as text_laws;
 use jb_tree::{Memory, Refused};
 use std::alloc::{AllocError, Global};
 use std::sync::ledger::Ledger;

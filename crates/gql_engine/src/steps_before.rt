@@ -16,7 +16,7 @@ use gql_diag::JsonMap;
 use gql_document_types::Operation;
 use gql_exec_plan::{Steps, check_max_depth, coerce_variable_values};
 use gql_schema_types::Valid;
-use gql_texts::laws as text_laws;
+use gql_parser::laws as text_laws;
 use jb_tree::Refused;
 use std::alloc::Global;
 use std::sync::ledger::Ledger;

@@ -20,7 +20,7 @@ use Rattle.gql_schema_build.specs.TypeSystems.{with_definitions, no_definitions}
 use Rattle.gql_schema_build.specs.declared.built_in.BuiltIn.{BuiltIn}
 use Rattle.gql_schema_build.specs.declared.type_definition.TypeDefinition.{TypeDefinition}
 use Rattle.gql_source.specs.declared.file_id.FileId.{FileId}
-use Rattle.gql_texts.specs.BuiltInText.{built_in_text}
+use Rattle.gql_parser.specs.BuiltInText.{built_in_text}
 use Rattle.gql_self_test_laws.proofs.Computed.{tokens_computed}
 use Rattle.gql_self_test_laws.proofs.Forests.{planted}
 use Rattle.gql_self_test_laws.proofs.Found.{the}

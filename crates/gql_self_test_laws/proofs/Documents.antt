@@ -16,8 +16,8 @@ use Rattle.gql_document_build.specs.Builders.{Taken, built}
 use Rattle.gql_document_build.specs.Definitions.{with_definitions, no_definitions}
 use Rattle.gql_document_build.specs.Made as made
 use Rattle.gql_document_build.specs.Nodes.{is_leaf}
-use Rattle.gql_texts.specs.DocumentText.{DocumentText}
-use Rattle.gql_texts.proofs.Made.{made_field}
+use Rattle.gql_parser.specs.DocumentText.{DocumentText}
+use Rattle.gql_parser.proofs.Made.{made_field}
 use Rattle.gql_document_types.specs.ChosenOperation.{chosen}
 use Rattle.gql_ast_base.specs.TypeParts.{named_type}
 use Rattle.gql_document_types.specs.declared.document.ExecutableDocument.{ExecutableDocument}
@@ -25,7 +25,7 @@ use Rattle.gql_document_types.specs.declared.operation.Operation.{Operation}
 use Rattle.gql_document_types.specs.declared.selection.Field.{Field}
 use Rattle.gql_document_types.specs.declared.selection.Selection.{Selection}
 use Rattle.gql_document_types.specs.declared.selection.Selection.TheVariants as selection
-use Rattle.gql_texts.specs.SchemaText.{SchemaText}
+use Rattle.gql_parser.specs.SchemaText.{SchemaText}
 use Rattle.gql_schema_types.specs.Schemas.{field_of, object_of}
 use Rattle.gql_schema_types.specs.Types.{type_called}
 use Rattle.gql_schema_types.specs.declared.schema.Schema.{Schema}

@@ -18,7 +18,7 @@ use Rattle.gql_schema_build.specs.TypeTable.{types}
 use Rattle.gql_schema_build.specs.declared.type_definition.TypeDefinition.{TypeDefinition}
 use Rattle.gql_schema_build.specs.KindsBuilt.{object_type}
 use Rattle.gql_schema.specs.Scalars.{validated_types}
-use Rattle.gql_texts.specs.SchemaText.{SchemaText}
+use Rattle.gql_parser.specs.SchemaText.{SchemaText}
 use Rattle.gql_schema_types.specs.Schemas.{field_on}
 use Rattle.gql_schema_types.specs.Types.{as_object, type_called}
 use Rattle.gql_schema_types.specs.declared.schema.Schema.{Schema}

@@ -1,14 +1,14 @@
 //! Laws of the definitions alone.
 
 ghost use Rattle.std.specs.Prelude.{◌≡◌, ◌<◌, ◌^◌, ℕ, List, Option, Some};
-ghost use Rattle.gql_texts.specs.DocumentText.{DocumentText};
+ghost use Rattle.gql_parser.specs.DocumentText.{DocumentText};
 ghost use Rattle.gql_document_types.specs.ChosenOperation.{chosen};
 ghost use Rattle.gql_document_types.specs.declared.document.ExecutableDocument.{ExecutableDocument as DocumentOf};
 ghost use Rattle.gql_document_types.specs.declared.operation.Operation.{Operation as OperationOf};
 ghost use Rattle.gql_exec_plan.specs.NotAsked.{IsAsked};
 ghost use Rattle.gql_exec_plan.specs.Request.{Asked};
 ghost use Rattle.gql_exec_plan.specs.SelfTest.{self_test};
-ghost use Rattle.gql_texts.specs.SchemaText.{SchemaText};
+ghost use Rattle.gql_parser.specs.SchemaText.{SchemaText};
 ghost use Rattle.gql_schema_types.specs.declared.schema.Schema.{Schema as SchemaOf};
 ghost use Rattle.gql_self_test_laws.specs.Meaning.{IsSelfTest};
 ghost use Rattle.gql_self_test_laws.specs.Texts.{query_text, schema_text};

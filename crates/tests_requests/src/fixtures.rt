@@ -11,7 +11,7 @@ use gql_exec_request::Execution;
 use gql_exec_resolve::ObjectValue;
 use gql_schema_types::{Schema, Valid};
 use gql_source::{FileIds, SourceMap};
-use gql_texts::Parser;
+use gql_parser::Parser;
 use jb_read::from_str;
 use jb_text::{Memory, Refused};
 use std::alloc::Global;

@@ -9,7 +9,7 @@ use bytes::Bytes;
 use gql_diag::WithErrors;
 use gql_document_build::ExecutableDocumentBuilder;
 use gql_source::FileIds;
-use gql_texts::Parser;
+use gql_parser::Parser;
 use jb_text::{Memory, Refused};
 use std::alloc::Global;
 use std::mem::{ManuallyDrop, forget};

@@ -6,7 +6,7 @@ use bytes::Bytes;
 use gql_ast_base::Name;
 use gql_document_types::{FieldSet, Selection};
 use gql_source::FileIds;
-use gql_texts::Parser;
+use gql_parser::Parser;
 use std::alloc::Global;
 use std::mem::ManuallyDrop;
 use std::test::Fail;

@@ -6,7 +6,7 @@ use bytes::Bytes;
 use gql_diag::refusal_of_request;
 use gql_document_types::{ExecutableDocument, Operation};
 use gql_source::FileIds;
-use gql_texts::Parser;
+use gql_parser::Parser;
 use jb_text::Refused;
 use std::alloc::Global;
 use std::mem::ManuallyDrop;

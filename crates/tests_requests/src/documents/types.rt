@@ -6,7 +6,7 @@ use bytes::Bytes;
 use gql_ast::print_type;
 use gql_ast_base::TypeRef;
 use gql_source::FileIds;
-use gql_texts::Parser;
+use gql_parser::Parser;
 use jb_text::{Memory, Refused};
 use std::alloc::Global;
 use std::test::Fail;

@@ -9,7 +9,7 @@ use gql_document::expand_fragments;
 use gql_document_types::ExecutableDocument;
 use gql_schema_types::{Schema, Valid};
 use gql_source::FileIds;
-use gql_texts::Parser;
+use gql_parser::Parser;
 use jb_text::Refused;
 use std::alloc::Global;
 use std::mem::{ManuallyDrop, forget};

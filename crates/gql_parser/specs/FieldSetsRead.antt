@@ -1,0 +1,73 @@
+-- What comes of a file that is read as selections on a type.
+use Rattle.std.specs.Prelude.{◌≡◌, ◌⊎◌, ◌++◌, List, [], Some, None, Result, Ok, Err}
+use Rattle.jb_text.specs.declared.refused.Refused.{Refused}
+use Rattle.jb_text.specs.declared.refused.Refused.TheVariants.{Fault, Memory}
+use Rattle.gql_source.specs.declared.file_id.FileId.{FileId}
+use Rattle.gql_cst_lexer.specs.declared.error.CstError.{CstError}
+use Rattle.gql_cst_grammar.specs.declared.rule.Rule.TheVariants as rule
+use Rattle.gql_cst_grammar.specs.declared.syntax_kind.SyntaxKind.TheVariants as kind
+use Rattle.gql_cst.specs.declared.limits.Parsed.{Parsed}
+use Rattle.gql_cst.specs.declared.tree.Tree.{Tree}
+use Rattle.gql_cst.specs.Forest.{plain}
+use Rattle.gql_ast_base.specs.Names.{Named}
+use Rattle.gql_ast_base.specs.Parts.{Text, gather, inside}
+use Rattle.gql_ast_definitions.specs.declared.selection.Selection.{Selection}
+use Rattle.gql_ast_definitions.specs.Selections.{selection_of}
+use Rattle.gql_ast_laws.specs.Meant.{AreSelectionsOf}
+use Rattle.gql_diag.specs.List.{Diagnostics}
+use Rattle.gql_diag.specs.declared.with_errors.WithErrors.{WithErrors}
+use Rattle.gql_document_build.specs.FieldSets.{built, all_faults}
+use Rattle.gql_document_build.specs.Judged.{IsJudged}
+use Rattle.gql_document_types.specs.declared.document.FieldSet.{FieldSet}
+use Rattle.gql_schema_types.specs.declared.schema.Schema.{Schema}
+use Rattle.gql_parser.specs.Parsers.{ParserState, Given, its_file}
+use Rattle.gql_parser.specs.Readings.{IsWhole, IsStopped}
+use Rattle.gql_parser.specs.Diagnosed.{list_of}
+
+-- the list that has the file and tells nothing
+abbrev pub nothing_told : Given → Diagnostics
+nothing_told given = record { sources = its_file given; items = [] }
+
+-- the text is these selections, with braces around them or without, and nothing is told
+pub record AreSelectionsWhole (parser : ParserState) (given : Given) (read : List Selection) (errors : Diagnostics) : Type 0 where
+  pub parsed : Parsed
+  pub whole : IsWhole parser rule.FieldSet given.text parsed
+  pub mean : AreSelectionsOf given.text given.file read
+  pub told : errors ≡ nothing_told given
+
+-- the text is none: there is no selection, and the one diagnostic tells why
+pub record AreSelectionsStopped (parser : ParserState) (given : Given) (read : List Selection) (errors : Diagnostics) : Type 0 where
+  pub parsed : Parsed
+  pub error : CstError
+  pub stopped : IsStopped parser rule.FieldSet given.text parsed error
+  pub none : read ≡ []
+  pub told : errors ≡ list_of given error
+
+abbrev pub AreSelectionsRead : ParserState → Given → List Selection → Diagnostics → Type 0
+AreSelectionsRead parser given read errors = AreSelectionsWhole parser given read errors ⊎ AreSelectionsStopped parser given read errors
+
+-- the set of what was read on the type, judged by what was told and by the faults of the selections
+pub record IsBuilt (parser : ParserState) (given : Given) (schema : Schema) (ty : Named)
+    (answer : Result FieldSet (Refused (WithErrors FieldSet))) : Type 0 where
+  pub read : List Selection
+  pub errors : Diagnostics
+  pub are_read : AreSelectionsRead parser given read errors
+  pub judged : IsJudged (built schema ty read errors.sources) errors.sources (all_faults schema ty read errors) answer
+
+-- out of memory tells nothing
+abbrev pub IsFieldSetAnswer : ParserState → Given → Schema → Named → Result FieldSet (Refused (WithErrors FieldSet)) → Type 0
+IsFieldSetAnswer parser given schema ty (Ok set) = IsBuilt parser given schema ty (Ok set)
+IsFieldSetAnswer parser given schema ty (Err (Fault refusal)) = IsBuilt parser given schema ty (Err (Fault refusal))
+IsFieldSetAnswer parser given schema ty (Err Memory) = Unit {0}
+
+-- ---- the same of a parse that is there
+
+-- the selections in its tree, within braces and without
+abbrev pub selections_in : Text → FileId → Tree → List Selection
+selections_in text file tree =
+    gather (selection_of text file) (inside kind.SelectionSet (plain tree).children) ++ gather (selection_of text file) (plain tree).children
+
+abbrev pub AreSelectionsOfParse : Given → Parsed → List Selection → Diagnostics → Type 0
+AreSelectionsOfParse given parsed read errors =
+    ((parsed.error ≡ None) × (read ≡ selections_in given.text given.file parsed.tree) × (errors ≡ nothing_told given))
+    ⊎ ((error : CstError) × (parsed.error ≡ Some error) × (read ≡ []) × (errors ≡ list_of given error))

@@ -1,0 +1,48 @@
+-- The reading of a text by the grammar of GraphQL October 2021, appendix B, within the limits of a parser.
+use Rattle.std.specs.Prelude.{◌≡◌, ◌≤◌, ◌⊎◌, ℕ, List, length, Some, None, MatchOption}
+use Rattle.gql_cst_lexer.specs.declared.error.CstError.{CstError}
+use Rattle.gql_cst_grammar.specs.declared.rule.Rule.{Rule}
+use Rattle.gql_cst.specs.declared.limits.Limits.{Limits}
+use Rattle.gql_cst.specs.declared.limits.Parsed.{Parsed}
+use Rattle.gql_cst.specs.Forest.{Forest}
+use Rattle.gql_cst.specs.Leaves.{leaves}
+use Rattle.gql_cst.specs.Nesting.{nesting}
+use Rattle.gql_cst.specs.Outcome.{IsWithin}
+use Rattle.gql_cst.specs.Parses.{IsParse}
+use Rattle.gql_cst.specs.TreeOf.{IsTreeOf}
+use Rattle.gql_parser.specs.Parsers.{ParserState}
+
+-- the text is a sentence of the start, and neither its levels nor its tokens pass their limits
+pub record IsSentenceWithin (limits : Limits) (start : Rule) (text : List ℕ) : Type 0 where
+  pub children : Forest
+  pub tree : IsTreeOf start text children
+  pub nested : nesting children ≤ limits.recursion
+  pub counted : IsWithin limits.tokens (length (leaves children))
+
+-- the text was read from the start, and the parser tells how far
+pub record IsReading (parser : ParserState) (start : Rule) (text : List ℕ) (parsed : Parsed) : Type 0 where
+  pub parse : IsParse start text parser.limits parsed
+  pub recursion_reached : parser.recursion_reached ≡ parsed.recursion_reached
+  pub tokens_reached : parser.tokens_reached ≡ parsed.tokens_reached
+
+-- it was read to its end, and is a sentence within the limits
+pub record IsWhole (parser : ParserState) (start : Rule) (text : List ℕ) (parsed : Parsed) : Type 0 where
+  pub reading : IsReading parser start text parsed
+  pub no_error : parsed.error ≡ None
+  pub sentence : IsSentenceWithin parser.limits start text
+
+-- the reading ended by the error, and the text is no sentence within the limits
+pub record IsStopped (parser : ParserState) (start : Rule) (text : List ℕ) (parsed : Parsed) (error : CstError) : Type 0 where
+  pub reading : IsReading parser start text parsed
+  pub stands : parsed.error ≡ Some error
+  pub none : IsSentenceWithin parser.limits start text → ⊥
+
+-- each reading is one of the two
+abbrev pub IsJudged : ParserState → Rule → List ℕ → Parsed → Type 0
+IsJudged parser start text parsed =
+    MatchOption parsed.error (IsWhole parser start text parsed) (λ error. IsStopped parser start text parsed error)
+
+-- What a call leaves of a parser: its limits, and the counts of before, or those that tell how far the text was read.
+pub record IsLeft (old new : ParserState) (start : Rule) (text : List ℕ) : Type 0 where
+  pub limits : new.limits ≡ old.limits
+  pub counts : (new ≡ old) ⊎ ((parsed : Parsed) × IsReading new start text parsed)

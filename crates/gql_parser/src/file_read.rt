@@ -1,0 +1,83 @@
+//! What builders take of files.
+
+ghost use Rattle.std.specs.Prelude.{◌≡◌, IfOk};
+ghost use Rattle.gql_cst_grammar.specs.declared.rule.Rule.TheVariants as rule;
+ghost use Rattle.gql_parser.specs.Parsers.{given};
+ghost use Rattle.gql_parser.specs.Readings.{IsLeft};
+ghost use Rattle.gql_parser.specs.Diagnosed.{IsOrdered};
+ghost use Rattle.gql_parser.specs.FileRead.{IsFileOfParse, IsFileRead, no_document as document_without, no_faults as no_faults_of};
+
+use crate::parse_ast::document;
+use crate::parser::Parser;
+use crate::stopped::list_of;
+use gql_ast::Document;
+use gql_ast_laws::laws;
+use gql_cst::Parsed;
+use gql_diag::DiagnosticList;
+use gql_source::{FileId, SourceMap};
+use jb_text::{Listed, Memory};
+use std::alloc::Global;
+
+/// A document, and what is told beside it.
+#[derive(Drop)]
+pub(crate) struct FileRead {
+    pub(crate) document: Document,
+    pub(crate) errors: DiagnosticList,
+}
+
+impl Parser {
+    /// Reads a file for a builder: its document, or else no definition and what stopped the reading.
+    pub(crate) fn read_file(
+        &mut self,
+        alloc: Global,
+        source_text: &str,
+        path: &str,
+        file_id: FileId,
+    ) -> Result<FileRead, Memory>
+        ensures left { IsLeft self.old self.new rule.Document source_text.now }
+        ensures read { IfOk result (λ read. IsFileRead self.new (given file_id path.now source_text.now) read.document read.errors) }
+    {
+        laws::parses_mean_their_text();
+        let parsed = self.read_document(alloc, source_text)?;
+        file_of_parse(alloc, file_id, path, source_text, parsed)
+    }
+}
+
+/// The document of what was read, if it was read to its end, and else what stopped the reading.
+fn file_of_parse(
+    alloc: Global,
+    file_id: FileId,
+    path: &str,
+    text: &str,
+    parsed: Parsed,
+) -> Result<FileRead, Memory>
+    requires { IsOrdered parsed.error }
+    ensures { IfOk result (λ read. IsFileOfParse (given file_id path.now text.now) parsed read.document read.errors) }
+{
+    let Parsed { tree, error, .. } = parsed;
+    match error {
+        None => Ok(FileRead {
+            document: document(alloc, file_id, path, text, &tree)?,
+            errors: no_faults(alloc),
+        }),
+        Some(error) => Ok(FileRead {
+            document: no_document(alloc),
+            errors: list_of(alloc, file_id, path, text, &error)?,
+        }),
+    }
+}
+
+fn no_faults(alloc: Global) -> DiagnosticList
+    ensures { result ≡ no_faults_of }
+{
+    DiagnosticList::new(alloc, SourceMap::new(alloc))
+}
+
+fn no_document(alloc: Global) -> Document
+    ensures { result ≡ document_without }
+{
+    Document {
+        sources: SourceMap::new(alloc),
+        definitions: Listed::new(alloc),
+    }
+}

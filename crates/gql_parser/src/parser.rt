@@ -1,0 +1,134 @@
+//! A parser: its limits, and how far it read the last text.
+
+ghost use Rattle.std.specs.Prelude.{◌≡◌, Some, IfOk, OnErr};
+ghost use Rattle.gql_cst_grammar.specs.declared.rule.Rule.TheVariants as rule;
+ghost use Rattle.gql_parser.specs.Parsers.{fresh};
+ghost use Rattle.gql_parser.specs.Readings.{IsJudged};
+ghost use Rattle.gql_parser.specs.Diagnosed.{IsOrdered};
+
+use gql_cst::{Limits, Parsed, laws, parse_document, parse_selection_set, parse_type};
+use jb_text::Memory;
+use std::alloc::Global;
+use std::marker::Model;
+
+/// Reads GraphQL texts within its limits, and tells how far it read the last one.
+///
+/// A contract sees a record of its `limits` and its two counters.
+#[derive(Debug, Drop)]
+pub struct Parser {
+    limits: Limits,
+    recursion_reached: usize,
+    tokens_reached: usize,
+}
+
+impl Model for Parser {
+    ghost use Rattle.gql_parser.specs.Parsers.{ParserState};
+
+    ghost Value = { ParserState };
+
+    ghost view = { λ parser. record {
+      limits = parser.limits;
+      recursion_reached = parser.recursion_reached;
+      tokens_reached = parser.tokens_reached;
+    } };
+}
+
+impl Parser {
+    /// How deep selection sets, values and types nest at most, unless another limit is set.
+    const MOST_LEVELS: usize = 500;
+
+    /// A parser that reads texts nested at most 500 deep, of any number of tokens.
+    #[must_use]
+    pub fn new() -> Parser
+        ensures { result ≡ fresh }
+    {
+        Parser {
+            limits: Limits {
+                recursion: Self::MOST_LEVELS,
+                tokens: None,
+            },
+            recursion_reached: 0,
+            tokens_reached: 0,
+        }
+    }
+
+    /// The same parser with this limit on nested selection sets, object values, list values and list types.
+    #[must_use]
+    pub fn recursion_limit(self, value: usize) -> Parser
+        ensures { result ≡ record self { limits = record self.limits { recursion = value } } }
+    {
+        let mut parser = self;
+        parser.limits.recursion = value;
+        parser
+    }
+
+    /// The same parser with this limit on tokens, those that the grammar ignores included.
+    #[must_use]
+    pub fn token_limit(self, value: usize) -> Parser
+        ensures { result ≡ record self { limits = record self.limits { tokens = Some value } } }
+    {
+        let mut parser = self;
+        parser.limits.tokens = Some(value);
+        parser
+    }
+
+    /// The greatest level of nesting in the last text, a level that passes the limit included. 0 before the first text. After a
+    /// text for which memory ran out it may be that of the text before.
+    #[must_use]
+    pub fn recursion_reached(&self) -> usize
+        ensures { result ≡ self.now.recursion_reached }
+    {
+        self.recursion_reached
+    }
+
+    /// How many tokens of the last text were read, one that was refused included. 0 before the first text.
+    /// After a text for which memory ran out it may be that of the text before.
+    #[must_use]
+    pub fn tokens_reached(&self) -> usize
+        ensures { result ≡ self.now.tokens_reached }
+    {
+        self.tokens_reached
+    }
+
+    /// Reads a text from its beginning to its end, or to the first error, as a document.
+    pub(crate) fn read_document(&mut self, alloc: Global, text: &str) -> Result<Parsed, Memory>
+        ensures limits { self.new.limits ≡ self.old.limits }
+        ensures judged { IfOk result (IsJudged self.new rule.Document text.now) }
+        ensures ordered { IfOk result (λ parsed. IsOrdered parsed.error) }
+        ensures unread { OnErr result (self.new ≡ self.old) }
+    {
+        laws::parses_are_trees();
+        let parsed = parse_document(alloc, text, &self.limits)?;
+        self.recursion_reached = parsed.recursion_reached;
+        self.tokens_reached = parsed.tokens_reached;
+        Ok(parsed)
+    }
+
+    /// Reads a text in the same way as selections, with braces around them or without.
+    pub(crate) fn read_selection_set(&mut self, alloc: Global, text: &str) -> Result<Parsed, Memory>
+        ensures limits { self.new.limits ≡ self.old.limits }
+        ensures judged { IfOk result (IsJudged self.new rule.FieldSet text.now) }
+        ensures ordered { IfOk result (λ parsed. IsOrdered parsed.error) }
+        ensures unread { OnErr result (self.new ≡ self.old) }
+    {
+        laws::parses_are_trees();
+        let parsed = parse_selection_set(alloc, text, &self.limits)?;
+        self.recursion_reached = parsed.recursion_reached;
+        self.tokens_reached = parsed.tokens_reached;
+        Ok(parsed)
+    }
+
+    /// Reads a text in the same way as a reference to a type.
+    pub(crate) fn read_type(&mut self, alloc: Global, text: &str) -> Result<Parsed, Memory>
+        ensures limits { self.new.limits ≡ self.old.limits }
+        ensures judged { IfOk result (IsJudged self.new rule.TypeReference text.now) }
+        ensures ordered { IfOk result (λ parsed. IsOrdered parsed.error) }
+        ensures unread { OnErr result (self.new ≡ self.old) }
+    {
+        laws::parses_are_trees();
+        let parsed = parse_type(alloc, text, &self.limits)?;
+        self.recursion_reached = parsed.recursion_reached;
+        self.tokens_reached = parsed.tokens_reached;
+        Ok(parsed)
+    }
+}
