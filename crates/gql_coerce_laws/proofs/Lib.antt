@@ -1,2 +1,16 @@
+mod Empty
+mod Each
+mod Entries
+mod Scalars
+mod Found
+mod Tokens
+mod Readings
+mod Forests
+mod BuiltInText
+mod Settled
+mod Fields
+mod Schemas
+mod Documents
+mod Whole
 mod Literals
 mod Coercion

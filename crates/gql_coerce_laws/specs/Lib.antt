@@ -1,3 +1,4 @@
 -- What coercion makes of validated documents.
+pub mod Marks
 pub mod Unmarked
 pub mod Inputs

@@ -20,8 +20,8 @@ use Rattle.gql_document_types.specs.declared.document.ExecutableDocument.{Execut
 use Rattle.gql_document_types.specs.declared.operation.Operation.{Operation}
 use Rattle.gql_schema_types.specs.declared.schema.Schema.{Schema}
 use Rattle.gql_coerce_laws.specs.Inputs.{IsInputVariable}
-use Rattle.gql_coerce_text_laws.proofs.Documents.{variables-typed}
-use Rattle.gql_coerce_text_laws.proofs.Schemas.{DefaultsLaw}
+use Rattle.gql_coerce_laws.proofs.Documents.{variables-typed}
+use Rattle.gql_coerce_laws.proofs.Schemas.{DefaultsLaw}
 
 abbrev OfDefinition : OperationDefinition → Type 0
 OfDefinition it = All IsConstantVariable it.variables

@@ -1,8 +1,8 @@
 use Rattle.std.proofs.Common.{get_or}
-use Rattle.gql_coerce_text_laws.proofs.BuiltInText.{inputs}
-use Rattle.gql_coerce_text_laws.proofs.Schemas.{by-text}
-use Rattle.gql_coerce_text_laws.proofs.Whole.{document-inputs}
-use Rattle.gql_coerce_text_laws.proofs.laws.validated_documents_leave_no_mark.Goals as goal
+use Rattle.gql_coerce_laws.proofs.BuiltInText.{inputs}
+use Rattle.gql_coerce_laws.proofs.Schemas.{by-text}
+use Rattle.gql_coerce_laws.proofs.Whole.{document-inputs}
+use Rattle.gql_coerce_laws.proofs.laws.validated_documents_leave_no_mark.Goals as goal
 
 pub returns-clause-fields : goal.returns-clause-fields
 returns-clause-fields c =

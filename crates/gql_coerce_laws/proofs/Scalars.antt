@@ -18,7 +18,7 @@ use Rattle.gql_schema_types.specs.Entries.{is_called, entry}
 use Rattle.gql_schema_types.specs.Types.{type_name, type_called}
 use Rattle.gql_schema_types.specs.declared.types.ExtendedType.TheVariants as made
 use Rattle.gql_schema_types.specs.declared.types.ScalarType.{ScalarType}
-use Rattle.gql_coerce_text_laws.proofs.Entries.{entry-front, joined-first}
+use Rattle.gql_coerce_laws.proofs.Entries.{entry-front, joined-first}
 
 -- ---- extensions keep the name and the kind
 

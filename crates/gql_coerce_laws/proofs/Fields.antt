@@ -9,7 +9,7 @@ use Rattle.gql_ast.specs.declared.definition.Definition.TheVariants as definitio
 use Rattle.gql_ast_base.specs.Names.{Named}
 use Rattle.gql_ast_laws.specs.Constants.{is_constant_default}
 use Rattle.gql_ast_laws.specs.Defaults.{IsIn, IsConstantField, HasConstantDefaults}
-use Rattle.gql_coerce_text_laws.proofs.Each.{Each, each-of}
+use Rattle.gql_coerce_laws.proofs.Each.{Each, each-of}
 use Rattle.gql_ast_definitions.specs.declared.field_definition.InputValueDefinition.{InputValueDefinition}
 use Rattle.gql_rules_base.specs.Written.{is_written}
 use Rattle.gql_schema_build.specs.Built.{built}
@@ -17,7 +17,7 @@ use Rattle.gql_schema_build.specs.BuiltInScalarTypeRedefinition.{redefines, othe
 use Rattle.gql_schema_build.specs.TypeSystems.{with_definition, with_definitions}
 use Rattle.gql_schema_build.specs.TypeTable.{all_extended, types}
 use Rattle.gql_schema_build.specs.declared.type_system.TypeSystem.{TypeSystem}
-use Rattle.gql_coerce_text_laws.proofs.BuiltInText.{is_input_object}
+use Rattle.gql_coerce_laws.proofs.BuiltInText.{is_input_object}
 use Rattle.gql_schema_build.specs.DefinitionNames.{definition_name}
 use Rattle.gql_schema_build.specs.Extended.{extended}
 use Rattle.gql_schema_build.specs.ExtensionNames.{extension_name}

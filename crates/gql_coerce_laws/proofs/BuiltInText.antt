@@ -38,10 +38,10 @@ use Rattle.gql_schema_build.specs.declared.type_definition.TypeDefinition.{TypeD
 use Rattle.gql_schema_build.specs.declared.type_definition.TypeDefinition.TheVariants.{InputObject}
 use Rattle.gql_source.specs.declared.file_id.FileId.{FileId}
 use Rattle.gql_parser.specs.BuiltInText.{built_in_text}
-use Rattle.gql_coerce_text_laws.proofs.Forests.{planted}
-use Rattle.gql_coerce_text_laws.proofs.Found.{the}
-use Rattle.gql_coerce_text_laws.proofs.Readings.{ReadAs, read}
-use Rattle.gql_coerce_text_laws.proofs.Tokens.{TilesFrom, tokens}
+use Rattle.gql_coerce_laws.proofs.Forests.{planted}
+use Rattle.gql_coerce_laws.proofs.Found.{the}
+use Rattle.gql_coerce_laws.proofs.Readings.{ReadAs, read}
+use Rattle.gql_coerce_laws.proofs.Tokens.{TilesFrom, tokens}
 
 -- ---- what is opened to compute the tokens of a text, and the definitions of a tree by their kinds and names
 

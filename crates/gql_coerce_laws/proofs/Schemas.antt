@@ -10,7 +10,7 @@ use Rattle.gql_source.specs.declared.file_id.FileId.{FileId}
 use Rattle.gql_ast.specs.declared.definition.Definition.{Definition}
 use Rattle.gql_ast.specs.declared.document.Document.{Document}
 use Rattle.gql_ast_laws.specs.Defaults.{HasConstantDefaults}
-use Rattle.gql_coerce_text_laws.proofs.Each.{Each, all-of}
+use Rattle.gql_coerce_laws.proofs.Each.{Each, all-of}
 use Rattle.gql_ast_definitions.specs.declared.field_definition.InputValueDefinition.{InputValueDefinition}
 use Rattle.gql_ast_definitions.specs.declared.schema_definition.DirectiveLocation.TheVariants as at
 use Rattle.gql_ast_laws.specs.Meant.{IsDocumentOf}
@@ -30,7 +30,7 @@ use Rattle.gql_schema_build.specs.TypeTable.{types}
 use Rattle.gql_schema_build.specs.declared.built_in.BuiltIn.{BuiltIn}
 use Rattle.gql_schema_build.specs.declared.type_system.TypeSystem.{TypeSystem}
 use Rattle.gql_parser.specs.BuiltInText.{is_scalar_of}
-use Rattle.gql_coerce_text_laws.proofs.BuiltInText.{is_input_object}
+use Rattle.gql_coerce_laws.proofs.BuiltInText.{is_input_object}
 use Rattle.gql_schema.specs.Scalars.{input_names, built_in_scalars, validated}
 use Rattle.gql_schema.specs.SchemaFaults.{AreSchemaFaults, parts_faults}
 use Rattle.gql_schema_rules_types.specs.InterfaceRules.{interfaces_faults}
@@ -47,12 +47,12 @@ use Rattle.gql_schema_types.specs.declared.types.ExtendedType.{ExtendedType}
 use Rattle.gql_schema_types.specs.declared.types.ExtendedType.TheVariants as type
 use Rattle.gql_schema_types.specs.declared.types.InputObjectType.{InputObjectType}
 use Rattle.gql_parser.specs.SchemaText.{SchemaText, AreDefinitions, all_of, its_given}
-use Rattle.gql_coerce_text_laws.proofs.Scalars.{scalar-scalar}
+use Rattle.gql_coerce_laws.proofs.Scalars.{scalar-scalar}
 use Rattle.gql_coerce.specs.InputTypes.{as_input_object}
 use Rattle.gql_coerce_laws.specs.Inputs.{is_input, IsInputField, AreInputFields}
-use Rattle.gql_coerce_text_laws.proofs.Empty.{front_empty, back_empty, not_told, not_false, each_empty, of_entry}
-use Rattle.gql_coerce_text_laws.proofs.Fields.{IsUsers, OfType, OfSystem, of-types, of-definitions, of-built_in}
-use Rattle.gql_coerce_text_laws.proofs.Settled.{AreThere, any-at, settled-there, before-settled}
+use Rattle.gql_coerce_laws.proofs.Empty.{front_empty, back_empty, not_told, not_false, each_empty, of_entry}
+use Rattle.gql_coerce_laws.proofs.Fields.{IsUsers, OfType, OfSystem, of-types, of-definitions, of-built_in}
+use Rattle.gql_coerce_laws.proofs.Settled.{AreThere, any-at, settled-there, before-settled}
 
 abbrev is_scalar_type : Option ExtendedType → Bool
 is_scalar_type (Some (type.Scalar it)) = true

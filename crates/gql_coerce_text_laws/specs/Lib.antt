@@ -1,2 +1,0 @@
--- What coercion makes of validated documents.
-pub mod Marks
