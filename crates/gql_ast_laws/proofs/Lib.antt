@@ -1,3 +1,6 @@
+pub mod Rest
+pub mod Levels
+pub mod ReadBack
 mod Rows
 pub mod Constants
 mod Kept

@@ -1,3 +1,4 @@
+pub mod Printed
 -- The defaults of a document's definitions.
 pub mod Constants
 pub mod Defaults

@@ -1,6 +1,6 @@
 //! Laws of the definitions alone: what a text stands for is one, whichever tree of it is taken.
 
-ghost use Rattle.std.specs.Prelude.{◌≡◌, ◌++◌, ℕ, List, None, Some, IsSome};
+ghost use Rattle.std.specs.Prelude.{◌≡◌, ◌++◌, ℕ, List, None, Some, IsSome, true};
 ghost use Rattle.gql_source.specs.declared.file_id.FileId.{FileId};
 ghost use Rattle.gql_cst_grammar.specs.declared.rule.Rule.TheVariants.{Document, FieldSet, TypeReference};
 ghost use Rattle.gql_cst_grammar.specs.declared.syntax_kind.SyntaxKind.TheVariants as kind;
@@ -19,7 +19,10 @@ ghost use Rattle.gql_ast_laws.specs.Complete.{EachNode};
 ghost use Rattle.gql_ast_laws.specs.Meant.{IsDocumentOf, AreSelectionsOf, IsTypeOf};
 ghost use Rattle.std.specs.List.{All};
 ghost use Rattle.gql_ast_laws.specs.Defaults.{HasConstantDefaults};
+ghost use Rattle.gql_ast.specs.TypeText.{type_text};
+ghost use Rattle.gql_ast_laws.specs.Printed.{has_names, unplaced, RefersTo};
 
+use crate::laws as meaning_laws;
 use gql_cst::laws as tree_laws;
 use gql_cst_grammar::laws as grammar_laws;
 
@@ -93,4 +96,16 @@ pub fn defaults_are_constant()
         → All (HasConstantDefaults file) definitions }
 {
     grammar_laws::sentences_have_one_tree();
+}
+
+/// The text that a type is written as refers to that type, and to no other, the places aside that its names were read
+/// from (section 2.11 of GraphQL October 2021).
+///
+/// Each type that a program holds has such names, since a `Name` is always one.
+pub fn printed_types_are_read_back()
+    ensures refers { (file : FileId) (ty : TypeRef) → has_names ty ≡ true → RefersTo (type_text ty) file ty }
+    ensures alone { (file : FileId) (ty read : TypeRef) → has_names ty ≡ true → IsTypeOf (type_text ty) file read
+        → unplaced read ≡ unplaced ty }
+{
+    meaning_laws::texts_have_one_type();
 }

@@ -10,10 +10,10 @@ use Rattle.gql_ast_laws.specs.Meant.{IsTypeOf}
 use Rattle.gql_ast_base.specs.declared.type_ref.TypeRef.{TypeRef}
 use Rattle.gql_ast_base.specs.Types.{type_step}
 use Rattle.gql_ast.specs.TypeText.{type_text}
-use Rattle.gql_ast_print_laws.specs.Printed.{has_names, unplaced, RefersTo}
-use Rattle.gql_ast_print_laws.proofs.Levels.{Read}
-use Rattle.gql_ast_print_laws.proofs.ReadBack.{reads_back, end-follows}
-use Rattle.gql_ast_print_laws.proofs.laws.printed_types_are_read_back.Goals as goal
+use Rattle.gql_ast_laws.specs.Printed.{has_names, unplaced, RefersTo}
+use Rattle.gql_ast_laws.proofs.Levels.{Read}
+use Rattle.gql_ast_laws.proofs.ReadBack.{reads_back, end-follows}
+use Rattle.gql_ast_laws.proofs.laws.printed_types_are_read_back.Goals as goal
 
 whole : (file : FileId) (ty : TypeRef) → has_names ty ≡ true → Read (type_text ty) file 0 (length (type_text ty)) ty
 whole file ty h =

@@ -12,9 +12,9 @@ use Rattle.gql_ast_base.specs.declared.type_ref.TypeRef.TheFolds.{ind-TypeRef, m
 use Rattle.gql_ast_base.specs.declared.type_ref.TypeRef.TheOpen.{TypeRef-F}
 use Rattle.gql_ast_base.specs.declared.type_ref.TypeRef.TheVariants.{Named as NamedType, NonNullNamed}
 use Rattle.gql_ast.specs.TypeText.{type_text}
-use Rattle.gql_ast_print_laws.specs.Printed.{has_names}
-use Rattle.gql_ast_print_laws.proofs.Rest.{Rest, Follows, after, cut, name_low, mark_leaf}
-use Rattle.gql_ast_print_laws.proofs.Levels.{Read, MarkAt, name_at, named, non_null_named, list, non_null_list}
+use Rattle.gql_ast_laws.specs.Printed.{has_names}
+use Rattle.gql_ast_laws.proofs.Rest.{Rest, Follows, after, cut, name_low, mark_leaf}
+use Rattle.gql_ast_laws.proofs.Levels.{Read, MarkAt, name_at, named, non_null_named, list, non_null_list}
 
 -- ---- one level of the texts, and of their names
 

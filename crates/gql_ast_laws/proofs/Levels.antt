@@ -27,8 +27,8 @@ use Rattle.gql_ast_laws.proofs.Spelled.{word_of_name-names}
 use Rattle.gql_ast_base.specs.declared.type_ref.TypeRef.{TypeRef, List as ListOf, NonNullList, the_lemmas}
 use Rattle.gql_ast_base.specs.declared.type_ref.TypeRef.TheVariants.{Named as NamedType, NonNullNamed}
 use Rattle.gql_ast_base.specs.Types.{non_null, form_step, type_step, forms}
-use Rattle.gql_ast_print_laws.specs.Printed.{from_nowhere, unplaced}
-use Rattle.gql_ast_print_laws.proofs.Rest.{Rest, Follows, cut, boundary, name_begins, name_leaf, word_at}
+use Rattle.gql_ast_laws.specs.Printed.{from_nowhere, unplaced}
+use Rattle.gql_ast_laws.proofs.Rest.{Rest, Follows, cut, boundary, name_begins, name_leaf, word_at}
 
 -- ---- levels of types
 
