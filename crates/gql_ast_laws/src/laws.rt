@@ -1,28 +1,28 @@
-//! Laws of the definitions alone: what a text stands for is one, whichever tree of it is taken.
+//! Laws of the definitions alone: what a text stands for is one, whichever tree of it is taken, and what is written of a type is
+//! read as that type.
 
 ghost use Rattle.std.specs.Prelude.{◌≡◌, ◌++◌, ℕ, List, None, Some, IsSome, true};
-ghost use Rattle.gql_source.specs.declared.file_id.FileId.{FileId};
-ghost use Rattle.gql_cst_grammar.specs.declared.rule.Rule.TheVariants.{Document, FieldSet, TypeReference};
-ghost use Rattle.gql_cst_grammar.specs.declared.syntax_kind.SyntaxKind.TheVariants as kind;
-ghost use Rattle.gql_cst.specs.declared.limits.Limits.{Limits};
-ghost use Rattle.gql_cst.specs.declared.limits.Parsed.{Parsed};
+ghost use Rattle.std.specs.List.{All};
+ghost use Rattle.gql_ast.specs.Documents.{definitions, definition_of};
+ghost use Rattle.gql_ast.specs.TypeText.{type_text};
+ghost use Rattle.gql_ast.specs.declared.definition.Definition.{Definition};
+ghost use Rattle.gql_ast_base.specs.Types.{type_of};
+ghost use Rattle.gql_ast_base.specs.declared.type_ref.TypeRef.{TypeRef};
+ghost use Rattle.gql_ast_definitions.specs.Selections.{selections, selected};
+ghost use Rattle.gql_ast_definitions.specs.declared.selection.Selection.{Selection};
+ghost use Rattle.gql_ast_laws.specs.Complete.{EachNode};
+ghost use Rattle.gql_ast_laws.specs.Defaults.{HasConstantDefaults};
+ghost use Rattle.gql_ast_laws.specs.Meant.{IsDocumentOf, AreSelectionsOf, IsTypeOf};
+ghost use Rattle.gql_ast_laws.specs.Printed.{has_names, unplaced, RefersTo};
 ghost use Rattle.gql_cst.specs.Forest.{Forest, Plain, plain};
 ghost use Rattle.gql_cst.specs.Parses.{IsParse};
 ghost use Rattle.gql_cst.specs.TreeOf.{IsTreeOf};
-ghost use Rattle.gql_ast.specs.declared.definition.Definition.{Definition};
-ghost use Rattle.gql_ast_definitions.specs.declared.selection.Selection.{Selection};
-ghost use Rattle.gql_ast_base.specs.declared.type_ref.TypeRef.{TypeRef};
-ghost use Rattle.gql_ast.specs.Documents.{definitions, definition_of};
-ghost use Rattle.gql_ast_definitions.specs.Selections.{selections, selected};
-ghost use Rattle.gql_ast_base.specs.Types.{type_of};
-ghost use Rattle.gql_ast_laws.specs.Complete.{EachNode};
-ghost use Rattle.gql_ast_laws.specs.Meant.{IsDocumentOf, AreSelectionsOf, IsTypeOf};
-ghost use Rattle.std.specs.List.{All};
-ghost use Rattle.gql_ast_laws.specs.Defaults.{HasConstantDefaults};
-ghost use Rattle.gql_ast.specs.TypeText.{type_text};
-ghost use Rattle.gql_ast_laws.specs.Printed.{has_names, unplaced, RefersTo};
+ghost use Rattle.gql_cst.specs.declared.limits.Limits.{Limits};
+ghost use Rattle.gql_cst.specs.declared.limits.Parsed.{Parsed};
+ghost use Rattle.gql_cst_grammar.specs.declared.rule.Rule.TheVariants.{Document, FieldSet, TypeReference};
+ghost use Rattle.gql_cst_grammar.specs.declared.syntax_kind.SyntaxKind.TheVariants as kind;
+ghost use Rattle.gql_source.specs.declared.file_id.FileId.{FileId};
 
-use crate::laws as meaning_laws;
 use gql_cst::laws as tree_laws;
 use gql_cst_grammar::laws as grammar_laws;
 
@@ -107,5 +107,5 @@ pub fn printed_types_are_read_back()
     ensures alone { (file : FileId) (ty read : TypeRef) → has_names ty ≡ true → IsTypeOf (type_text ty) file read
         → unplaced read ≡ unplaced ty }
 {
-    meaning_laws::texts_have_one_type();
+    texts_have_one_type();
 }

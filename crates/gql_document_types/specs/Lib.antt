@@ -1,3 +1,9 @@
+pub mod Contents
+pub mod Count
+pub mod Counted
+pub mod Expanded
+pub mod OneSpread
+pub mod Refusal
 pub mod ChosenOperation
 pub mod RootFields
 pub mod RootWalk

@@ -35,11 +35,11 @@ pub use gql_exec_request::{Execution, WrittenResponse, partial_execute};
 pub use gql_exec_resolve::{
     DataObject, FieldError, ObjectValue, ResolveError, ResolveInfo, ResolvedValue,
 };
+pub use gql_parser::laws::valid_documents_run;
+pub use gql_parser::{ParseMixed, Parser, document_of_text, schema_of_text};
 pub use gql_rules::validate_standalone;
 pub use gql_schema_types::{Schema, Valid};
 pub use gql_source::{FileId, FileIds, SourceMap};
-pub use gql_parser::laws::valid_documents_run;
-pub use gql_parser::{ParseMixed, Parser, document_of_text, schema_of_text};
 pub use jb_io::{ANSWERED, MISUSED, NO_MEMORY, REFUSED, SINK_FAILED, SOURCE_FAILED, TOO_LONG};
 pub use jb_read::from_bytes_whole;
 pub use jb_tree::{ByteString, Listed, Map, Memory, Number, Refused, Text, Value};

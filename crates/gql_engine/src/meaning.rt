@@ -6,8 +6,8 @@ ghost use Rattle.gql_engine.specs.Meant.{AreTextsChecked, AreTextsRead, list_in}
 
 use gql_diag::DiagnosticList;
 use gql_document_types::ExecutableDocument;
-use gql_schema_types::{Schema, Valid};
 use gql_parser::{document_of_text, schema_of_text};
+use gql_schema_types::{Schema, Valid};
 use jb_text::{Memory, Refused};
 use std::alloc::{AllocError, Global};
 

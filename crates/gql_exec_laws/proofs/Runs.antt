@@ -5,8 +5,8 @@ use Rattle.gql_ast_base.specs.declared.type_ref.TypeRef.{TypeRef}
 use Rattle.gql_document_types.specs.declared.fragment.Fragment.{Fragment}
 use Rattle.gql_document_types.specs.declared.selection.Selection.{Selection}
 use Rattle.gql_schema_types.specs.declared.types.ObjectType.{ObjectType}
-use Rattle.gql_document.specs.Contents.{HaveContents}
-use Rattle.gql_document.specs.Expanded.{expanded}
+use Rattle.gql_document_types.specs.Contents.{HaveContents}
+use Rattle.gql_document_types.specs.Expanded.{expanded}
 use Rattle.gql_exec_plan.specs.Ranks.{AreRanked}
 use Rattle.gql_exec_resolve.specs.Depth.{AllGroups, Suffices}
 use Rattle.gql_exec_resolve.specs.Execute.{Made, Member, then_rest, settled, settled_item, unless_misfit}

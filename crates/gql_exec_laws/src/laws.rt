@@ -1,7 +1,7 @@
 //! What the definitions of execution give of an operation and of its expansion, and for each example.
 
 ghost use Rattle.std.specs.Prelude.{◌≡◌, [], ◌∷◌, ◌↔◌, ℕ, List};
-ghost use Rattle.gql_document.specs.Expanded.{expanded};
+ghost use Rattle.gql_document_types.specs.Expanded.{expanded};
 ghost use Rattle.gql_document_types.specs.Spreads.{spread_graph};
 ghost use Rattle.gql_document_types.specs.declared.fragment.Fragment.{Fragment};
 ghost use Rattle.gql_document_types.specs.declared.selection.Selection.{Selection};
@@ -21,7 +21,7 @@ ghost use Rattle.gql_response.specs.declared.execution_response.ExecutionRespons
 ghost use Rattle.gql_rules_graph.specs.Cycles.{IsOnCycle};
 ghost use Rattle.gql_schema_types.specs.declared.types.ObjectType.{ObjectType};
 
-use gql_document::laws as expansion_laws;
+use gql_document_types::laws as expansion_laws;
 use gql_rules_graph::laws as graph_laws;
 
 /// Selections and the same selections with each spread replaced are executed alike, for every resolver, what it leaves out

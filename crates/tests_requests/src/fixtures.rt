@@ -9,9 +9,9 @@ use gql_diag::{ExecutionResponse, JsonMap, JsonValue, RequestError, refusal_of_r
 use gql_document_types::ExecutableDocument;
 use gql_exec_request::Execution;
 use gql_exec_resolve::ObjectValue;
+use gql_parser::Parser;
 use gql_schema_types::{Schema, Valid};
 use gql_source::{FileIds, SourceMap};
-use gql_parser::Parser;
 use jb_read::from_str;
 use jb_text::{Memory, Refused};
 use std::alloc::Global;

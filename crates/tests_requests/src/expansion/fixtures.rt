@@ -5,11 +5,10 @@ ghost use Rattle.gql_document_types.specs.Spreads.{spread_graph};
 ghost use Rattle.gql_rules_graph.specs.Cycles.{IsOnCycle};
 
 use crate::expansion::written::operation_text;
-use gql_document::expand_fragments;
-use gql_document_types::ExecutableDocument;
+use gql_document_types::{ExecutableDocument, expand_fragments};
+use gql_parser::Parser;
 use gql_schema_types::{Schema, Valid};
 use gql_source::FileIds;
-use gql_parser::Parser;
 use jb_text::Refused;
 use std::alloc::Global;
 use std::mem::{ManuallyDrop, forget};

@@ -1,6 +1,0 @@
-mod CountCalls
-pub mod Counts
-mod ExpandCalls
-mod Fixed
-mod Row
-pub mod Views

@@ -1,6 +1,0 @@
-pub mod Contents
-pub mod Count
-pub mod Counted
-pub mod Expanded
-pub mod OneSpread
-pub mod Refusal
