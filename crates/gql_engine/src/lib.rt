@@ -36,7 +36,7 @@ pub use gql_exec_resolve::{
     DataObject, FieldError, ObjectValue, ResolveError, ResolveInfo, ResolvedValue,
 };
 pub use gql_parser::laws::valid_documents_run;
-pub use gql_parser::{ParseMixed, Parser, document_of_text, schema_of_text};
+pub use gql_parser::{Parser, document_of_text, schema_of_text};
 pub use gql_rules::validate_standalone;
 pub use gql_schema_types::{Schema, Valid};
 pub use gql_source::{FileId, FileIds, SourceMap};

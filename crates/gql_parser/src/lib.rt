@@ -6,7 +6,7 @@
 //!
 //! Work is done in phases, and the first that finds something ends it. First the text is read: one fault of the syntax, or
 //! one limit that is passed, is told. Then, where a schema, an executable document or a set of fields is asked for, it is
-//! built, and every fault of the build is told. No rules of schemas or of documents are checked.
+//! built, and every fault of the build is told. Of these calls `parse_mixed_validate` alone checks rules.
 //!
 //! ```
 //! let mut parser = Parser::new().token_limit(1_000);
@@ -24,13 +24,11 @@
 //! document, at most, and none where something is wrong with it; and a document that a text means can be executed, since no
 //! fragment leads back to itself and each operation has the root type of its kind.
 //!
-//! [`ParseMixed`] gives a [`Parser`] one call more, which reads a text, builds both of what it defines and checks the rules on
-//! both (sections 2, 3 and 5). The first phase that finds something ends it: the reading; both builds; the rules on schemas; the
-//! rules on documents.
+//! [`Parser::parse_mixed_validate`] reads a text that is a schema and a document in one, builds both and checks the rules on both
+//! (sections 2, 3 and 5). The first phase that finds something ends it: the reading; both builds; the rules on schemas; the rules
+//! on documents.
 //!
 //! ```
-//! use gql_parser::ParseMixed;
-//!
 //! let mut parser = Parser::new();
 //! let mut ids = FileIds::new();
 //! let text = "type Query { name: String } query { name }";
@@ -58,6 +56,5 @@ mod schema_reading;
 mod stopped;
 
 pub use document_reading::document_of_text;
-pub use parse_mixed::ParseMixed;
 pub use parser::Parser;
 pub use schema_reading::schema_of_text;

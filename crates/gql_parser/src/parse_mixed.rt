@@ -1,4 +1,4 @@
-//! The call, as a trait of parsers.
+//! Texts as schemas and executable documents in one.
 
 ghost use Rattle.std.specs.Prelude.{◌≡◌, ◌+◌, ◌<◌, ◌^◌};
 ghost use Rattle.gql_cst_grammar.specs.declared.rule.Rule.TheVariants as rule;
@@ -16,8 +16,7 @@ use gql_source::FileIds;
 use jb_text::Refused;
 use std::alloc::Global;
 
-/// Parsers of texts that are a schema and a document in one. It is a trait, since the rules stand above [`Parser`].
-pub trait ParseMixed {
+impl Parser {
     /// The schema and the executable document that one text means together: its definitions of a type system with the built-in
     /// ones, and its operations and fragments against these (GraphQL October 2021, sections 2, 3 and 5). The schema's files are the
     /// built-in one and the text's, which takes the next of the numbers; the document has the text's alone. Built-in scalars
@@ -30,19 +29,7 @@ pub trait ParseMixed {
     /// The diagnostics of the first phase that finds something, exactly where one does, in the order of lists and with the
     /// schema's files: the first fault of the syntax or the first limit that is passed; or the faults of both builds; or those of
     /// the rules on schemas; or those of the rules on documents. Otherwise only when out of memory.
-    fn parse_mixed_validate(
-        &mut self,
-        alloc: Global,
-        source_text: &str,
-        path: &str,
-        ids: &mut FileIds,
-    ) -> Result<(Valid<Schema>, Valid<ExecutableDocument>), Refused<DiagnosticList>>
-        requires { ids.old < 2 ^ 63 }
-        ensures ids { ids.new ≡ ids.old + 1 };
-}
-
-impl ParseMixed for Parser {
-    fn parse_mixed_validate(
+    pub fn parse_mixed_validate(
         &mut self,
         alloc: Global,
         source_text: &str,

@@ -5,7 +5,7 @@ mod files;
 mod limits;
 
 use bytes::Bytes;
-use gql_engine::{FileIds, ParseMixed, Parser, Refused, reports};
+use gql_engine::{FileIds, Parser, Refused, reports};
 use std::alloc::Global;
 use std::mem::ManuallyDrop;
 use std::str::from_utf8;

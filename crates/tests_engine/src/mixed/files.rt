@@ -2,9 +2,7 @@
 
 ghost use Rattle.std.specs.Prelude.{◌<◌, ◌^◌, ◌≡◌, ◌+◌};
 
-use gql_engine::{
-    ExecutableDocument, FileId, FileIds, ParseMixed, Parser, Refused, Schema, SourceMap, Valid,
-};
+use gql_engine::{ExecutableDocument, FileId, FileIds, Parser, Refused, Schema, SourceMap, Valid};
 use std::alloc::Global;
 use std::mem::ManuallyDrop;
 use std::test::Fail;

@@ -1,7 +1,7 @@
 //! Texts that pass a limit of their parser, and what the parser counted (GraphQL October 2021, section 2).
 
 use crate::mixed::reports_by;
-use gql_engine::{FileIds, ParseMixed, Parser};
+use gql_engine::{FileIds, Parser};
 use std::alloc::Global;
 use std::mem::forget;
 use std::test::Fail;

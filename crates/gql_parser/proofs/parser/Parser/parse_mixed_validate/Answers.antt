@@ -1,6 +1,6 @@
 use Rattle.gql_parser.specs.Parsers.{given_next}
 use Rattle.gql_parser.proofs.Steps.{no_answer}
-use Rattle.gql_parser.proofs.parse_mixed.ParserParseMixed.parse_mixed_validate.Goals as goal
+use Rattle.gql_parser.proofs.parser.Parser.parse_mixed_validate.Goals as goal
 
 pub returns-in_err-file-clause-answer : goal.returns-in_err-file-clause-answer
 returns-in_err-file-clause-answer c =
