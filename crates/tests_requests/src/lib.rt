@@ -3,7 +3,8 @@
 //!
 //! They stand apart because a crate with tests is proved once with them and once without. Each expected answer was worked out
 //! by hand. What is parsed or expanded is held in a `ManuallyDrop` and not dropped: a test ends with its process, and a drop of a
-//! schema or a document on each way out of a function makes its proof dear.
+//! schema or a document on each way out of a function makes its proof dear. The types in `sample` alone are no tests, since a
+//! definition of `specs/` names them.
 #![tactic(auto)]
 
 #[cfg(test)]
@@ -19,3 +20,5 @@ mod fixtures;
 #[cfg(test)]
 mod inputs;
 pub mod sample;
+#[cfg(test)]
+mod sample_answers;
