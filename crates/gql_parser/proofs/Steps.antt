@@ -1,5 +1,5 @@
 -- What each step of reading a schema and a document in one leaves for the next.
-use Rattle.std.proofs.Common.{◌≡◌, inl, inr, List, [], ◌++◌, Result, Ok, Err, IsErrAnd, refl, sym, ◌∙◌, subst}
+use Rattle.std.proofs.Common.{◌≡◌, List, [], ◌++◌, Result, Ok, Err, IsErrAnd, refl, sym, ◌∙◌, subst}
 use Rattle.jb_text.specs.declared.refused.Refused.{Refused}
 use Rattle.jb_text.specs.declared.refused.Refused.TheVariants.{Fault, Memory}
 use Rattle.gql_ast.specs.declared.document.Document.{Document}
@@ -9,8 +9,7 @@ use Rattle.gql_diag.specs.declared.with_errors.WithErrors.{WithErrors}
 use Rattle.gql_diag_messages.specs.declared.diagnostic_data.DiagnosticData.{DiagnosticData}
 use Rattle.gql_document_build.specs.Builders as document
 use Rattle.gql_document_types.specs.declared.document.ExecutableDocument.{ExecutableDocument}
-use Rattle.gql_parser.specs.DocumentsRead.{IsDocumentRead, IsDocumentStopped}
-use Rattle.gql_parser.specs.FileRead.{IsFileRead, no_document, no_faults}
+use Rattle.gql_parser.specs.FileRead.{IsFileRead}
 use Rattle.gql_parser.specs.Parsers.{ParserState, Given}
 use Rattle.gql_schema.specs.Builders as schema
 use Rattle.gql_schema.specs.BuiltInSchema.{IsBuiltIn}
@@ -27,17 +26,6 @@ use Rattle.gql_parser.proofs.Sorts.{none_sorted, sorted_joined}
 abbrev pub AreChecked : {X : Type 0} → Schema → ExecutableDocument → Diagnostics → Result X (Refused Diagnostics) → Type 0
 AreChecked its_schema its_document list answer =
     (builds : List DiagnosticData) → IsStableSort list_order builds list.items → IsHeld (AreMixedFaults its_schema its_document builds) list.sources answer
-
--- ---- the reading
-
-pub file_whole : (parser : ParserState) (given : Given) (file : Document) (errors : Diagnostics) → IsDocumentRead parser given file → errors ≡ no_faults
-    → IsFileRead parser given file errors
-file_whole parser given file errors read told = inl (record { read = read; told = told })
-
-pub file_stopped : (parser : ParserState) (given : Given) (partial file : Document) (errors : Diagnostics) → IsDocumentStopped parser given partial errors
-    → file ≡ no_document → IsFileRead parser given file errors
-file_stopped parser given partial file errors s none =
-    inr (record { parsed = s.parsed; error = s.error; stopped = s.stopped; none = none; told = s.told })
 
 -- ---- the builds
 

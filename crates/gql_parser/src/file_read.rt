@@ -67,12 +67,14 @@ fn file_of_parse(
     }
 }
 
-fn no_faults(alloc: Global) -> DiagnosticList
+/// A list that tells nothing.
+pub(crate) fn no_faults(alloc: Global) -> DiagnosticList
     ensures { result ≡ no_faults_of }
 {
     DiagnosticList::new(alloc, SourceMap::new(alloc))
 }
 
+/// A document without definitions.
 fn no_document(alloc: Global) -> Document
     ensures { result ≡ document_without }
 {

@@ -43,7 +43,6 @@ mod file_read;
 pub mod laws;
 mod mixed_both;
 mod mixed_built;
-mod mixed_file;
 mod mixed_ruled;
 mod parse_ast;
 mod parse_executable;

@@ -9,8 +9,8 @@ ghost use Rattle.gql_parser.specs.Parsers.{Given, ParserState};
 ghost use Rattle.gql_parser.specs.MixedBuilt.{IsDocumentRuled};
 ghost use Rattle.gql_parser.specs.MixedRead.{IsMixedAnswer};
 
+use crate::file_read::FileRead;
 use crate::mixed_built::{built_document, built_schema, told};
-use crate::mixed_file::FileRead;
 use crate::mixed_ruled::check_all;
 use gql_ast::Document;
 use gql_diag::{DiagnosticData, DiagnosticList};

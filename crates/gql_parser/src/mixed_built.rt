@@ -5,7 +5,7 @@ ghost use Rattle.gql_diag.specs.List.{IsStableSort};
 ghost use Rattle.gql_diag.specs.Order.{list_order};
 ghost use Rattle.gql_parser.specs.MixedBuilt.{IsDocumentBuilt, IsSchemaBuilt};
 
-use crate::mixed_file::no_faults;
+use crate::file_read::no_faults;
 use gql_ast::Document;
 use gql_diag::{DiagnosticData, DiagnosticList, WithErrors};
 use gql_document_build::ExecutableDocumentBuilder;

@@ -6,8 +6,8 @@ ghost use Rattle.gql_parser.specs.Parsers.{given_next};
 ghost use Rattle.gql_parser.specs.Readings.{IsLeft};
 ghost use Rattle.gql_parser.specs.MixedRead.{IsMixedAnswer};
 
+use crate::file::next_file;
 use crate::mixed_both::both;
-use crate::mixed_file::read_file;
 use crate::parser::Parser;
 use gql_diag::DiagnosticList;
 use gql_document_types::ExecutableDocument;
@@ -41,7 +41,8 @@ impl Parser {
         ensures left { IsLeft self.old self.new rule.Document source_text.now }
         ensures answer { IsMixedAnswer self.new (given_next ids.old path.now source_text.now) result }
     {
-        let file = read_file(alloc, self, source_text, path, ids)?;
+        let file_id = next_file(ids);
+        let file = self.read_file(alloc, source_text, path, file_id)?;
         both(alloc, file)
     }
 }
