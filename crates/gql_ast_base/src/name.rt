@@ -3,7 +3,7 @@
 ghost use Rattle.std.specs.Prelude.{◌≡◌, true, Some, nat_eq};
 ghost use Rattle.std.specs.List.{list_all};
 ghost use Rattle.gql_cst.specs.Class.{is_name_start, is_name_continue};
-ghost use Rattle.gql_ast_base.specs.Names.{is_name, IsNamed};
+ghost use Rattle.gql_ast_base.specs.Names.{is_name, is_reserved, IsNamed};
 ghost use Rattle.gql_ast_base.specs.Parts as parts;
 
 use crate::convert::Convert;
@@ -87,6 +87,17 @@ impl Name {
         match text.as_bytes().split_first() {
             Some((first, rest)) => is_name_start(*first) && are_name_continue(rest),
             None => false,
+        }
+    }
+
+    /// Whether it begins with two underscores, as the names that introspection keeps for itself do (section 2.1.9).
+    #[must_use]
+    pub fn is_reserved(&self) -> bool
+        ensures { result ≡ is_reserved self.now.text }
+    {
+        match self.as_str().as_bytes() {
+            [one, two, ..] => *one == b'_' && *two == b'_',
+            _ => false,
         }
     }
 

@@ -55,6 +55,28 @@ other_location found =
 unfoldable pub location_word : Text → Option DirectiveLocation
 location_word found = or_else (executable_location found) (or_else (output_location found) (other_location found))
 
+-- the word that names a place
+abbrev pub location_name : DirectiveLocation → Text
+location_name at.Query = codes "QUERY"
+location_name at.Mutation = codes "MUTATION"
+location_name at.Subscription = codes "SUBSCRIPTION"
+location_name at.Field = codes "FIELD"
+location_name at.FragmentDefinition = codes "FRAGMENT_DEFINITION"
+location_name at.FragmentSpread = codes "FRAGMENT_SPREAD"
+location_name at.InlineFragment = codes "INLINE_FRAGMENT"
+location_name at.VariableDefinition = codes "VARIABLE_DEFINITION"
+location_name at.Schema = codes "SCHEMA"
+location_name at.Scalar = codes "SCALAR"
+location_name at.Object = codes "OBJECT"
+location_name at.FieldDefinition = codes "FIELD_DEFINITION"
+location_name at.ArgumentDefinition = codes "ARGUMENT_DEFINITION"
+location_name at.Interface = codes "INTERFACE"
+location_name at.Union = codes "UNION"
+location_name at.Enum = codes "ENUM"
+location_name at.EnumValue = codes "ENUM_VALUE"
+location_name at.InputObject = codes "INPUT_OBJECT"
+location_name at.InputFieldDefinition = codes "INPUT_FIELD_DEFINITION"
+
 -- the place that a token names
 unfoldable pub directive_location_of : Text → Plain → Option DirectiveLocation
 directive_location_of text tree = option_and_then location_word (word text tree)

@@ -1,11 +1,10 @@
 -- What a literal stands for by itself: its members are translated one after another.
-use Rattle.std.specs.Prelude.{ℕ, ℤ, pos, negsuc, ◌^◌, nat_lt, Bool, ◌&&◌, if◌then◌else◌, List, [], map, length}
+use Rattle.std.specs.Prelude.{ℕ, ℤ, pos, negsuc, ◌^◌, nat_lt, if◌then◌else◌, List, [], map}
 use Rattle.std.specs.Prelude.{Option, Some, None, Ok, Err}
 use Rattle.std.specs.Str.{bytes_eq}
 use Rattle.std.specs.Str.Parse.{digits_value, signed_digits_value, starts_with_minus, without_leading_plus, without_leading_sign}
-use Rattle.std.specs.Char.{is_ascii_digit}
-use Rattle.std.specs.List.{list_all}
 use Rattle.indexmap.specs.IndexMap.{insert_all}
+use Rattle.jb_text.specs.Numeral.{is_numeral}
 use Rattle.jb_tree.specs.declared.value.Value.{Value as JsonValue, Null, Bool as Truth, Number, String, Array, Object}
 use Rattle.gql_source.specs.Span.{Span}
 use Rattle.gql_ast_base.specs.Names.{Named}
@@ -24,10 +23,6 @@ signed_within (negsuc n) = if nat_lt n (2 ^ 63) then Some (negsuc n) else None
 -- and without
 abbrev pub unsigned_within : ℕ → Option ℤ
 unsigned_within n = if nat_lt n (2 ^ 64) then Some (pos n) else None
-
--- one digit or more, and nothing else
-abbrev pub is_numeral : List ℕ → Bool
-is_numeral digits = nat_lt 0 (length digits) && list_all is_ascii_digit digits
 
 -- the number that digits write, where a JSON number may be it
 abbrev pub whole_of : List ℕ → Option ℤ

@@ -3,13 +3,12 @@
 ghost use Rattle.std.specs.Prelude.{◌≡◌, [], Ok, true, map};
 ghost use Rattle.std.specs.Str.{bytes_eq};
 ghost use Rattle.std.specs.Str.Parse.{digits_value, signed_digits_value, starts_with_minus, without_leading_plus, without_leading_sign};
-ghost use Rattle.std.specs.Char.{is_ascii_digit};
-ghost use Rattle.std.specs.List.{list_all};
 ghost use Rattle.indexmap.specs.IndexMap.{insert_all};
+ghost use Rattle.jb_text.specs.Numeral.{is_numeral};
 ghost use Rattle.jb_tree.specs.declared.value.Value.{String as JsonString, Array, Object};
 ghost use Rattle.gql_coerce.specs.Outcome.{Answers, mapped, all_of};
 ghost use Rattle.gql_coerce.specs.Subject.{subject_text};
-ghost use Rattle.gql_coerce.specs.Translation.{translated, translated_kind, whole_of, number_or, translated_member, is_numeral, signed_within, unsigned_within};
+ghost use Rattle.gql_coerce.specs.Translation.{translated, translated_kind, whole_of, number_or, translated_member, signed_within, unsigned_within};
 
 use crate::fault::{CoercionFault, refuse, suspect};
 use crate::messages::{float_overflow, int_overflow, variable_in_default};
@@ -17,7 +16,7 @@ use crate::outcome::put;
 use crate::subject::Subject;
 use gql_ast_base::{Name, Value as Literal, ValueKind};
 use gql_source::SourceSpan;
-use jb_text::{Listed, Number, Refused};
+use jb_text::{Listed, Number, Refused, is_numeral, without_sign};
 use jb_tree::{Map, Value};
 use std::alloc::Global;
 
@@ -150,35 +149,5 @@ fn is_below_zero(digits: &[u8]) -> bool
     match digits {
         [b'-', ..] => true,
         _ => false,
-    }
-}
-
-fn is_numeral(digits: &[u8]) -> bool
-    ensures { result ≡ is_numeral digits.now }
-{
-    !digits.is_empty() && are_digits(digits)
-}
-
-fn are_digits(bytes: &[u8]) -> bool
-    ensures { result ≡ list_all is_ascii_digit bytes.now }
-{
-    bytes.iter().all(|byte| byte.is_ascii_digit())
-}
-
-fn without_plus(text: &[u8]) -> &[u8]
-    ensures { result.now ≡ without_leading_plus text.now }
-{
-    match text {
-        [b'+', digits @ ..] => digits,
-        _ => text,
-    }
-}
-
-fn without_sign(text: &[u8]) -> &[u8]
-    ensures { result.now ≡ without_leading_sign text.now }
-{
-    match text {
-        [b'-', digits @ ..] => digits,
-        _ => without_plus(text),
     }
 }

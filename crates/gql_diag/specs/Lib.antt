@@ -5,6 +5,7 @@ pub mod StackGuarding
 pub mod Report
 pub mod Order
 pub mod List
+pub mod Judged
 pub mod Reported
 pub mod Walk
 pub mod Refusal

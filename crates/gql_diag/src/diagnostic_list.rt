@@ -1,6 +1,6 @@
 //! Lists of diagnostics.
 
-ghost use Rattle.std.specs.Prelude.{◌≡◌, ◌↔◌, [], ◌∷◌, ◌++◌, length, map, IsTrue, OnOk, OnErr};
+ghost use Rattle.std.specs.Prelude.{◌≡◌, ◌↔◌, [], ◌∷◌, ◌++◌, length, map, IsTrue, IfOk, OnOk, OnErr};
 ghost use Rattle.gql_source.specs.File.{joined};
 ghost use Rattle.gql_diag.specs.Order.{by_place, list_order};
 ghost use Rattle.gql_diag.specs.List.{IsStableSort};
@@ -10,7 +10,7 @@ use crate::diagnostics::Diagnostics;
 use crate::order::{sort_by_place, sort_in_order};
 use gql_diag_messages::DiagnosticData;
 use gql_source::SourceMap;
-use jb_text::Memory;
+use jb_text::{Listed, Memory};
 use std::alloc::Global;
 use std::marker::Model;
 
@@ -52,6 +52,20 @@ impl DiagnosticList {
         }
     }
 
+    /// These diagnostics as [`DiagnosticList::sort`] sorts them, with copies of these files. `Err` only when out of memory.
+    pub fn sorted(
+        alloc: Global,
+        sources: &SourceMap,
+        items: Listed<DiagnosticData>,
+    ) -> Result<DiagnosticList, Memory>
+        ensures items { IfOk result (λ list. IsStableSort list_order items list.items) }
+        ensures sources { IfOk result (λ list. list.sources ≡ sources.now) }
+    {
+        let mut list = listed(alloc, sources, items)?;
+        list.sort()?;
+        Ok(list)
+    }
+
     /// Adds a diagnostic at the end. Where memory has run out, the list is as it was.
     pub fn push(&mut self, item: DiagnosticData) -> Result<(), Memory>
         ensures pushed { OnOk result (self.new ≡ record self.old { items = self.old.items ++ item ∷ [] }) }
@@ -59,6 +73,23 @@ impl DiagnosticList {
     {
         self.items.push(item)?;
         Ok(())
+    }
+
+    /// Adds the files to these files, and the diagnostics at the end of these. A file whose number is taken is left out. `Err` only
+    /// when out of memory: then some of them are added.
+    pub fn move_into(
+        self,
+        sources: &mut SourceMap,
+        items: &mut Listed<DiagnosticData>,
+    ) -> Result<(), Memory>
+        ensures sources { OnOk result (sources.new ≡ joined sources.old self.sources) }
+        ensures items { OnOk result (items.new ≡ items.old ++ self.items) }
+    {
+        let (files, faults) = self.into_parts();
+        for fault in faults {
+            items.push(fault)?;
+        }
+        sources.merge(files)
     }
 
     /// Adds these diagnostics at the end, in their order. Where memory has run out, the list is as it was.
@@ -162,4 +193,19 @@ fn join(items: &mut Vec<DiagnosticData>, mut others: Vec<DiagnosticData>) -> Res
             Err(want)
         }
     }
+}
+
+/// These diagnostics as they stand, with copies of these files.
+fn listed(
+    alloc: Global,
+    sources: &SourceMap,
+    faults: Listed<DiagnosticData>,
+) -> Result<DiagnosticList, Memory>
+    ensures { IfOk result (λ list. list ≡ record { sources = sources.now; items = faults }) }
+{
+    let mut list = DiagnosticList::new(alloc, sources.copy(alloc)?);
+    for fault in faults {
+        list.push(fault)?;
+    }
+    Ok(list)
 }

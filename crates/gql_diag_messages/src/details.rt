@@ -1,6 +1,6 @@
 //! What a diagnostic is about, and what is said of it.
 
-ghost use Rattle.std.specs.Prelude.{◌≡◌, ◌++◌, [], ◌∷◌, IfOk};
+ghost use Rattle.std.specs.Prelude.{◌≡◌, ◌++◌, [], ◌∷◌, map, IfOk};
 ghost use Rattle.std.specs.Option.{option_copied};
 ghost use Rattle.gql_diag_messages.specs.Details.{fault_message, fault_compat, fault_label, label_pattern, fault_of, label_of, other_of, message_of, compat_of, error_name};
 ghost use Rattle.gql_diag_messages.specs.Filled.{filled as filled_pattern, name_at as name_of};
@@ -36,6 +36,20 @@ impl Drop for RuleFault {
 }
 
 impl RuleFault {
+    /// A broken rule, with copies of the names that its messages tell and with the place of another definition or field. `Err`
+    /// only when out of memory.
+    pub fn new(
+        alloc: Global,
+        rule: Rule,
+        names: &[&str],
+        other: Option<SourceSpan>,
+    ) -> Result<RuleFault, Memory>
+        ensures { IfOk result (λ fault. fault ≡ record { rule = rule; names = map (λ name. name.now) names.now; other = other }) }
+    {
+        let names = texts(alloc, names)?;
+        Ok(RuleFault { rule, names, other })
+    }
+
     /// The message of the rule with the names in their places. `Err` only when out of memory.
     pub fn message(&self, alloc: Global) -> Result<Text, Memory>
         ensures { IfOk result (λ message. message ≡ fault_message self.now) }
@@ -74,6 +88,17 @@ impl RuleFault {
     {
         filled(alloc, label_pattern(self.rule), self.names.as_slice())
     }
+}
+
+/// Copies of these texts. `Err` only when out of memory.
+fn texts(alloc: Global, names: &[&str]) -> Result<Listed<Text>, Memory>
+    ensures { IfOk result (λ made. made ≡ map (λ name. name.now) names.now) }
+{
+    let mut made = Listed::new(alloc);
+    for name in names {
+        made.push(Text::from_str(alloc, name)?)?;
+    }
+    Ok(made)
 }
 
 /// A pattern with the named type of the first name, and with the second name.

@@ -4,6 +4,7 @@ use Rattle.gql_source.specs.File.{Files, joined}
 use Rattle.jb_text.specs.declared.refused.Refused.{Refused}
 use Rattle.jb_text.specs.declared.refused.Refused.TheVariants.{Memory}
 use Rattle.gql_ast.specs.declared.document.Document.{Document}
+use Rattle.gql_diag.specs.Judged.{IsJudged}
 use Rattle.gql_diag.specs.List.{Diagnostics}
 use Rattle.gql_diag.specs.declared.with_errors.WithErrors.{WithErrors}
 use Rattle.gql_diag_messages.specs.declared.diagnostic_data.DiagnosticData.{DiagnosticData}
@@ -11,7 +12,6 @@ use Rattle.gql_document_types.specs.declared.document.ExecutableDocument.{Execut
 use Rattle.gql_schema_types.specs.declared.schema.Schema.{Schema}
 use Rattle.gql_document_build.specs.Build as build
 use Rattle.gql_document_build.specs.Definitions.{with_definitions, no_definitions}
-use Rattle.gql_document_build.specs.Judged.{IsJudged}
 use Rattle.gql_document_build.specs.TypeSystemDefinition.{type_system_definitions}
 use Rattle.gql_document_build.specs.declared.executable_definitions.ExecutableDefinitions.{ExecutableDefinitions}
 use Rattle.gql_document_build.specs.declared.executable_document_builder.ExecutableDocumentBuilder.{ExecutableDocumentBuilder}

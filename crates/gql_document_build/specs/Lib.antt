@@ -8,7 +8,6 @@ pub mod Faults
 pub mod FaultsBelow
 pub mod FieldSets
 pub mod FragmentNameCollision
-pub mod Judged
 pub mod Leaves
 pub mod Made
 pub mod Nodes

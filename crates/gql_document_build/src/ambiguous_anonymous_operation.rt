@@ -34,8 +34,8 @@ pub(crate) fn list_ambiguous_anonymous_operation(
 {
     if is_ambiguous(several, operation) {
         list_nameless(
-            Rule::AmbiguousAnonymousOperation,
             alloc,
+            Rule::AmbiguousAnonymousOperation,
             operation.location,
             faults,
         )

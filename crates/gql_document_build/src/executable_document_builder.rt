@@ -1,12 +1,13 @@
 //! Builders of executable documents.
 
-ghost use Rattle.std.specs.Prelude.{◌≡◌, true, false, OnOk, OnErr};
+ghost use Rattle.std.specs.Prelude.{◌≡◌, ◌++◌, [], true, false, OnOk, OnErr, if◌then◌else◌};
+ghost use Rattle.gql_document_build.specs.TypeSystemDefinition.{type_system_definitions};
 
 use crate::build::build_document;
 use crate::executable_definitions::ExecutableDefinitions;
 use crate::judged::judged;
-use crate::taking::{list_type_systems, take_list};
-use gql_ast::Document;
+use crate::type_system_definition::list_type_system_definitions;
+use gql_ast::{Definition, Document};
 use gql_diag::{DiagnosticData, DiagnosticList, WithErrors};
 use gql_document_types::ExecutableDocument;
 use gql_schema_types::Schema;
@@ -134,7 +135,7 @@ impl<'s> ExecutableDocumentBuilder<'s> {
         ensures { OnOk result (spec.taken self.new ≡ spec.with_document (spec.taken self.old) document.now errors type_system_definitions_are_errors) }
     {
         let alloc = self.alloc;
-        take_list(errors, &mut self.sources, &mut self.faults)?;
+        errors.move_into(&mut self.sources, &mut self.faults)?;
         list_type_systems(
             alloc,
             type_system_definitions_are_errors,
@@ -156,7 +157,7 @@ impl<'s> ExecutableDocumentBuilder<'s> {
     {
         let alloc = self.alloc;
         let (sources, definitions) = document.into_parts();
-        take_list(errors, &mut self.sources, &mut self.faults)?;
+        errors.move_into(&mut self.sources, &mut self.faults)?;
         list_type_systems(
             alloc,
             type_system_definitions_are_errors,
@@ -165,5 +166,21 @@ impl<'s> ExecutableDocumentBuilder<'s> {
         )?;
         self.definitions.take_all(definitions)?;
         self.sources.merge(sources)
+    }
+}
+
+/// Lists definitions of type systems, where these are faults.
+fn list_type_systems(
+    alloc: Global,
+    are_faults: bool,
+    definitions: &Listed<Definition>,
+    faults: &mut Listed<DiagnosticData>,
+) -> Result<(), Memory>
+    ensures { OnOk result (faults.new ≡ faults.old ++ (if are_faults then type_system_definitions definitions.now else [])) }
+{
+    if are_faults {
+        list_type_system_definitions(alloc, definitions, faults)
+    } else {
+        Ok(())
     }
 }

@@ -1,31 +1,31 @@
 //! Faults of building a document, as diagnostics.
 
-ghost use Rattle.std.specs.Prelude.{◌≡◌, ◌++◌, [], ◌∷◌, IfOk, OnOk};
+ghost use Rattle.std.specs.Prelude.{◌≡◌, ◌++◌, [], ◌∷◌, map, OnOk};
 ghost use Rattle.gql_document_build.specs.Faults as spec;
 
 use gql_ast_base::Name;
 use gql_ast_definitions::OperationDefinition;
 use gql_diag_messages::{Details, DiagnosticData, Rule, RuleFault};
 use gql_source::SourceSpan;
-use jb_text::{Listed, Memory, Text};
+use jb_text::{Listed, Memory};
 use std::alloc::Global;
 
 /// Lists a broken rule whose messages tell no name.
 pub(crate) fn list_nameless(
-    rule: Rule,
     alloc: Global,
+    rule: Rule,
     location: Option<SourceSpan>,
     faults: &mut Listed<DiagnosticData>,
 ) -> Result<(), Memory>
     ensures { OnOk result (faults.new ≡ faults.old ++ spec.fault rule [] location None ∷ []) }
 {
-    faults.push(fault(rule, Listed::new(alloc), location, None))
+    list_fault(alloc, rule, &[], location, None, faults)
 }
 
 /// Lists a broken rule whose messages tell this word.
 pub(crate) fn list_word(
-    rule: Rule,
     alloc: Global,
+    rule: Rule,
     word: &str,
     location: Option<SourceSpan>,
     other: Option<SourceSpan>,
@@ -33,14 +33,13 @@ pub(crate) fn list_word(
 ) -> Result<(), Memory>
     ensures { OnOk result (faults.new ≡ faults.old ++ spec.fault rule (word.now ∷ []) location other ∷ []) }
 {
-    let names = one_text(alloc, word)?;
-    faults.push(fault(rule, names, location, other))
+    list_fault(alloc, rule, &[word], location, other, faults)
 }
 
 /// Lists a broken rule whose messages tell these two words.
 pub(crate) fn list_words(
-    rule: Rule,
     alloc: Global,
+    rule: Rule,
     one: &str,
     two: &str,
     location: Option<SourceSpan>,
@@ -48,21 +47,20 @@ pub(crate) fn list_words(
 ) -> Result<(), Memory>
     ensures { OnOk result (faults.new ≡ faults.old ++ spec.fault rule (one.now ∷ two.now ∷ []) location None ∷ []) }
 {
-    let names = two_texts(alloc, one, two)?;
-    faults.push(fault(rule, names, location, None))
+    list_fault(alloc, rule, &[one, two], location, None, faults)
 }
 
 /// Lists a rule that what has this name breaks.
 pub(crate) fn list_name(
-    rule: Rule,
     alloc: Global,
+    rule: Rule,
     name: &Name,
     other: Option<SourceSpan>,
     faults: &mut Listed<DiagnosticData>,
 ) -> Result<(), Memory>
     ensures { OnOk result (faults.new ≡ faults.old ++ spec.name_fault rule name.now other ∷ []) }
 {
-    list_word(rule, alloc, name.as_str(), name.location(), other, faults)
+    list_word(alloc, rule, name.as_str(), name.location(), other, faults)
 }
 
 /// The name that messages tell of an operation: empty where it has none.
@@ -75,35 +73,20 @@ pub(crate) fn operation_text(operation: &OperationDefinition) -> &str
     }
 }
 
-/// A broken rule, its names, its place and the other place.
-fn fault(
+/// Lists a broken rule with the names that its messages tell, its place and the other place. `Err` only when out of memory.
+fn list_fault(
+    alloc: Global,
     rule: Rule,
-    names: Listed<Text>,
+    names: &[&str],
     location: Option<SourceSpan>,
     other: Option<SourceSpan>,
-) -> DiagnosticData
-    ensures { result ≡ spec.fault rule names location other }
+    faults: &mut Listed<DiagnosticData>,
+) -> Result<(), Memory>
+    ensures { OnOk result (faults.new ≡ faults.old ++ spec.fault rule (map (λ name. name.now) names.now) location other ∷ []) }
 {
-    DiagnosticData {
+    let fault = RuleFault::new(alloc, rule, names, other)?;
+    faults.push(DiagnosticData {
         location,
-        details: Details::ExecutableBuildError(RuleFault { rule, names, other }),
-    }
-}
-
-/// One text. `Err` only when out of memory.
-fn one_text(alloc: Global, one: &str) -> Result<Listed<Text>, Memory>
-    ensures { IfOk result (λ list. list ≡ one.now ∷ []) }
-{
-    let mut list = Listed::new(alloc);
-    list.push(Text::from_str(alloc, one)?)?;
-    Ok(list)
-}
-
-/// Two texts. `Err` only when out of memory.
-fn two_texts(alloc: Global, one: &str, two: &str) -> Result<Listed<Text>, Memory>
-    ensures { IfOk result (λ list. list ≡ one.now ∷ two.now ∷ []) }
-{
-    let mut list = one_text(alloc, one)?;
-    list.push(Text::from_str(alloc, two)?)?;
-    Ok(list)
+        details: Details::ExecutableBuildError(fault),
+    })
 }

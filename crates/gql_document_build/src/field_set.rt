@@ -1,19 +1,18 @@
 //! Sets of fields.
 
-ghost use Rattle.std.specs.Prelude.{◌≡◌};
+ghost use Rattle.std.specs.Prelude.{◌≡◌, ◌++◌, OnOk};
+ghost use Rattle.gql_diag.specs.Judged.{IsJudged};
 ghost use Rattle.gql_document_build.specs.FieldSets as spec;
-ghost use Rattle.gql_document_build.specs.Judged.{IsJudged};
 
 use crate::built_selections::built_set;
 use crate::judged::judged;
 use crate::selection_faults::list_selection_faults;
-use crate::taking::take_items;
 use gql_ast_base::{Copying, Name};
 use gql_ast_definitions::Selection;
-use gql_diag::{DiagnosticList, WithErrors};
+use gql_diag::{DiagnosticData, DiagnosticList, WithErrors};
 use gql_document_types::FieldSet;
 use gql_schema_types::Schema;
-use jb_text::{Listed, Refused};
+use jb_text::{Listed, Memory, Refused};
 use std::alloc::Global;
 
 /// The set that selections make on the type of this name, with the files of the list. Nothing in it is checked by the rules
@@ -47,4 +46,14 @@ pub fn build_field_set(
         selection_set,
     };
     judged(alloc, set, faults)
+}
+
+/// Takes faults.
+fn take_items(items: Vec<DiagnosticData>, faults: &mut Listed<DiagnosticData>) -> Result<(), Memory>
+    ensures { OnOk result (faults.new ≡ faults.old ++ items.items) }
+{
+    for item in items {
+        faults.push(item)?;
+    }
+    Ok(())
 }

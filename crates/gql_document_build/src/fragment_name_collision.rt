@@ -40,8 +40,8 @@ fn place(
 {
     match table.get(fragment.own_name().as_str()) {
         Some(first) => list_name(
-            Rule::FragmentNameCollision,
             alloc,
+            Rule::FragmentNameCollision,
             fragment.own_name(),
             first.own_name().location(),
             faults,

@@ -29,7 +29,6 @@ mod subscription_uses_introspection;
 mod subscription_uses_multiple_fields;
 mod subselection_on_enum_type;
 mod subselection_on_scalar_type;
-mod taking;
 mod type_kind;
 mod type_system_definition;
 mod undefined_field;

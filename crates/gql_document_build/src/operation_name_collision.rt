@@ -78,8 +78,8 @@ fn note_some(
     match names.get(name.as_str()) {
         Some(first) => {
             list_name(
-                Rule::OperationNameCollision,
                 alloc,
+                Rule::OperationNameCollision,
                 name,
                 first.location(),
                 faults,

@@ -62,8 +62,8 @@ fn list_conditional(
 {
     if has_condition(directives) {
         list_word(
-            Rule::SubscriptionUsesConditionalSelection,
             alloc,
+            Rule::SubscriptionUsesConditionalSelection,
             operation_text(operation),
             location,
             None,

@@ -49,8 +49,8 @@ fn list_field(
 {
     if field.name.as_str().starts_with("__") {
         list_word(
-            Rule::SubscriptionUsesIntrospection,
             alloc,
+            Rule::SubscriptionUsesIntrospection,
             operation_text(operation),
             field.location,
             None,

@@ -25,8 +25,8 @@ pub(crate) fn list_subscription_uses_multiple_fields(
     let keys = response_keys(alloc, roots)?;
     if are_different(keys.as_slice()) {
         list_word(
-            Rule::SubscriptionUsesMultipleFields,
             alloc,
+            Rule::SubscriptionUsesMultipleFields,
             operation_text(operation),
             operation.location,
             None,

@@ -23,8 +23,8 @@ pub(crate) fn list_subselection_on_enum_type(
 {
     let text = print_type(alloc, ty)?;
     list_words(
-        Rule::SubselectionOnEnumType,
         alloc,
+        Rule::SubselectionOnEnumType,
         text.as_str(),
         name.as_str(),
         location,

@@ -23,8 +23,8 @@ pub(crate) fn list_subselection_on_scalar_type(
 {
     let text = print_type(alloc, ty)?;
     list_words(
-        Rule::SubselectionOnScalarType,
         alloc,
+        Rule::SubselectionOnScalarType,
         text.as_str(),
         name.as_str(),
         location,

@@ -186,8 +186,8 @@ fn list_told(
     ensures { OnOk result (faults.new ≡ faults.old ++ spec.told kind.now name.now location ∷ []) }
 {
     list_words(
-        Rule::TypeSystemDefinition,
         alloc,
+        Rule::TypeSystemDefinition,
         kind,
         name,
         location,

@@ -19,8 +19,8 @@ pub(crate) fn list_undefined_field(
     ensures { OnOk result (faults.new ≡ faults.old ++ spec.told ty.now name.now ∷ []) }
 {
     list_words(
-        Rule::UndefinedField,
         alloc,
+        Rule::UndefinedField,
         ty.as_str(),
         name.as_str(),
         name.location(),

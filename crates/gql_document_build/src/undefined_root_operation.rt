@@ -19,8 +19,8 @@ pub(crate) fn list_undefined_root_operation(
     ensures { OnOk result (faults.new ≡ faults.old ++ spec.undefined_root_operation operation.now ∷ []) }
 {
     list_word(
-        Rule::UndefinedRootOperation,
         alloc,
+        Rule::UndefinedRootOperation,
         keyword(operation.operation_type),
         operation.location,
         None,

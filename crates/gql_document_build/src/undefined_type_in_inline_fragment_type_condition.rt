@@ -37,8 +37,8 @@ fn list_condition(
     match schema.types.get(name.as_str()) {
         Some(_) => Ok(()),
         None => list_name(
-            Rule::UndefinedTypeInInlineFragmentTypeCondition,
             alloc,
+            Rule::UndefinedTypeInInlineFragmentTypeCondition,
             name,
             None,
             faults,

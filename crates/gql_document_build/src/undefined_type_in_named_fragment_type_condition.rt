@@ -18,8 +18,8 @@ pub(crate) fn list_undefined_type_in_named_fragment_type_condition(
     ensures { OnOk result (faults.new ≡ faults.old ++ spec.undefined_type_in_named_fragment_type_condition fragment.now ∷ []) }
 {
     list_name(
-        Rule::UndefinedTypeInNamedFragmentTypeCondition,
         alloc,
+        Rule::UndefinedTypeInNamedFragmentTypeCondition,
         &fragment.type_condition,
         None,
         faults,

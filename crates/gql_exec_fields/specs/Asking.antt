@@ -1,5 +1,5 @@
 -- What comes of a field, as the code has it.
-use Rattle.std.specs.Prelude.{◌≡◌, ◌==◌, ◌&&◌, ℕ, Bool, false, List, ◌∷◌, Some}
+use Rattle.std.specs.Prelude.{◌≡◌, Some}
 use Rattle.std.specs.Option.{option_copied}
 use Rattle.gql_schema_types.specs.Schemas.{field_of}
 use Rattle.gql_schema_types.specs.declared.schema.Schema.{Schema}
@@ -22,8 +22,3 @@ outcome_of see (Refused fault) = refused (fault_of fault)
 pub record IsDefined (schema : Schema) (U : ObjectType) (field : PlannedField) : Type 0 where
   pub definition : field_of schema U.name.text field.group.first.now.name.text ≡ Some field.definition.now
   pub named : option_copied field.named ≡ type_named schema field.definition.now.ty
-
--- it begins with two underscores, as the names of `__typename`, `__schema` and `__type` do
-abbrev pub is_reserved : List ℕ → Bool
-is_reserved (one ∷ two ∷ rest) = (one == 95) && (two == 95)
-is_reserved _ = false

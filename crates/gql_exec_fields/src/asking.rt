@@ -6,7 +6,6 @@ ghost use Rattle.gql_exec_resolve.specs.Meaning.{Answers};
 ghost use Rattle.gql_exec_resolve.specs.Resolved.{answered, Meaning};
 ghost use Rattle.gql_exec_plan.specs.Plan.{IsPlanned, arguments_by, definition_on};
 ghost use Rattle.gql_exec_fields.specs.Asks as spec;
-ghost use Rattle.gql_exec_fields.specs.Asking as asking;
 ghost use Rattle.gql_exec_fields.specs.Asking.{IsDefined, outcome_of};
 ghost use Rattle.gql_exec_fields.specs.Executing as executing;
 ghost use Rattle.gql_exec_fields.specs.Executing.{request_of};
@@ -92,7 +91,7 @@ impl<'s> Executing<'s> {
             let r = request_of self.now O.type_of O.resolves in
             outcome_of O.seen asked ≡ answered (spec.answer r object_type.now (O.seen object.now) field.now.group.first.now.name.text arguments.now)) }
     {
-        if is_reserved(field.group.first.name.as_str()) {
+        if field.group.first.name.is_reserved() {
             self.resolve_reserved(object_type, object, field, arguments)
         } else {
             self.ask_object(object_type, object, field, arguments)
@@ -153,16 +152,6 @@ impl<'s> Executing<'s> {
         ensures { result ≡ executing.is_hidden self.now.introspection self.now.request.schema.now object_type.now name.now }
     {
         !self.introspection && is_introspection(self.schema(), object_type, name)
-    }
-}
-
-/// Whether a name begins with two underscores.
-fn is_reserved(name: &str) -> bool
-    ensures { result ≡ asking.is_reserved name.now }
-{
-    match name.as_bytes() {
-        [one, two, ..] => *one == b'_' && *two == b'_',
-        _ => false,
     }
 }
 

@@ -1,6 +1,7 @@
 //! A directive, as `__Directive`.
 
 ghost use Rattle.std.specs.Prelude.{◌≡◌, map};
+ghost use Rattle.gql_ast_definitions.specs.Schemas.{location_name};
 ghost use Rattle.gql_exec_meta.specs.Answers.{texts};
 ghost use Rattle.gql_exec_meta.specs.DirectiveDef as spec;
 ghost use Rattle.gql_exec_meta.specs.Seen.{Gives, GivesField};
@@ -40,38 +41,11 @@ fn locations<'a>(
     alloc: Global,
     locations: &[DirectiveLocation],
 ) -> Result<ResolvedValue<MetaObject<'a>>, Memory>
-    ensures { Gives result (texts (map spec.location_name locations.now)) }
+    ensures { Gives result (texts (map location_name locations.now)) }
 {
     let mut items = Items::new(alloc);
     for location in locations {
-        items.push(text_leaf(alloc, location_name(*location))?)?;
+        items.push(text_leaf(alloc, location.name())?)?;
     }
     Ok(items.into_list())
-}
-
-/// The value of `__DirectiveLocation`.
-fn location_name(location: DirectiveLocation) -> &'static str
-    ensures { result.now ≡ spec.location_name location }
-{
-    match location {
-        DirectiveLocation::Query => "QUERY",
-        DirectiveLocation::Mutation => "MUTATION",
-        DirectiveLocation::Subscription => "SUBSCRIPTION",
-        DirectiveLocation::Field => "FIELD",
-        DirectiveLocation::FragmentDefinition => "FRAGMENT_DEFINITION",
-        DirectiveLocation::FragmentSpread => "FRAGMENT_SPREAD",
-        DirectiveLocation::InlineFragment => "INLINE_FRAGMENT",
-        DirectiveLocation::VariableDefinition => "VARIABLE_DEFINITION",
-        DirectiveLocation::Schema => "SCHEMA",
-        DirectiveLocation::Scalar => "SCALAR",
-        DirectiveLocation::Object => "OBJECT",
-        DirectiveLocation::FieldDefinition => "FIELD_DEFINITION",
-        DirectiveLocation::ArgumentDefinition => "ARGUMENT_DEFINITION",
-        DirectiveLocation::Interface => "INTERFACE",
-        DirectiveLocation::Union => "UNION",
-        DirectiveLocation::Enum => "ENUM",
-        DirectiveLocation::EnumValue => "ENUM_VALUE",
-        DirectiveLocation::InputObject => "INPUT_OBJECT",
-        DirectiveLocation::InputFieldDefinition => "INPUT_FIELD_DEFINITION",
-    }
 }

@@ -24,7 +24,7 @@ use Rattle.gql_diag.specs.List.{Diagnostics}
 use Rattle.gql_diag.specs.declared.with_errors.WithErrors.{WithErrors}
 use Rattle.gql_ast_base.specs.Names.{Named}
 use Rattle.gql_document_build.specs.FieldSets.{built, all_faults}
-use Rattle.gql_document_build.specs.Judged.{IsJudged as IsFaultsJudged}
+use Rattle.gql_diag.specs.Judged.{IsJudged as IsFaultsJudged}
 use Rattle.gql_document_types.specs.declared.document.FieldSet.{FieldSet}
 use Rattle.gql_schema_types.specs.declared.schema.Schema.{Schema}
 use Rattle.gql_parser.specs.Parsers.{ParserState, Given}

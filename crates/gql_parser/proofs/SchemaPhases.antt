@@ -10,6 +10,7 @@ use Rattle.gql_ast.specs.declared.document.Document.{Document}
 use Rattle.gql_cst.specs.declared.limits.Limits.{Limits}
 use Rattle.gql_cst.specs.Parses.{IsParse}
 use Rattle.gql_cst_grammar.specs.declared.rule.Rule.TheVariants as rule
+use Rattle.gql_diag.specs.Judged.{IsJudged}
 use Rattle.gql_diag.specs.List.{Diagnostics, IsStableSort}
 use Rattle.gql_diag.specs.Order.{list_order}
 use Rattle.gql_diag.specs.declared.with_errors.WithErrors.{WithErrors}
@@ -21,7 +22,6 @@ use Rattle.gql_parser.specs.Parsers.{ParserState, fresh}
 use Rattle.gql_parser.specs.Readings.{IsSentenceWithin}
 use Rattle.gql_schema.specs.BuiltInSchema.{IsBuiltIn, built_in_sources}
 use Rattle.gql_schema.specs.Builders.{Taken, built, all_faults, nothing_taken}
-use Rattle.gql_schema.specs.Judged.{IsJudged}
 use Rattle.gql_schema_build.specs.declared.built_in.BuiltIn.{BuiltIn}
 use Rattle.gql_schema.specs.Scalars.{validated}
 use Rattle.gql_schema.specs.SchemaFaults.{AreSchemaFaults, HasListedAllFaults}
@@ -81,7 +81,7 @@ is_unbuilt document taken list h some items sources = record {
 }
 
 pub is_refused : (document : Document) (taken : Taken) (refusal : WithErrors Schema) → HasTaken document taken
-    → IsJudged (built taken) (all_faults taken) (Err (Fault refusal)) → IsUnbuilt document refusal.errors
+    → IsJudged (built taken) (built taken).sources (all_faults taken) (Err (Fault refusal)) → IsUnbuilt document refusal.errors
 is_refused document taken refusal h judged = is_unbuilt document taken refusal.errors h judged.0 judged.1.1.0 judged.1.1.1
 
 pub its_built_in : (built_in : BuiltIn) (taken : Taken) (schema : Schema) → taken ≡ nothing_taken built_in_sources built_in → schema ≡ built taken → schema.sources ≡ built_in_sources

@@ -17,7 +17,7 @@ use Rattle.gql_ast_laws.specs.Meant.{AreSelectionsOf}
 use Rattle.gql_diag.specs.List.{Diagnostics}
 use Rattle.gql_diag.specs.declared.with_errors.WithErrors.{WithErrors}
 use Rattle.gql_document_build.specs.FieldSets.{built, all_faults}
-use Rattle.gql_document_build.specs.Judged.{IsJudged}
+use Rattle.gql_diag.specs.Judged.{IsJudged}
 use Rattle.gql_document_types.specs.declared.document.FieldSet.{FieldSet}
 use Rattle.gql_schema_types.specs.declared.schema.Schema.{Schema}
 use Rattle.gql_parser.specs.Parsers.{ParserState, Given, its_file}

@@ -1,12 +1,12 @@
 //! Broken rules, as diagnostics.
 
-ghost use Rattle.std.specs.Prelude.{◌≡◌, ◌++◌, [], ◌∷◌, map, IfOk, OnOk};
+ghost use Rattle.std.specs.Prelude.{◌≡◌, ◌++◌, [], ◌∷◌, map, OnOk};
 ghost use Rattle.gql_rules_base.specs.Faults as spec;
 
 use gql_ast_base::Name;
 use gql_diag_messages::{Details, DiagnosticData, Rule, RuleFault};
 use gql_source::SourceSpan;
-use jb_text::{Listed, Memory, Text};
+use jb_text::{Listed, Memory};
 use std::alloc::Global;
 
 /// Lists a broken rule with the names that its messages tell, its place and the other place. `Err` only when out of memory.
@@ -20,10 +20,10 @@ pub fn list_fault(
 ) -> Result<(), Memory>
     ensures { OnOk result (faults.new ≡ faults.old ++ spec.fault rule (map (λ name. name.now) names.now) location other ∷ []) }
 {
-    let names = texts(alloc, names)?;
+    let fault = RuleFault::new(alloc, rule, names, other)?;
     faults.push(DiagnosticData {
         location,
-        details: Details::CompilerDiagnostic(RuleFault { rule, names, other }),
+        details: Details::CompilerDiagnostic(fault),
     })
 }
 
@@ -47,15 +47,4 @@ pub fn list_long_chain(name: &Name, faults: &mut Listed<DiagnosticData>) -> Resu
         location: name.location(),
         details: Details::RecursionLimitError,
     })
-}
-
-/// Copies of these texts.
-fn texts(alloc: Global, names: &[&str]) -> Result<Listed<Text>, Memory>
-    ensures { IfOk result (λ made. made ≡ map (λ name. name.now) names.now) }
-{
-    let mut made = Listed::new(alloc);
-    for name in names {
-        made.push(Text::from_str(alloc, name)?)?;
-    }
-    Ok(made)
 }

@@ -29,7 +29,7 @@ pub(crate) fn list_unsupported_location(
         list_misplaced(
             alloc,
             used.name.as_str(),
-            word(location),
+            location.name(),
             used.location,
             faults,
         )
@@ -60,32 +60,7 @@ fn list_misplaced<'s>(
 fn allows(locations: &[DirectiveLocation], location: DirectiveLocation) -> bool
     ensures { result ≡ spec.allows locations.now location }
 {
-    locations.iter().any(|known| word(location) == word(*known))
-}
-
-/// A location as it is written.
-fn word(location: DirectiveLocation) -> &'static str
-    ensures { result.now ≡ spec.word location }
-{
-    match location {
-        DirectiveLocation::Query => "QUERY",
-        DirectiveLocation::Mutation => "MUTATION",
-        DirectiveLocation::Subscription => "SUBSCRIPTION",
-        DirectiveLocation::Field => "FIELD",
-        DirectiveLocation::FragmentDefinition => "FRAGMENT_DEFINITION",
-        DirectiveLocation::FragmentSpread => "FRAGMENT_SPREAD",
-        DirectiveLocation::InlineFragment => "INLINE_FRAGMENT",
-        DirectiveLocation::VariableDefinition => "VARIABLE_DEFINITION",
-        DirectiveLocation::Schema => "SCHEMA",
-        DirectiveLocation::Scalar => "SCALAR",
-        DirectiveLocation::Object => "OBJECT",
-        DirectiveLocation::FieldDefinition => "FIELD_DEFINITION",
-        DirectiveLocation::ArgumentDefinition => "ARGUMENT_DEFINITION",
-        DirectiveLocation::Interface => "INTERFACE",
-        DirectiveLocation::Union => "UNION",
-        DirectiveLocation::Enum => "ENUM",
-        DirectiveLocation::EnumValue => "ENUM_VALUE",
-        DirectiveLocation::InputObject => "INPUT_OBJECT",
-        DirectiveLocation::InputFieldDefinition => "INPUT_FIELD_DEFINITION",
-    }
+    locations
+        .iter()
+        .any(|known| location.name() == known.name())
 }

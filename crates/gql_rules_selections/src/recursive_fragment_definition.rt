@@ -6,10 +6,9 @@ ghost use Rattle.gql_rules_base.specs.Faults as told;
 ghost use Rattle.gql_rules_selections.specs.RecursiveFragmentDefinition as spec;
 ghost use Rattle.gql_rules_selections.specs.WayRound as way;
 
-use crate::spreads::spread_graph;
 use crate::ways::{first_recursive, way_round, way_text};
 use gql_diag_messages::{DiagnosticData, Rule};
-use gql_document_types::Fragment;
+use gql_document_types::{Fragment, spread_graph};
 use gql_rules_base::{list_fault, list_long_chain};
 use gql_rules_graph::{is_marked, judge};
 use gql_schema_types::Table;

@@ -5,9 +5,8 @@ ghost use Rattle.gql_diag_messages.specs.declared.diagnostic_data.DiagnosticData
 ghost use Rattle.gql_rules_selections.specs.UnusedFragment as spec;
 
 use crate::reaching::{is_reached, reached};
-use crate::spreads::{add_spreads, spread_graph};
 use gql_diag_messages::{DiagnosticData, Rule};
-use gql_document_types::{ExecutableDocument, Fragment};
+use gql_document_types::{ExecutableDocument, Fragment, add_spreads, spread_graph};
 use gql_rules_base::list_fault;
 use jb_text::{Listed, Memory};
 use std::alloc::Global;

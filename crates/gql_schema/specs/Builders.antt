@@ -4,6 +4,7 @@ use Rattle.gql_source.specs.File.{Files, joined}
 use Rattle.jb_text.specs.declared.refused.Refused.{Refused}
 use Rattle.jb_text.specs.declared.refused.Refused.TheVariants.{Memory}
 use Rattle.gql_ast.specs.declared.document.Document.{Document}
+use Rattle.gql_diag.specs.Judged.{IsJudged}
 use Rattle.gql_diag.specs.List.{Diagnostics}
 use Rattle.gql_diag.specs.declared.with_errors.WithErrors.{WithErrors}
 use Rattle.gql_diag_messages.specs.declared.diagnostic_data.DiagnosticData.{DiagnosticData}
@@ -13,7 +14,6 @@ use Rattle.gql_schema_build.specs.ExecutableDefinition.{executable_definitions}
 use Rattle.gql_schema_build.specs.TypeSystems.{with_definitions, no_definitions}
 use Rattle.gql_schema_build.specs.declared.built_in.BuiltIn.{BuiltIn}
 use Rattle.gql_schema_build.specs.declared.type_system.TypeSystem.{TypeSystem}
-use Rattle.gql_schema.specs.Judged.{IsJudged}
 use Rattle.gql_schema.specs.declared.schema_builder.SchemaBuilder.{SchemaBuilder}
 
 -- what has been taken
@@ -49,5 +49,5 @@ nothing_taken sources built_in = record { sources = sources; built_in = built_in
 
 -- The answer judges the schema of what was taken by every fault. Once a call was out of memory, so is the answer.
 pub record IsAnswer (taken : Taken) (answer : Result Schema (Refused (WithErrors Schema))) : Type 0 where
-  pub judged : IsJudged (built taken) (all_faults taken) answer
+  pub judged : IsJudged (built taken) (built taken).sources (all_faults taken) answer
   pub refused : taken.refused ≡ true → answer ≡ Err Memory

@@ -36,7 +36,6 @@ mod scalars;
 mod schema_builder;
 mod schema_faults;
 mod taken;
-mod taking;
 mod validate;
 
 pub use built_in_text::{BUILT_IN_PATH, BUILT_IN_TEXT};

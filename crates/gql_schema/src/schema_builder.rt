@@ -1,13 +1,13 @@
 //! Builders of schemas.
 
-ghost use Rattle.std.specs.Prelude.{◌≡◌, true, false, IfOk, OnOk, OnErr};
+ghost use Rattle.std.specs.Prelude.{◌≡◌, ◌++◌, [], true, false, IfOk, OnOk, OnErr, if◌then◌else◌};
+ghost use Rattle.gql_schema_build.specs.ExecutableDefinition.{executable_definitions};
 
 use crate::built_in_schema::built_in;
 use crate::judged::judged;
-use crate::taking::{list_executable, take_list};
-use gql_ast::Document;
+use gql_ast::{Definition, Document};
 use gql_diag::{DiagnosticData, DiagnosticList, WithErrors};
-use gql_schema_build::{BuiltIn, TypeSystem, build_schema};
+use gql_schema_build::{BuiltIn, TypeSystem, build_schema, list_executable_definitions};
 use gql_schema_types::Schema;
 use gql_source::SourceMap;
 use jb_text::{Listed, Memory, Refused};
@@ -150,7 +150,7 @@ impl SchemaBuilder {
         ensures { OnOk result (spec.taken self.new ≡ spec.with_document (spec.taken self.old) document.now errors executable_definitions_are_errors) }
     {
         let alloc = self.alloc;
-        take_list(errors, &mut self.sources, &mut self.faults)?;
+        errors.move_into(&mut self.sources, &mut self.faults)?;
         list_executable(
             alloc,
             executable_definitions_are_errors,
@@ -172,7 +172,7 @@ impl SchemaBuilder {
     {
         let alloc = self.alloc;
         let (sources, definitions) = document.into_parts();
-        take_list(errors, &mut self.sources, &mut self.faults)?;
+        errors.move_into(&mut self.sources, &mut self.faults)?;
         list_executable(
             alloc,
             executable_definitions_are_errors,
@@ -181,5 +181,21 @@ impl SchemaBuilder {
         )?;
         self.user.take_all(definitions)?;
         self.sources.merge(sources)
+    }
+}
+
+/// Lists operations and fragments, where these are faults.
+fn list_executable(
+    alloc: Global,
+    are_faults: bool,
+    definitions: &Listed<Definition>,
+    faults: &mut Listed<DiagnosticData>,
+) -> Result<(), Memory>
+    ensures { OnOk result (faults.new ≡ faults.old ++ (if are_faults then executable_definitions definitions.now else [])) }
+{
+    if are_faults {
+        list_executable_definitions(alloc, definitions, faults)
+    } else {
+        Ok(())
     }
 }

@@ -1,12 +1,12 @@
 //! Faults of building a schema, as diagnostics.
 
-ghost use Rattle.std.specs.Prelude.{◌≡◌, ◌++◌, [], ◌∷◌, IfOk, OnOk};
+ghost use Rattle.std.specs.Prelude.{◌≡◌, ◌++◌, [], ◌∷◌, map, OnOk};
 ghost use Rattle.gql_schema_build.specs.Faults as spec;
 
 use gql_ast_base::Name;
 use gql_diag_messages::{Details, DiagnosticData, Rule, RuleFault};
 use gql_source::SourceSpan;
-use jb_text::{Listed, Memory, Text};
+use jb_text::{Listed, Memory};
 use std::alloc::Global;
 
 /// Lists a broken rule whose message tells no name. `Err` only when out of memory.
@@ -19,7 +19,7 @@ pub(crate) fn list_nameless(
 ) -> Result<(), Memory>
     ensures { OnOk result (faults.new ≡ faults.old ++ spec.fault rule [] location other ∷ []) }
 {
-    faults.push(fault(rule, Listed::new(alloc), location, other))
+    list_fault(alloc, rule, &[], location, other, faults)
 }
 
 /// Lists a broken rule whose message tells this word. `Err` only when out of memory.
@@ -33,8 +33,7 @@ pub(crate) fn list_word(
 ) -> Result<(), Memory>
     ensures { OnOk result (faults.new ≡ faults.old ++ spec.fault rule (word.now ∷ []) location other ∷ []) }
 {
-    let names = one_text(alloc, word)?;
-    faults.push(fault(rule, names, location, other))
+    list_fault(alloc, rule, &[word], location, other, faults)
 }
 
 /// Lists a rule that what has this name breaks. `Err` only when out of memory.
@@ -61,39 +60,31 @@ pub(crate) fn list_collision(
 ) -> Result<(), Memory>
     ensures { OnOk result (faults.new ≡ faults.old ++ spec.collision rule owner.now second.now first.now ∷ []) }
 {
-    let names = two_texts(alloc, owner, second.as_str())?;
-    faults.push(fault(rule, names, second.location(), first.location()))
+    let names = [owner, second.as_str()];
+    list_fault(
+        alloc,
+        rule,
+        &names,
+        second.location(),
+        first.location(),
+        faults,
+    )
 }
 
-/// A broken rule, its names, its place and the other place.
-fn fault(
+/// Lists a broken rule with the names that its messages tell, its place and the other place. `Err` only when out of memory.
+fn list_fault(
+    alloc: Global,
     rule: Rule,
-    names: Listed<Text>,
+    names: &[&str],
     location: Option<SourceSpan>,
     other: Option<SourceSpan>,
-) -> DiagnosticData
-    ensures { result ≡ spec.fault rule names location other }
+    faults: &mut Listed<DiagnosticData>,
+) -> Result<(), Memory>
+    ensures { OnOk result (faults.new ≡ faults.old ++ spec.fault rule (map (λ name. name.now) names.now) location other ∷ []) }
 {
-    DiagnosticData {
+    let fault = RuleFault::new(alloc, rule, names, other)?;
+    faults.push(DiagnosticData {
         location,
-        details: Details::SchemaBuildError(RuleFault { rule, names, other }),
-    }
-}
-
-/// One text. `Err` only when out of memory.
-fn one_text(alloc: Global, one: &str) -> Result<Listed<Text>, Memory>
-    ensures { IfOk result (λ list. list ≡ one.now ∷ []) }
-{
-    let mut list = Listed::new(alloc);
-    list.push(Text::from_str(alloc, one)?)?;
-    Ok(list)
-}
-
-/// Two texts. `Err` only when out of memory.
-fn two_texts(alloc: Global, one: &str, two: &str) -> Result<Listed<Text>, Memory>
-    ensures { IfOk result (λ list. list ≡ one.now ∷ two.now ∷ []) }
-{
-    let mut list = one_text(alloc, one)?;
-    list.push(Text::from_str(alloc, two)?)?;
-    Ok(list)
+        details: Details::SchemaBuildError(fault),
+    })
 }

@@ -17,19 +17,9 @@ pub(crate) fn list_reserved_name(
 ) -> Result<(), Memory>
     ensures { OnOk result (faults.new ≡ faults.old ++ spec.reserved_name name.now) }
 {
-    if is_reserved(name.as_str().as_bytes()) {
+    if name.is_reserved() {
         list_name(alloc, Rule::ReservedName, name, faults)
     } else {
         Ok(())
-    }
-}
-
-/// Whether the text begins with two underscores.
-fn is_reserved(text: &[u8]) -> bool
-    ensures { result ≡ spec.is_reserved text.now }
-{
-    match text {
-        [one, two, ..] => *one == b'_' && *two == b'_',
-        _ => false,
     }
 }

@@ -9,7 +9,8 @@ use Rattle.std.proofs.lemmas.Bool.Decides.{nat_tests}
 use Rattle.std.proofs.lemmas.Fmt.{decimal_nonempty, digits_decimal, digits_value-decimal}
 use Rattle.std.proofs.lemmas.Str.Parse.{IsNumeralModel, numerals_by_value, not_in_digits, without_leading_plus_none}
 use Rattle.jb_shape.specs.Outcome.{and_then}
-use Rattle.jb_shape.specs.Keys.{is_numeral, unsigned_key, signed_key, unsigned_text, signed_text}
+use Rattle.jb_text.specs.Numeral.{is_numeral}
+use Rattle.jb_shape.specs.Keys.{unsigned_key, signed_key, unsigned_text, signed_text}
 use Rattle.jb_shape.specs.Faithful.{IsSigned}
 use Rattle.jb_shape.specs.Back.{fits_unsigned, fits_signed}
 

@@ -1,9 +1,8 @@
 -- Which texts stand for keys.
-use Rattle.std.specs.Prelude.{ℕ, ℤ, pos, nat_lt, Bool, ◌&&◌, List, length, Result, Ok, Err, if◌then◌else◌}
+use Rattle.std.specs.Prelude.{ℕ, ℤ, pos, Bool, List, Result, Ok, Err, if◌then◌else◌}
 use Rattle.std.specs.Fmt.{decimal, signed_decimal}
-use Rattle.std.specs.Char.{is_ascii_digit}
-use Rattle.std.specs.List.{list_all}
 use Rattle.std.specs.Str.Parse.{digits_value, signed_digits_value, without_leading_plus, without_leading_sign}
+use Rattle.jb_text.specs.Numeral.{is_numeral}
 use Rattle.jb_shape.specs.declared.shape_error.ShapeError.{ShapeError}
 use Rattle.jb_shape.specs.declared.shape_error.ShapeError.TheVariants.{WrongKind, KeyNotText}
 use Rattle.jb_shape.specs.Scalars.{unsigned_within, signed_within}
@@ -13,10 +12,6 @@ no_key_text _ = Err KeyNotText
 
 abbrev pub no_key : List ℕ → Result Bool ShapeError
 no_key _ = Err KeyNotText
-
--- one digit or more, and nothing else
-abbrev pub is_numeral : List ℕ → Bool
-is_numeral digits = nat_lt 0 (length digits) && list_all is_ascii_digit digits
 
 -- digits behind a plus or alone
 abbrev pub unsigned_key : ℕ → List ℕ → Result ℕ ShapeError

@@ -1,11 +1,9 @@
 //! Whole numbers read from their decimal digits.
 ghost use Rattle.std.specs.Prelude.{◌≡◌, ◌^◌, ◌<◌, ◌≤◌, ◌≤ℤ◌, pos, negsuc, IfOk};
-ghost use Rattle.std.specs.Char.{is_ascii_digit};
-ghost use Rattle.std.specs.List.{list_all};
-ghost use Rattle.std.specs.Str.Parse.{without_leading_plus, without_leading_sign};
-ghost use Rattle.jb_shape.specs.Keys.{is_numeral, unsigned_key, signed_key};
+ghost use Rattle.jb_shape.specs.Keys.{unsigned_key, signed_key};
 
 use crate::shape_error::ShapeError;
+use jb_text::{is_numeral, without_plus, without_sign};
 
 /// The number from zero to `most` that digits write, behind a plus or alone.
 pub(crate) fn unsigned_key(key: &str, most: u64) -> Result<u64, ShapeError>
@@ -35,35 +33,5 @@ pub(crate) fn signed_key(key: &str, most: u64) -> Result<i64, ShapeError>
     match key.parse::<i64>() {
         Ok(value) if -1 - greatest <= value && value <= greatest => Ok(value),
         _ => Err(ShapeError::NumberTooLarge),
-    }
-}
-
-fn is_numeral(digits: &[u8]) -> bool
-    ensures { result ≡ is_numeral digits.now }
-{
-    !digits.is_empty() && are_digits(digits)
-}
-
-fn are_digits(bytes: &[u8]) -> bool
-    ensures { result ≡ list_all is_ascii_digit bytes.now }
-{
-    bytes.iter().all(|byte| byte.is_ascii_digit())
-}
-
-fn without_plus(text: &[u8]) -> &[u8]
-    ensures { result.now ≡ without_leading_plus text.now }
-{
-    match text {
-        [b'+', digits @ ..] => digits,
-        _ => text,
-    }
-}
-
-fn without_sign(text: &[u8]) -> &[u8]
-    ensures { result.now ≡ without_leading_sign text.now }
-{
-    match text {
-        [b'-', digits @ ..] => digits,
-        _ => without_plus(text),
     }
 }

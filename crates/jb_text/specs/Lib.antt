@@ -3,4 +3,5 @@ pub mod WalkMut
 pub mod Plain
 pub mod ByteString
 pub mod Number
+pub mod Numeral
 pub mod formers

@@ -4,7 +4,8 @@
 //! their bytes, a [`Listed`] as a list, a [`Number`] as a whole number.
 //!
 //! Reading and printing both look for the first byte that does not stand for itself in a JSON string (RFC 8259, section 7):
-//! [`plain_length`] tells how many do at the front.
+//! [`plain_length`] tells how many do at the front. A key of a map that stands for a number, and a number of a query, are digits
+//! behind a sign or alone: [`is_numeral`] tells.
 //!
 //! A walk gives the keys of a map, its values or its pairs, each once, from either end. A map holds its keys in one list and its
 //! values in another, and a walk goes along both. Contracts see a walk as the list of what it has left. Once a walk has ended it
@@ -17,6 +18,7 @@ mod iter_mut;
 pub mod laws;
 mod listed;
 mod number;
+mod numeral;
 mod parts;
 mod plain;
 mod refused;
@@ -27,6 +29,7 @@ pub use iter::{IntoIter, Iter};
 pub use iter_mut::{IterMut, ValuesMut};
 pub use listed::{Listed, ListedIter};
 pub use number::Number;
+pub use numeral::{is_numeral, without_plus, without_sign};
 pub use parts::{Keys, Values};
 pub use plain::plain_length;
 pub use refused::{Memory, Refused};

@@ -1,6 +1,6 @@
 use Rattle.std.proofs.Common.{◌≡◌, ◌++◌, map, drop}
+use Rattle.gql_ast_definitions.specs.Schemas.{location_name}
 use Rattle.gql_exec_meta.specs.Answers.{text_leaf}
-use Rattle.gql_exec_meta.specs.DirectiveDef.{location_name}
 use Rattle.gql_exec_meta.specs.Items.{answers_in}
 use Rattle.gql_exec_meta.proofs.directive_def.locations.Given as goal
 

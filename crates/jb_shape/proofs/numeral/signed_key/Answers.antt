@@ -1,6 +1,6 @@
 use Rattle.std.proofs.Common.{◌≡◌, true}
 use Rattle.std.specs.Str.Parse.{without_leading_sign}
-use Rattle.jb_shape.specs.Keys.{is_numeral}
+use Rattle.jb_text.specs.Numeral.{is_numeral}
 use Rattle.jb_shape.proofs.Numerals.{signed_large}
 use Rattle.jb_shape.proofs.numeral.signed_key.Goals as goal
 

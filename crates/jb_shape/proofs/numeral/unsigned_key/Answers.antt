@@ -1,6 +1,6 @@
 use Rattle.std.proofs.Common.{◌≡◌, true, arith}
 use Rattle.std.specs.Str.Parse.{without_leading_plus}
-use Rattle.jb_shape.specs.Keys.{is_numeral}
+use Rattle.jb_text.specs.Numeral.{is_numeral}
 use Rattle.jb_shape.proofs.Numerals.{unsigned_large}
 use Rattle.jb_shape.proofs.numeral.unsigned_key.Goals as goal
 

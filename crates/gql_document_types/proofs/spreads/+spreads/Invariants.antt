@@ -1,6 +1,6 @@
 use Rattle.std.proofs.Common.{◌≡◌, ◌++◌, drop}
 use Rattle.gql_document_types.specs.Spreads.{spread_numbers}
-use Rattle.gql_rules_selections.proofs.spreads.+spreads.Given as goal
+use Rattle.gql_document_types.proofs.spreads.+spreads.Given as goal
 
 -- what is there and what is left make the whole
 abbrev pub invariant-add_spreads-loop-selection : goal.invariant-add_spreads-loop-selection

@@ -1,6 +1,6 @@
 use Rattle.std.proofs.Common.{◌≡◌, ◌++◌}
 use Rattle.std.specs.Vec.Iter.{into_iter_items}
-use Rattle.gql_document_build.proofs.taking.take_items.Given as goal
+use Rattle.gql_document_build.proofs.field_set.take_items.Given as goal
 
 -- what is there and what is left make the whole
 abbrev pub invariant-loop-item : goal.invariant-loop-item

@@ -1,6 +1,6 @@
 use Rattle.std.proofs.Common.{◌≡◌, ◌++◌, drop, map}
 use Rattle.gql_document_types.specs.Spreads.{spreads_in}
-use Rattle.gql_rules_selections.proofs.spreads.spread_graph.Given as goal
+use Rattle.gql_document_types.proofs.spreads.spread_graph.Given as goal
 
 -- what is there and what is left make the whole
 abbrev pub invariant-loop-fragment : goal.invariant-loop-fragment

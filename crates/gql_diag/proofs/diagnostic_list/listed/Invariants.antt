@@ -1,5 +1,5 @@
 use Rattle.std.proofs.Common.{◌≡◌, ◌++◌}
-use Rattle.gql_document_build.proofs.judged.listed.Given as goal
+use Rattle.gql_diag.proofs.diagnostic_list.listed.Given as goal
 
 -- what is listed and what is left make the whole
 abbrev pub invariant-loop-fault : goal.invariant-loop-fault

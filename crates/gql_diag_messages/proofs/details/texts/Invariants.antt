@@ -1,5 +1,5 @@
 use Rattle.std.proofs.Common.{◌≡◌, ◌++◌, map, drop}
-use Rattle.gql_rules_base.proofs.fault.texts.Given as goal
+use Rattle.gql_diag_messages.proofs.details.texts.Given as goal
 
 -- what is made and what is left make the whole
 abbrev pub invariant-loop-name : goal.invariant-loop-name

@@ -1,8 +1,0 @@
-use Rattle.std.proofs.Common.{◌≡◌, ◌++◌, drop}
-use Rattle.gql_document_types.specs.Spreads.{spread_numbers}
-use Rattle.gql_document_types.proofs.fragments_acyclic.+spreads.Given as goal
-
--- what is there and what is left make the whole
-abbrev pub invariant-add_all-loop-selection : goal.invariant-add_all-loop-selection
-invariant-add_all-loop-selection l =
-    l.numbers ++ spread_numbers l.fragments (drop l.selection-index l.selection-items) ≡ l.fn.numbers ++ spread_numbers l.fragments l.selection-items
