@@ -35,7 +35,7 @@ pub trait Convert: Sized + Drop {
 }
 
 /// Adds what is found, if anything is, at the end of the list. `Err` only where memory runs out.
-pub fn push_found<T: Drop>(list: &mut Listed<T>, found: Option<T>) -> Result<(), Memory>
+pub(crate) fn push_found<T: Drop>(list: &mut Listed<T>, found: Option<T>) -> Result<(), Memory>
     ensures { OnOk result (list.new ≡ list.old ++ option_to_list found) }
 {
     match found {

@@ -15,7 +15,7 @@ use std::alloc::Global;
 
 /// Whether a token is a string.
 #[must_use]
-pub fn opens_string(token: &str) -> bool
+pub(crate) fn opens_string(token: &str) -> bool
     ensures { result ≡ spec.opens_string token.now }
 {
     first_byte(token) == b'"'
@@ -23,7 +23,7 @@ pub fn opens_string(token: &str) -> bool
 
 /// Whether a token is a number: it begins with a digit or `-`.
 #[must_use]
-pub fn opens_number(token: &str) -> bool
+pub(crate) fn opens_number(token: &str) -> bool
     ensures { result ≡ spec.opens_number token.now }
 {
     let byte = first_byte(token);
@@ -53,7 +53,7 @@ pub fn string_text(alloc: Global, token: &str) -> Result<Text, Memory>
 
 /// Whether a number has a fraction or an exponent.
 #[must_use]
-pub fn has_part(token: &str) -> bool
+pub(crate) fn has_part(token: &str) -> bool
     ensures { result ≡ list_any spec.has_part token.now }
 {
     token

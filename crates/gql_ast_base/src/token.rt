@@ -34,7 +34,7 @@ pub(crate) fn piece(text: &str, start: usize, end: usize) -> Option<&str>
 /// The text of a token.
 #[must_use]
 #[tactic(auto, unfolding(crate::specs::Parts::token_text))]
-pub fn token_text<'a>(text: &'a str, tree: &Tree) -> Option<&'a str>
+pub(crate) fn token_text<'a>(text: &'a str, tree: &Tree) -> Option<&'a str>
     ensures { option_copied result ≡ parts.token_text text.now (plain tree.now) }
 {
     if is_of(tree, SyntaxKind::Token) {

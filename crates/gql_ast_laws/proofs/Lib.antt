@@ -3,7 +3,7 @@ pub mod Levels
 pub mod ReadBack
 mod Rows
 pub mod Constants
-mod Kept
+pub mod Kept
 mod Values
 mod Documents
 pub mod TokenKinds
@@ -32,3 +32,7 @@ pub mod Extended
 pub mod ExtensionFound
 pub mod DefinitionFound
 pub mod Total
+pub mod Found
+pub mod Tokens
+pub mod Readings
+pub mod Forests

@@ -1,11 +1,5 @@
 mod Empty
 mod Each
-mod Entries
-mod Scalars
-mod Found
-mod Tokens
-mod Readings
-mod Forests
 mod BuiltInText
 mod Settled
 mod Fields

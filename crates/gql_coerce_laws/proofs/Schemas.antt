@@ -47,7 +47,7 @@ use Rattle.gql_schema_types.specs.declared.types.ExtendedType.{ExtendedType}
 use Rattle.gql_schema_types.specs.declared.types.ExtendedType.TheVariants as type
 use Rattle.gql_schema_types.specs.declared.types.InputObjectType.{InputObjectType}
 use Rattle.gql_parser.specs.SchemaText.{SchemaText, AreDefinitions, all_of, its_given}
-use Rattle.gql_coerce_laws.proofs.Scalars.{scalar-scalar}
+use Rattle.gql_parser.proofs.Scalars.{scalar-scalar}
 use Rattle.gql_coerce.specs.InputTypes.{as_input_object}
 use Rattle.gql_coerce_laws.specs.Inputs.{is_input, IsInputField, AreInputFields}
 use Rattle.gql_coerce_laws.proofs.Empty.{front_empty, back_empty, not_told, not_false, each_empty, of_entry}

@@ -11,7 +11,7 @@ use Rattle.gql_schema_types.specs.Types.{type_name, type_called}
 use Rattle.gql_schema_types.specs.declared.types.ExtendedType.{ExtendedType}
 use Rattle.gql_schema_types.specs.declared.types.ExtendedType.TheVariants.{InputObject}
 use Rattle.gql_schema_types.specs.declared.types.InputObjectType.{InputObjectType}
-use Rattle.gql_coerce_laws.proofs.Entries.{entry-front, entry-last, entry-without}
+use Rattle.gql_schema_types.proofs.Entries.{entry-front, entry-last, entry-without}
 
 or-right : (a b : Bool) → b ≡ true → (a || b) ≡ true
 or-right true b h = refl

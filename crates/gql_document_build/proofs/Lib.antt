@@ -4,5 +4,4 @@ mod MadeSelections
 mod RootMeasure
 mod RootWay
 mod SelectionNodes
-mod Sizes
-mod Variants
+pub mod Sizes

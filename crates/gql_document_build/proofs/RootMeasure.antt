@@ -1,6 +1,5 @@
 -- A walk comes to an end: what is left of it, with all that can still be entered, becomes less.
-use Rattle.std.proofs.Common.{rules, arith, ◌≡◌, ℕ, ◌+◌, ◌*◌, ◌<◌, ◌≤◌, Bool, true, false, cond, if◌then◌else◌, List, [], ◌∷◌, ◌++◌, Option, Some, None, is_some, refl, sym, ap, ◌∙◌, subst}
-use Rattle.std.specs.List.{find}
+use Rattle.std.proofs.Common.{rules, arith, ◌≡◌, ℕ, ◌+◌, ◌*◌, ◌<◌, ◌≤◌, Bool, true, false, cond, List, [], ◌∷◌, ◌++◌, Option, Some, None, is_some, refl, sym, ap, ◌∙◌, subst}
 use Rattle.std.specs.Option.{option_map_or}
 use Rattle.std.specs.Str.{bytes_eq}
 use Rattle.std.proofs.lemmas.Slice.Eq.{bytes_eq-Decides}
@@ -13,12 +12,13 @@ use Rattle.gql_ast_definitions.specs.declared.selection.Selection.{Selection, th
 use Rattle.gql_ast_definitions.specs.declared.selection.Selection.TheVariants as selection
 use Rattle.gql_schema_types.specs.Entries.{entry}
 use Rattle.gql_schema_types.specs.declared.schema.Schema.{Schema}
+use Rattle.gql_document_types.proofs.Measure.{still_found, now_found}
 use Rattle.gql_document_build.specs.FragmentNameCollision.{fragment_name}
 use Rattle.gql_document_build.specs.Nodes.{is_defined, is_open}
 use Rattle.gql_document_build.specs.OperationNameCollision.{itself, added}
 use Rattle.gql_document_build.specs.RootSelections.{own, total, total_inside, is_entered, body, body_of, inside_step, entered_step}
 use Rattle.gql_document_build.specs.RootWalk.{Walk, inside, entered_behind, with_first}
-use Rattle.gql_document_build.proofs.Variants.{out-field, out-spread, out-inline, each}
+use Rattle.gql_ast_definitions.proofs.Variants.{out-field, out-spread, out-inline, each}
 
 own-field : (f : Field) → own (selection.Field f) ≡ 1
 own-field f = search (rules, the_lemmas)
@@ -50,23 +50,6 @@ abbrev pub weight : List FragmentDefinition → Walk → ℕ
 weight fragments walk = room walk.left + 2 * unentered fragments walk.entered
 
 -- ---- entering
-
-still_found : (p : Named → Bool) (xs : List Named) (y : Named) → is_some (find p xs) ≡ true → is_some (find p (xs ++ y ∷ [])) ≡ true
-still_found p [] y some = absurd (let f : false ≡ true = some in cc)
-still_found p (x ∷ xs) y some = by_test (p x) some (still_found p xs y)
-  where
-    by_test : (b : Bool) → is_some (cond b (Some x) (find p xs)) ≡ true → (is_some (find p xs) ≡ true → is_some (find p (xs ++ y ∷ [])) ≡ true)
-        → is_some (cond b (Some x) (find p (xs ++ y ∷ []))) ≡ true
-    by_test true some later = refl
-    by_test false some later = later some
-
-now_found : (p : Named → Bool) (xs : List Named) (y : Named) → p y ≡ true → is_some (find p (xs ++ y ∷ [])) ≡ true
-now_found p [] y is = ap (λ b. is_some (cond b (Some y) None)) is
-now_found p (x ∷ xs) y is = by_test (p x) (now_found p xs y is)
-  where
-    by_test : (b : Bool) → is_some (find p (xs ++ y ∷ [])) ≡ true → is_some (cond b (Some x) (find p (xs ++ y ∷ []))) ≡ true
-    by_test true rest = refl
-    by_test false rest = rest
 
 waiting_less : (fragment : FragmentDefinition) (before after : Bool) → (before ≡ true → after ≡ true) → waiting after fragment ≤ waiting before fragment
 waiting_less fragment true after kept = omega (arith, ap (λ b. waiting b fragment) (kept refl))

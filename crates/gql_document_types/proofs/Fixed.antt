@@ -19,7 +19,8 @@ use Rattle.gql_schema_types.proofs.Lookups.{found, missing}
 use Rattle.gql_document_types.specs.Contents.{HaveContents}
 use Rattle.gql_document_types.specs.Count.{count_one, count}
 use Rattle.gql_document_types.specs.Expanded.{in_place, spread_step, expand_one, expand_all, contents_within, contents}
-use Rattle.gql_document_types.proofs.Views.{each, field_with, inline_with, numbers-field, numbers-spread, numbers-inline, expand-field, expand-spread, expand-inline, count-field, count-spread, count-inline}
+use Rattle.gql_document_types.proofs.Variants.{each}
+use Rattle.gql_document_types.proofs.Views.{field_with, inline_with, numbers-field, numbers-spread, numbers-inline, expand-field, expand-spread, expand-inline, count-field, count-spread, count-inline}
 
 pub count-positive : (s : Selection) → 1 ≤ count_one s
 count-positive =

@@ -4,7 +4,7 @@ mod ExpandCalls
 mod Fixed
 mod Row
 pub mod Views
-mod Measure
+pub mod Measure
 mod RootWalk
 mod Spread
-mod Variants
+pub mod Variants

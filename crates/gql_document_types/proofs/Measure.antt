@@ -69,7 +69,7 @@ weight fragments walk = room walk.left + 2 * unentered fragments walk.entered
 
 -- ---- entering
 
-still_found : (p : Named → Bool) (xs : List Named) (y : Named) → is_some (find p xs) ≡ true → is_some (find p (xs ++ y ∷ [])) ≡ true
+pub still_found : (p : Named → Bool) (xs : List Named) (y : Named) → is_some (find p xs) ≡ true → is_some (find p (xs ++ y ∷ [])) ≡ true
 still_found p [] y some = absurd (let f : false ≡ true = some in cc)
 still_found p (x ∷ xs) y some = by_test (p x) some (still_found p xs y)
   where
@@ -78,7 +78,7 @@ still_found p (x ∷ xs) y some = by_test (p x) some (still_found p xs y)
     by_test true some later = refl
     by_test false some later = later some
 
-now_found : (p : Named → Bool) (xs : List Named) (y : Named) → p y ≡ true → is_some (find p (xs ++ y ∷ [])) ≡ true
+pub now_found : (p : Named → Bool) (xs : List Named) (y : Named) → p y ≡ true → is_some (find p (xs ++ y ∷ [])) ≡ true
 now_found p [] y is = ap (λ b. is_some (cond b (Some y) None)) is
 now_found p (x ∷ xs) y is = by_test (p x) (now_found p xs y is)
   where

@@ -1,38 +1,15 @@
 -- Selections, their expansions, counts and spreads, one level at a time.
-use Rattle.std.proofs.Common.{rules, ◌≡◌, ◌+◌, List, [], ◌∷◌, sym, subst}
+use Rattle.std.proofs.Common.{rules, ◌≡◌, ◌+◌, List, [], ◌∷◌}
 use Rattle.gql_document_types.specs.Spreads.{number_of, numbers_at, spread_numbers}
 use Rattle.gql_document_types.specs.declared.fragment.Fragment.{Fragment}
 use Rattle.gql_document_types.specs.declared.selection.Field.{Field}
 use Rattle.gql_document_types.specs.declared.selection.FragmentSpread.{FragmentSpread}
 use Rattle.gql_document_types.specs.declared.selection.InlineFragment.{InlineFragment}
-use Rattle.gql_document_types.specs.declared.selection.Selection.{Selection, the_lemmas, out-Selection, roll-Selection}
-use Rattle.gql_document_types.specs.declared.selection.Selection.TheOpen.{Selection-F}
+use Rattle.gql_document_types.specs.declared.selection.Selection.{Selection, the_lemmas}
 use Rattle.gql_document_types.specs.declared.selection.Selection.TheVariants as selection
 use Rattle.gql_document_types.specs.declared.selection.SelectionSet.{SelectionSet}
 use Rattle.gql_document_types.specs.Count.{count_one, count}
 use Rattle.gql_document_types.specs.Expanded.{spread_step, expand_one, expand_all}
-
-roll-out : (s : Selection) → roll-Selection (out-Selection s) ≡ s
-roll-out s = search (rules, the_lemmas)
-
-roll-field : (f : Field) → roll-Selection (Selection-F.Field f) ≡ selection.Field f
-roll-field f = search (rules, the_lemmas)
-
-roll-spread : (s : FragmentSpread) → roll-Selection (Selection-F.FragmentSpread s) ≡ selection.FragmentSpread s
-roll-spread s = search (rules, the_lemmas)
-
-roll-inline : (i : InlineFragment) → roll-Selection (Selection-F.InlineFragment i) ≡ selection.InlineFragment i
-roll-inline i = search (rules, the_lemmas)
-
--- what holds of each variant holds of all
-pub each : (P : Selection → Type 0) → ((f : Field) → P (selection.Field f)) → ((s : FragmentSpread) → P (selection.FragmentSpread s))
-    → ((i : InlineFragment) → P (selection.InlineFragment i)) → (s : Selection) → P s
-each P field spread inline s = subst P (roll-out s) (rolled (out-Selection s))
-  where
-    rolled : (k : Selection-F Selection Field InlineFragment SelectionSet) → P (roll-Selection k)
-    rolled (Selection-F.Field f) = subst P (sym (roll-field f)) (field f)
-    rolled (Selection-F.FragmentSpread s) = subst P (sym (roll-spread s)) (spread s)
-    rolled (Selection-F.InlineFragment i) = subst P (sym (roll-inline i)) (inline i)
 
 -- a set, a field and an inline fragment with other selections
 abbrev pub set_with : SelectionSet → List Selection → SelectionSet

@@ -32,7 +32,7 @@ use Rattle.gql_exec_plan.specs.Ranks.{AreRanked}
 use Rattle.gql_exec_plan.specs.Same.{SameFirst}
 use Rattle.gql_exec_plan.specs.Setting.{Setting}
 use Rattle.gql_exec_plan.proofs.Numbers.{body-is, body-none}
-use Rattle.gql_exec_plan.proofs.Variants.{out-field, out-spread, out-inline, each}
+use Rattle.gql_document_types.proofs.Variants.{out-field, out-spread, out-inline, each}
 use Rattle.gql_rules_graph.specs.Ranks.{IsRanked}
 use Rattle.gql_exec_resolve.specs.Depth.{AllGroups, Suffices}
 use Rattle.gql_exec_resolve.specs.World.{World}

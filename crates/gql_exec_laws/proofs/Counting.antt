@@ -10,7 +10,7 @@ use Rattle.gql_exec_plan.specs.Sizes.{size}
 use Rattle.gql_exec_plan.specs.Standing.{fields_at, fields_in}
 use Rattle.gql_exec_plan.proofs.Numbers.{own-field, own-spread, own-inline}
 use Rattle.gql_exec_plan.proofs.Standings.{fields-none, fields-cons}
-use Rattle.gql_exec_plan.proofs.Variants.{out-field, out-spread, out-inline}
+use Rattle.gql_document_types.proofs.Variants.{out-field, out-spread, out-inline}
 use Rattle.gql_schema_types.specs.MetaFields.{named}
 use Rattle.gql_exec_laws.specs.Counting.{field_a, field_b, counted}
 use Rattle.gql_exec_laws.specs.Doubling.{numbered}

@@ -22,7 +22,7 @@ use Rattle.gql_exec_plan.specs.Flat.{Shape, when, contents as contents_of, field
 use Rattle.gql_exec_plan.specs.Kept.{is_kept, Variables}
 use Rattle.gql_exec_plan.specs.Setting.{Setting}
 use Rattle.gql_exec_plan.proofs.Numbers.{body-is, body-none}
-use Rattle.gql_exec_plan.proofs.Variants.{out-field, out-spread, out-inline, each}
+use Rattle.gql_document_types.proofs.Variants.{out-field, out-spread, out-inline, each}
 
 when-and : {A : Type 0} (a b : Bool) (xs : List A) → when (a && b) xs ≡ when a (when b xs)
 when-and true b xs = refl

@@ -15,7 +15,7 @@ use Rattle.gql_document_types.specs.declared.selection.Selection.{the_lemmas as 
 use Rattle.gql_document_types.specs.declared.selection.Selection.TheVariants as selection
 use Rattle.gql_exec_plan.proofs.Views.{view-field, view-node}
 use Rattle.gql_exec_plan.specs.Sizes.{own}
-use Rattle.gql_exec_plan.proofs.Variants.{out-field}
+use Rattle.gql_document_types.proofs.Variants.{out-field}
 
 -- ---- selections
 

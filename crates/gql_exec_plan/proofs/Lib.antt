@@ -10,7 +10,6 @@ pub mod Put
 pub mod SameFacts
 pub mod Standings
 pub mod Unentered
-pub mod Variants
 pub mod WalkFacts
 pub mod WithinGroups
 pub mod Views

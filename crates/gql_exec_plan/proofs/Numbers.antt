@@ -20,7 +20,7 @@ use Rattle.gql_exec_plan.specs.Flat.{Shape, when, contents, body}
 use Rattle.gql_exec_plan.specs.Ranks.{AreRanked}
 use Rattle.gql_exec_plan.specs.Setting.{Setting}
 use Rattle.gql_exec_plan.specs.Sizes.{own, size, fragments_size}
-use Rattle.gql_exec_plan.proofs.Variants.{out-field, out-spread, out-inline, each}
+use Rattle.gql_document_types.proofs.Variants.{out-field, out-spread, out-inline, each}
 
 -- all ranks are below a bound
 abbrev pub AreBelow : (ℕ → ℕ) → ℕ → List ℕ → Type 0

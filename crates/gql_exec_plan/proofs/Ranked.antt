@@ -16,7 +16,8 @@ use Rattle.gql_document_types.specs.declared.selection.Selection.TheVariants as 
 use Rattle.gql_exec_plan.specs.Check.{total}
 use Rattle.gql_exec_plan.specs.Nested.{Nested, Place, body_in, IsBelow, AreRanked}
 use Rattle.gql_exec_plan.specs.View.{One, one_field, one_spread, one_inline, then_more, spread_of, number_of, one_of, nested, body_nested, fragments_nested}
-use Rattle.gql_exec_plan.proofs.Views.{each, view-field, view-spread, view-inline, view-inside, view-node}
+use Rattle.gql_document_types.proofs.Variants.{each}
+use Rattle.gql_exec_plan.proofs.Views.{view-field, view-spread, view-inline, view-inside, view-node}
 use Rattle.gql_rules_graph.specs.Graph.{row}
 use Rattle.gql_rules_graph.specs.Ranks.{IsRanked}
 

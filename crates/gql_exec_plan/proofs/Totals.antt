@@ -9,12 +9,12 @@ use Rattle.gql_document_types.specs.declared.selection.Selection.{Selection, out
 use Rattle.gql_exec_plan.specs.Check.{total, total_fragments}
 use Rattle.gql_exec_plan.specs.Nested.{Nested, Place}
 use Rattle.gql_exec_plan.specs.View.{One, one_field, one_spread, one_inline, then_more, spread_of, number_of, weight_of, one_of, nested, body_nested}
-use Rattle.gql_exec_plan.proofs.Views.{each, view-field, view-spread, view-inline, view-inside, view-node}
+use Rattle.gql_exec_plan.proofs.Views.{view-field, view-spread, view-inline, view-inside, view-node}
 use Rattle.gql_exec_plan.specs.Sizes.{own, size, fragments_size}
 use Rattle.gql_exec_plan.specs.Standing.{fields_in, weighed}
 use Rattle.gql_exec_plan.proofs.Numbers.{own-field, own-spread, own-inline}
 use Rattle.gql_exec_plan.proofs.Standings.{inner as weight_in, shape_inner, inner-none, inner-cons}
-use Rattle.gql_exec_plan.proofs.Variants.{out-field, out-spread, out-inline}
+use Rattle.gql_document_types.proofs.Variants.{out-field, out-spread, out-inline, each}
 use Rattle.gql_exec_plan.specs.Room.{set_below, fields_down, fields_down_fragments}
 use Rattle.gql_exec_plan.proofs.Weights.{weighed-flat, weighed-most, weighed-append}
 

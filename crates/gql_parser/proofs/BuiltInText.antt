@@ -1,103 +1,15 @@
--- The built-in text is a document, and what it defines.
-use Rattle.std.proofs.Common.{◌≡◌, ℕ, true, nat_lt, List, [], ◌∷◌, get_or, refl, ap, ◌∙◌}
-use Rattle.std.specs.Prelude.{⊤, is_some}
+-- The built-in text is a document, and each built-in scalar is a scalar that it defines.
+use Rattle.std.proofs.Common.{◌≡◌, ℕ, true, List, refl, ap, ◌∙◌}
 use Rattle.std.specs.List.{list_all}
-use Rattle.std.specs.Str.{IsAscii}
-use Rattle.std.proofs.lemmas.Bool.{ltb-true}
-use Rattle.std.proofs.lemmas.List.Sums.{AllPass-from_list_all}
-use Rattle.std.proofs.lemmas.Str.Ascii.{IsAscii-from_all}
 use Rattle.gql_ast.specs.declared.definition.Definition.{Definition}
-use Rattle.gql_ast.specs.Documents.{definitions, definition_of, choice_of, executable_definition_of, schema_definition_of, type_definition_of, extension_of}
-use Rattle.gql_ast_base.specs.Kinds.{is_kind}
-use Rattle.gql_ast_base.specs.Parts.{nth_name, name_of, word, token_text, piece}
-use Rattle.gql_ast_definitions.specs.Definitions.{scalar_of, object_of, interface_of, union_of, enum_of, input_object_of}
-use Rattle.gql_ast_definitions.specs.Extensions.{extends, schema_extension_of, scalar_extension_of, object_extension_of, interface_extension_of}
-use Rattle.gql_ast_definitions.specs.Extensions.{union_extension_of, enum_extension_of, input_object_extension_of}
-use Rattle.gql_ast_definitions.specs.Schemas.{directive_definition_of, schema_of}
 use Rattle.gql_ast_laws.specs.Meant.{IsDocumentOf}
-use Rattle.gql_ast_definitions.specs.Operations.{operation_of, fragment_of}
-use Rattle.gql_ast_definitions.specs.Selections.{type_condition}
-use Rattle.gql_cst.specs.Forest.{Forest}
-use Rattle.gql_cst.specs.Sentences.{words, shown}
-use Rattle.gql_cst_grammar.specs.declared.rule.Rule.{Rule}
-use Rattle.gql_cst_grammar.specs.declared.rule.Rule.TheVariants.{Document}
-use Rattle.gql_cst_grammar.specs.declared.symbol.Symbol.TheVariants.{One}
-use Rattle.gql_cst_grammar.specs.declared.syntax_kind.SyntaxKind.TheVariants as kind
-use Rattle.gql_cst_grammar.specs.declared.word.Word.{Word}
-use Rattle.gql_cst_grammar.specs.Factored.{factored}
-use Rattle.gql_cst_grammar.specs.Reads.{Reads}
-use Rattle.gql_cst_grammar.specs.Row.{Row, nothing, node}
-use Rattle.gql_cst_grammar.specs.Rule.{kind_of}
-use Rattle.gql_cst_grammar.specs.Sentence.{Sentence}
-use Rattle.gql_cst.specs.TreeOf.{IsTreeOf}
-use Rattle.gql_cst_lexer.specs.Lex.{lex, run_len, blank_len, string_len, string, quoted}
 use Rattle.gql_schema.specs.BuiltInSchema.{IsBuiltIn, built_in_file}
+use Rattle.gql_schema.specs.Scalars.{built_in_scalars}
+use Rattle.gql_schema.proofs.Known.{SoundLaw, known, known_definitions, tokens_computed, trees_computed}
 use Rattle.gql_schema_build.specs.TypeSystems.{with_definitions, no_definitions}
 use Rattle.gql_schema_build.specs.declared.built_in.BuiltIn.{BuiltIn}
-use Rattle.gql_schema.specs.Scalars.{built_in_scalars}
 use Rattle.gql_source.specs.declared.file_id.FileId.{FileId}
 use Rattle.gql_parser.specs.BuiltInText.{built_in_text, is_scalar_of}
-use Rattle.gql_parser.proofs.Forests.{planted}
-use Rattle.gql_parser.proofs.BuiltInFound.{the}
-use Rattle.gql_parser.proofs.Readings.{ReadAs, read}
-use Rattle.gql_parser.proofs.Tokens.{TilesFrom, tokens}
-
--- ---- what is opened to compute the tokens of a text, and the definitions of a tree by their kinds and names
-
-unfoldable tokens_computed : ⊤
-unfolding lex run_len blank_len string_len string quoted
-tokens_computed = tt
-
-unfoldable trees_computed : ⊤
-unfolding definition_of choice_of executable_definition_of schema_definition_of type_definition_of extension_of operation_of fragment_of type_condition
-    directive_definition_of schema_of scalar_of object_of interface_of union_of enum_of input_object_of extends schema_extension_of scalar_extension_of
-    object_extension_of interface_extension_of union_extension_of enum_extension_of input_object_extension_of nth_name name_of word token_text piece is_kind
-trees_computed = tt
-
--- ---- the tokens of the text, and its tree
-
-ascii : IsAscii built_in_text
-ascii =
-    IsAscii-from_all built_in_text
-    (λ k d within. ltb-true (get_or built_in_text k d) 128 (AllPass-from_list_all (λ b. nat_lt b 128) built_in_text refl k d within))
-
-abbrev tiled : TilesFrom built_in_text 0
-unfolding tokens_computed
-tiled = the (tokens 2000 built_in_text ascii 0 built_in_text refl) refl
-
-abbrev its_words : List Word
-its_words = words built_in_text tiled.0
-
-abbrev reading : ReadAs (One Document ∷ []) nothing its_words
-unfolding tokens_computed
-reading = the (read 1000 (One Document ∷ []) nothing its_words) refl
-
--- what stands in the one node of a row
-abbrev within : Row → Row
-within (node k inner behind) = inner
-within _ = nothing
-
-abbrev children : Forest
-children = (planted (within reading.0) tiled.0).0
-
--- what the factored grammar reads is a sentence
-abbrev pub SoundLaw : Type 0
-SoundLaw = (start : Rule) (ws : List Word) (f : Row) → is_some (kind_of start) ≡ true → Reads factored (One start ∷ []) nothing ws f [] → Sentence start ws f
-
-tree : SoundLaw → IsTreeOf Document built_in_text children
-unfolding tokens_computed
-tree law = record {
-  tiles = tiled.1;
-  sentence = law Document its_words (node kind.Document (shown built_in_text children) nothing) refl reading.2;
-}
-
--- ---- its definitions
-
-abbrev known_definitions : List Definition
-known_definitions = definitions built_in_text built_in_file (record { kind = kind.Document; start = 0; end = 0; children = children })
-
-known : SoundLaw → IsDocumentOf built_in_text built_in_file known_definitions
-known law = record { children = children; tree = tree law; means = refl }
 
 pub document : SoundLaw → (definitions : List Definition) × IsDocumentOf built_in_text built_in_file definitions
 document law = (known_definitions, known law)

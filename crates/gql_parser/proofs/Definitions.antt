@@ -31,7 +31,7 @@ use Rattle.gql_ast_laws.proofs.Shown.{AreSpelled, tiled-spelled, below-of, rest-
 use Rattle.gql_ast_laws.proofs.TokenKinds.{kind_is}
 use Rattle.gql_ast_definitions.specs.declared.operation.OperationDefinition.{OperationDefinition}
 use Rattle.gql_ast_definitions.specs.Operations.{operation_of, fragment_of}
-use Rattle.gql_parser.proofs.Each.{Each, IfAny, all-of, head-any, if-any, else-any, map-any, map-always, or-any, then-each}
+use Rattle.gql_ast_laws.proofs.Kept.{Each, IfAny, all-of, head-any, if-any, else-any, map-any, map-always, or-any, then-each}
 use Rattle.gql_parser.proofs.SelectedSets.{set_selects}
 
 abbrev pub Selects : OperationDefinition → Type 0

@@ -25,7 +25,7 @@ use Rattle.gql_document_build.specs.SubselectionOnScalarType.{subselection_on_sc
 use Rattle.gql_document_build.specs.UndefinedField.{undefined_field}
 use Rattle.gql_document_build.specs.UndefinedTypeInInlineFragmentTypeCondition.{undefined_type_in_inline_fragment_type_condition}
 use Rattle.gql_parser.proofs.Made.{below_field, below_inline, is_nonempty-map, made_field, made_inline, made_spread, node_of, nodes_field, nodes_inline}
-use Rattle.gql_parser.proofs.Variants.{each}
+use Rattle.gql_ast_definitions.proofs.Variants.{each}
 
 pub front_empty : {X : Type 0} (xs ys : List X) → xs ++ ys ≡ [] → xs ≡ []
 front_empty [] ys none = refl

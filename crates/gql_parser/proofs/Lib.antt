@@ -3,18 +3,13 @@ mod Gathered
 mod Judging
 mod Ordered
 mod Shallow
-mod BuiltInFound
-mod Tokens
-mod Readings
-mod Forests
 mod BuiltInText
 mod Marks
 mod One
 mod SchemaOneError
 mod SchemaPhases
-mod Entries
-mod SchemaKept
-mod Scalars
+pub mod SchemaKept
+pub mod Scalars
 mod Roots
 mod OneDocument
 mod OneError
@@ -26,9 +21,7 @@ mod Telling
 mod Tied
 mod Found
 mod SelectedSets
-mod Each
 mod Definitions
-mod Variants
 pub mod Made
 mod Kept
 mod Operations

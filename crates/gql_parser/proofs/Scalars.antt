@@ -16,7 +16,9 @@ use Rattle.gql_schema_build.specs.declared.type_extension.TypeExtension.{TypeExt
 use Rattle.gql_schema_build.specs.declared.type_extension.TypeExtension.TheVariants as extension
 use Rattle.gql_schema_types.specs.Entries.{is_called, entry}
 use Rattle.gql_schema_types.specs.Types.{type_name, type_called, as_object}
-use Rattle.gql_parser.proofs.Entries.{entry-front, joined-first}
+use Rattle.gql_schema_types.specs.declared.types.ExtendedType.TheVariants as made
+use Rattle.gql_schema_types.specs.declared.types.ScalarType.{ScalarType}
+use Rattle.gql_schema_types.proofs.Entries.{entry-front, joined-first}
 
 -- ---- extensions keep the name and the kind
 
@@ -54,13 +56,13 @@ built_name (type.Union d) = refl
 built_name (type.Enum d) = refl
 built_name (type.InputObject d) = refl
 
-no_object : (d : TypeDefinition) → is_scalar d ≡ true → as_object (built d) ≡ None
-no_object (type.Scalar d) scalar = refl
-no_object (type.Object d) scalar = absurd cc
-no_object (type.Interface d) scalar = absurd cc
-no_object (type.Union d) scalar = absurd cc
-no_object (type.Enum d) scalar = absurd cc
-no_object (type.InputObject d) scalar = absurd cc
+as_scalar : (d : TypeDefinition) → is_scalar d ≡ true → (it : ScalarType) × (built d ≡ made.Scalar it)
+as_scalar (type.Scalar d) scalar = (_, refl)
+as_scalar (type.Object d) scalar = absurd cc
+as_scalar (type.Interface d) scalar = absurd cc
+as_scalar (type.Union d) scalar = absurd cc
+as_scalar (type.Enum d) scalar = absurd cc
+as_scalar (type.InputObject d) scalar = absurd cc
 
 -- ---- the type of a name is that of its first definition
 
@@ -81,16 +83,22 @@ module _ (es : List TypeExtension) (name : List ℕ) where
       by_test true found later = ap (λ o. option_and_then (λ g. Some (built (all_extended es g))) o) found
       by_test false found later = later found
 
-  -- a scalar among the first definitions is no object type of the schema
-  pub scalar-no_object : (front behind : List TypeDefinition) → option_map_or is_scalar (entry definition_name name front) false ≡ true
-      → option_and_then as_object (type_called name (types (front ++ behind) es)) ≡ None
-  scalar-no_object front behind scalar = by_entry (entry definition_name name front) refl scalar
+  -- a scalar among the first definitions is a scalar of the schema
+  pub scalar-scalar : (front behind : List TypeDefinition) → option_map_or is_scalar (entry definition_name name front) false ≡ true
+      → (it : ScalarType) × (type_called name (types (front ++ behind) es) ≡ Some (made.Scalar it))
+  scalar-scalar front behind scalar = by_entry (entry definition_name name front) refl scalar
     where
       by_entry : (o : Option TypeDefinition) → entry definition_name name front ≡ o → option_map_or is_scalar o false ≡ true
-          → option_and_then as_object (type_called name (types (front ++ behind) es)) ≡ None
+          → (it : ScalarType) × (type_called name (types (front ++ behind) es) ≡ Some (made.Scalar it))
       by_entry None is scalar = absurd cc
       by_entry (Some d) is scalar =
           let first : entry definition_name name (firsts (front ++ behind)) ≡ Some d =
           joined-first definition_name name d [] (front ++ behind) refl (entry-front definition_name name d front behind is) in
-          ap (λ o. option_and_then as_object o) (built-entry d (firsts (front ++ behind)) first)
-          ∙ no_object (all_extended es d) (all_kinds (filter (is_called extension_name (definition_name d).text) es) d ∙ scalar)
+          let kind : is_scalar (all_extended es d) ≡ true = all_kinds (filter (is_called extension_name (definition_name d).text) es) d ∙ scalar in
+          let made_of = as_scalar (all_extended es d) kind in
+          (made_of.0, built-entry d (firsts (front ++ behind)) first ∙ ap (λ t. Some t) made_of.1)
+
+  -- and so no object type of it
+  pub scalar-no_object : (front behind : List TypeDefinition) → option_map_or is_scalar (entry definition_name name front) false ≡ true
+      → option_and_then as_object (type_called name (types (front ++ behind) es)) ≡ None
+  scalar-no_object front behind scalar = ap (λ o. option_and_then as_object o) (scalar-scalar front behind scalar).1

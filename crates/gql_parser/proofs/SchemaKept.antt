@@ -7,7 +7,7 @@ use Rattle.gql_schema.specs.Scalars.{is_named, new_scalar, built_in_scalars, is_
 use Rattle.gql_schema_types.specs.Entries.{without}
 use Rattle.gql_schema_types.specs.Types.{type_name, type_called}
 use Rattle.gql_schema_types.specs.declared.types.ExtendedType.{ExtendedType}
-use Rattle.gql_parser.proofs.Entries.{entry-front, entry-without}
+use Rattle.gql_schema_types.proofs.Entries.{entry-front, entry-without}
 
 module _ (definitions : List DirectiveDefinition) (name : List ℕ) where
   with_missing-kept : (t : ExtendedType) (types : List ExtendedType) (names : List (List ℕ)) → type_called name types ≡ Some t

@@ -9,5 +9,4 @@ mod Told
 pub mod Layers
 pub mod Listed
 pub mod UntypedLayers
-mod Sizes
 mod Untyped

@@ -42,21 +42,21 @@ use Rattle.gql_schema.specs.declared.built_in_rows.TheConstants.{DIRECTIVES, TYP
 use Rattle.gql_schema.specs.declared.built_in_text.TheConstants.{BUILT_IN_TEXT}
 use Rattle.gql_schema.specs.BuiltInSchema.{IsBuiltIn, built_in_file}
 use Rattle.gql_schema.specs.Rows as rows
-use Rattle.gql_schema.proofs.Forests.{planted}
-use Rattle.gql_schema.proofs.Found.{the}
-use Rattle.gql_schema.proofs.Readings.{ReadAs, read}
-use Rattle.gql_schema.proofs.Tokens.{TilesFrom, tokens}
+use Rattle.gql_ast_laws.proofs.Forests.{planted}
+use Rattle.gql_ast_laws.proofs.Found.{the}
+use Rattle.gql_ast_laws.proofs.Readings.{ReadAs, read}
+use Rattle.gql_ast_laws.proofs.Tokens.{TilesFrom, tokens}
 
 abbrev built_in_text : List ℕ
 built_in_text = BUILT_IN_TEXT.now
 
 -- ---- what is opened to compute the tokens of a text, and the definitions of a tree by their kinds and names
 
-unfoldable tokens_computed : ⊤
+unfoldable pub tokens_computed : ⊤
 unfolding lex run_len blank_len string_len string quoted
 tokens_computed = tt
 
-unfoldable trees_computed : ⊤
+unfoldable pub trees_computed : ⊤
 unfolding definition_of choice_of executable_definition_of schema_definition_of type_definition_of extension_of operation_of fragment_of type_condition
     directive_definition_of schema_of scalar_of object_of interface_of union_of enum_of input_object_of extends schema_extension_of scalar_extension_of
     object_extension_of interface_extension_of union_extension_of enum_extension_of input_object_extension_of nth_name name_of word token_text piece is_kind
@@ -101,10 +101,10 @@ tree law = record {
 
 -- ---- its definitions
 
-abbrev known_definitions : List Definition
+abbrev pub known_definitions : List Definition
 known_definitions = definitions built_in_text built_in_file (record { kind = kind.Document; start = 0; end = 0; children = children })
 
-known : SoundLaw → IsDocumentOf built_in_text built_in_file known_definitions
+pub known : SoundLaw → IsDocumentOf built_in_text built_in_file known_definitions
 known law = record { children = children; tree = tree law; means = refl }
 
 -- ---- the rows

@@ -2,3 +2,4 @@ pub mod Implementing
 pub mod Indexed
 pub mod Joins
 pub mod Lookups
+pub mod Entries

@@ -22,11 +22,11 @@ use Rattle.gql_schema_build.specs.declared.type_definition.TypeDefinition.{TypeD
 use Rattle.gql_source.specs.declared.file_id.FileId.{FileId}
 use Rattle.gql_parser.specs.BuiltInText.{built_in_text}
 use Rattle.gql_self_test_laws.proofs.Computed.{tokens_computed}
-use Rattle.gql_self_test_laws.proofs.Forests.{planted}
-use Rattle.gql_self_test_laws.proofs.Found.{the}
+use Rattle.gql_ast_laws.proofs.Forests.{planted}
+use Rattle.gql_ast_laws.proofs.Found.{the}
 use Rattle.gql_self_test_laws.proofs.Query.{SoundLaw}
-use Rattle.gql_self_test_laws.proofs.Readings.{ReadAs, read}
-use Rattle.gql_self_test_laws.proofs.Tokens.{TilesFrom, tokens}
+use Rattle.gql_ast_laws.proofs.Readings.{ReadAs, read}
+use Rattle.gql_ast_laws.proofs.Tokens.{TilesFrom, tokens}
 
 -- ---- the tokens of the text, and its tree
 

@@ -30,7 +30,7 @@ use Rattle.gql_self_test_laws.specs.Texts.{schema_text}
 use Rattle.gql_self_test_laws.proofs.BuiltIn.{OneDocument, types_are}
 use Rattle.gql_self_test_laws.proofs.BuiltIn as built_in
 use Rattle.gql_self_test_laws.proofs.Computed.{tokens_computed, trees_computed}
-use Rattle.gql_self_test_laws.proofs.Kept.{validated-kept}
+use Rattle.gql_parser.proofs.SchemaKept.{validated-kept}
 use Rattle.gql_self_test_laws.proofs.Leaves.{AreLeaves, leaf_called, validated_leaves}
 use Rattle.gql_self_test_laws.proofs.Query.{SoundLaw}
 use Rattle.gql_self_test_laws.proofs.Schema as text

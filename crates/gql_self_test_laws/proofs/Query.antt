@@ -30,10 +30,10 @@ use Rattle.gql_source.specs.Span.{Span}
 use Rattle.gql_source.specs.declared.file_id.FileId.{FileId}
 use Rattle.gql_self_test_laws.specs.Texts.{query_text}
 use Rattle.gql_self_test_laws.proofs.Computed.{parts_computed, tokens_computed, trees_computed}
-use Rattle.gql_self_test_laws.proofs.Forests.{planted}
-use Rattle.gql_self_test_laws.proofs.Found.{the}
-use Rattle.gql_self_test_laws.proofs.Readings.{ReadAs, read}
-use Rattle.gql_self_test_laws.proofs.Tokens.{TilesFrom, tokens}
+use Rattle.gql_ast_laws.proofs.Forests.{planted}
+use Rattle.gql_ast_laws.proofs.Found.{the}
+use Rattle.gql_ast_laws.proofs.Readings.{ReadAs, read}
+use Rattle.gql_ast_laws.proofs.Tokens.{TilesFrom, tokens}
 
 ascii : IsAscii query_text
 ascii =

@@ -28,7 +28,7 @@ use Rattle.gql_exec_resolve.specs.Messages as message
 use Rattle.gql_exec_plan.specs.Flat.{flat, flat_sets}
 use Rattle.gql_exec_plan.specs.Groups.{groups_of, is_defined}
 use Rattle.gql_exec_plan.specs.Sizes.{own}
-use Rattle.gql_exec_plan.proofs.Variants.{out-field}
+use Rattle.gql_document_types.proofs.Variants.{out-field}
 use Rattle.gql_exec_resolve.specs.Resolved.{Meaning, Meanings, Outcome, answered, refused, gives_leaf, gives_object, gives_list, gives_skip, fails_with, no_answer, answer_then}
 use Rattle.gql_exec_resolve.specs.Types.{item_level, item_type}
 use Rattle.gql_exec_resolve.specs.World.{World, key_of}

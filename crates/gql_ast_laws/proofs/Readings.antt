@@ -12,7 +12,7 @@ use Rattle.gql_cst_grammar.specs.Factored.{factored}
 use Rattle.gql_cst_grammar.specs.Row.{Row, nothing, node, with_leaf, with_node}
 use Rattle.gql_cst_grammar.specs.Reads.{Reads, done, token, tree, group, skip, take, stop, again, leave, enter, wrap, is_brace_next, IsOneOf, here, there}
 use Rattle.gql_cst_grammar.specs.Starts.{starts, begins, chosen, chosen_way}
-use Rattle.gql_self_test_laws.proofs.Found.{and_then, holds, fails}
+use Rattle.gql_ast_laws.proofs.Found.{and_then, holds, fails}
 
 -- ---- the way that a word chooses is one of the rule's
 

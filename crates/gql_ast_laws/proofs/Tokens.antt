@@ -12,7 +12,7 @@ use Rattle.gql_cst_lexer.specs.Lexical.{IsToken, string_end}
 use Rattle.gql_cst_lexer.specs.declared.token.TokenKind.{TokenKind}
 use Rattle.gql_cst_lexer.specs.declared.token.TokenKind.TheVariants.{Punctuator, Name, StringValue, Ignored}
 use Rattle.gql_cst.specs.Leaves.{Leaf, IsLeaf, Tiles, part_of_token}
-use Rattle.gql_parser.proofs.BuiltInFound.{and_then, holds, fails, choose}
+use Rattle.gql_ast_laws.proofs.Found.{and_then, holds, fails, choose}
 
 abbrev pub TokenOf : Text → Type 0
 TokenOf at = (kind : TokenKind) × (n : ℕ) × IsToken kind at n
