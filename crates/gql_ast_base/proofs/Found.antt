@@ -1,5 +1,5 @@
 -- What is found in a list of one value at most, and the kind of a value.
-use Rattle.std.proofs.Common.{◌≡◌, Bool, true, false, if◌then◌else◌, option_to_list, Option, Some, None, refl}
+use Rattle.std.proofs.Common.{◌≡◌, Bool, true, false, if◌then◌else◌, Option, Some, None, refl}
 use Rattle.std.specs.Option.{option_map}
 use Rattle.gql_source.specs.declared.file_id.FileId.{FileId}
 use Rattle.gql_source.specs.Span.{Span}
@@ -10,11 +10,6 @@ use Rattle.gql_ast_base.specs.Parts.{Text, head, location}
 use Rattle.gql_ast_base.specs.declared.value.Value.{Value}
 use Rattle.gql_ast_base.specs.declared.value.ValueKind.{ValueKind}
 use Rattle.gql_ast_base.specs.Values.{contents, value_step, value_of, kind_of}
-
--- a list that has what was found, and nothing else
-pub head-found : {T : Type 0} (found : Option T) → head (option_to_list found) ≡ found
-head-found None = refl
-head-found (Some x) = refl
 
 kind_in : (b : Bool) (place : Option Span) (o : Option ValueKind)
     → (if b then o else None) ≡ option_map (λ (v : Value). v.kind) (if b then option_map (λ found. record { kind = found; location = place }) o else None)

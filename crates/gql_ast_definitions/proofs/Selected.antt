@@ -70,8 +70,3 @@ pub selections-gathered : (text : Text) (file : FileId) (row : Forest) → selec
 selections-gathered text file nothing = refl
 selections-gathered text file (tree_then k start end children rest) =
     ap (λ l. option_to_list (selection_of text file (record { kind = k; start = start; end = end; children = children })) ++ l) (selections-gathered text file rest)
-
--- a list that has what was found, and nothing else
-pub head-found : {T : Type 0} (found : Option T) → head (option_to_list found) ≡ found
-head-found None = refl
-head-found (Some x) = refl

@@ -1,8 +1,8 @@
 -- Which values are constant, kind by kind.
-use Rattle.std.proofs.Common.{◌≡◌, ℕ, List, [], ◌∷◌, map, Bool, true, false, ◌&&◌, refl, ◌∙◌, rules}
+use Rattle.std.proofs.Common.{◌≡◌, ℕ, List, map, Bool, true, false, ◌&&◌, refl, rules}
 use Rattle.gql_ast_base.specs.Names.{Named}
 use Rattle.gql_ast_base.specs.declared.value.Value.{Value}
-use Rattle.gql_ast_base.specs.declared.value.ValueKind.{ValueKind, Null, Variable, Int, Float, String, Boolean, Enum, List as ListKind, Object as ObjectKind, the_lemmas}
+use Rattle.gql_ast_base.specs.declared.value.ValueKind.{Null, Variable, Int, Float, String, Boolean, Enum, List as ListKind, Object as ObjectKind, the_lemmas}
 use Rattle.gql_ast_laws.specs.Constants.{all_true, all_members_true, is_constant_kind, is_constant}
 
 pub constant-Null : is_constant_kind Null ≡ true

@@ -104,14 +104,8 @@ module _ (text : Text) (file : FileId) where
   abbrev as_operation : Plain → Option Definition
   as_operation t = option_map definition.OperationDefinition (operation_of text file t)
 
-  abbrev as_fragment : Plain → Option Definition
-  as_fragment t = option_map definition.FragmentDefinition (fragment_of text file t)
-
   abbrev as_directive : Plain → Option Definition
   as_directive t = option_map definition.DirectiveDefinition (directive_definition_of text file t)
-
-  abbrev as_schema : Plain → Option Definition
-  as_schema t = option_map definition.SchemaDefinition (schema_of text file t)
 
   abbrev as_scalar : Plain → Option Definition
   as_scalar t = option_map definition.ScalarTypeDefinition (scalar_of text file t)
@@ -127,9 +121,6 @@ module _ (text : Text) (file : FileId) where
 
   abbrev as_enum : Plain → Option Definition
   as_enum t = option_map definition.EnumTypeDefinition (enum_of text file t)
-
-  abbrev as_input_object : Plain → Option Definition
-  as_input_object t = option_map definition.InputObjectTypeDefinition (input_object_of text file t)
 
   -- the name of the first named type in a row that has one
   type-named : (f : Forest) → AllAllowed (shown text f) → AreSpelled text (leaves f) → HasNode kind.NamedType (shown text f) → is_some (named_type_in text file f) ≡ true

@@ -1,8 +1,6 @@
 -- Each definition of a document has constant defaults.
-use Rattle.std.proofs.Common.{◌≡◌, ℕ, Bool, true, false, nat_le, if◌then◌else◌, List, [], Option, Some, None, All, refl, subst}
-use Rattle.std.specs.Prelude.{option_and_then, codes}
-use Rattle.std.specs.Option.{option_map}
-use Rattle.gql_source.specs.Span.{Span}
+use Rattle.std.proofs.Common.{ℕ, Bool, true, false, nat_le, if◌then◌else◌, List, Option, Some, None, All, refl, subst}
+use Rattle.std.specs.Prelude.{codes}
 use Rattle.gql_source.specs.declared.file_id.FileId.{FileId}
 use Rattle.gql_cst_grammar.specs.declared.rule.Rule.{Rule}
 use Rattle.gql_cst_grammar.specs.declared.rule.Rule.TheVariants as rule
@@ -17,9 +15,8 @@ use Rattle.gql_cst.specs.Leaves.{leaves}
 use Rattle.gql_cst.specs.Sentences.{words, shown}
 use Rattle.gql_ast.specs.declared.definition.Definition.{Definition}
 use Rattle.gql_ast.specs.declared.definition.Definition.TheVariants as definition
-use Rattle.gql_ast.specs.Documents.{executable_definition_of, schema_definition_of, type_definition_of, extension_of, choice_of, definition_of, definitions}
-use Rattle.gql_ast_base.specs.Kinds.{is_kind}
-use Rattle.gql_ast_base.specs.Parts.{Text, or_else, head, gather, first, child, inside, nth_name, nth_text, is_word, span, tree_start, tree_end, location}
+use Rattle.gql_ast.specs.Documents.{executable_definition_of, schema_definition_of, type_definition_of, extension_of, choice_of, definition_of}
+use Rattle.gql_ast_base.specs.Parts.{Text, head, gather, first, child, inside, nth_name, nth_text, is_word, span, tree_start, tree_end, location}
 use Rattle.gql_ast_definitions.specs.declared.extension.InputObjectTypeExtension.{InputObjectTypeExtension}
 use Rattle.gql_ast_definitions.specs.declared.field_definition.InputValueDefinition.{InputValueDefinition}
 use Rattle.gql_ast_definitions.specs.declared.type_definition.InputObjectTypeDefinition.{InputObjectTypeDefinition}

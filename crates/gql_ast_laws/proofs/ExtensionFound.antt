@@ -110,9 +110,6 @@ module _ (text : Text) (file : FileId) where
   abbrev as_enum_extension : Plain → Option Definition
   as_enum_extension t = option_map definition.EnumTypeExtension (enum_extension_of text file t)
 
-  abbrev as_input_object_extension : Plain → Option Definition
-  as_input_object_extension t = option_map definition.InputObjectTypeExtension (input_object_extension_of text file t)
-
   module _ (start end : ℕ) (children : Forest) (below : AllAllowed (shown text children)) (h : AreSpelled text (leaves children)) where
     extends-word : (x word : Text) → nth_text text 1 children ≡ Some x → bytes_eq x word ≡ true → extends text word (plain_tree kind.Extension start end children) ≡ true
     unfolding extends is_kind

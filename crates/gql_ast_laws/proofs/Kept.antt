@@ -1,5 +1,5 @@
 -- What holds of all that trees stand for.
-use Rattle.std.proofs.Common.{◌≡◌, ℕ, suc, Bool, true, false, ◌&&◌, if◌then◌else◌, List, [], ◌∷◌, ◌++◌, option_to_list, Option, Some, None, All, refl, sym, ap, subst, arith}
+use Rattle.std.proofs.Common.{◌≡◌, Bool, true, false, ◌&&◌, if◌then◌else◌, List, [], ◌∷◌, ◌++◌, option_to_list, Option, Some, None, All, refl, sym, ap, subst}
 use Rattle.std.specs.Prelude.{option_and_then, slice_range}
 use Rattle.std.specs.Option.{option_map}
 use Rattle.std.proofs.lemmas.List.Elements.{All-cons, All-nil}
@@ -8,7 +8,7 @@ use Rattle.gql_cst_grammar.specs.declared.syntax_kind.SyntaxKind.{SyntaxKind}
 use Rattle.gql_cst_grammar.specs.Nodes.{AllAllowed}
 use Rattle.gql_cst_grammar.specs.Row.{Row}
 use Rattle.gql_cst.specs.Forest.{Forest, Plain, nothing, tree_then}
-use Rattle.gql_cst.specs.Leaves.{Part, word, ignored, node, part_of}
+use Rattle.gql_cst.specs.Leaves.{Part, word, node, part_of}
 use Rattle.gql_cst.specs.Sentences.{row_then, shown}
 use Rattle.gql_cst.specs.Words.{word_of}
 use Rattle.gql_ast_base.specs.Kinds.{is_kind}
@@ -28,10 +28,6 @@ module _ {X : Type 0} (P : X → Type 0) where
   pub all-of : (xs : List X) → Each P xs → All P xs
   all-of [] each = All-nil P
   all-of (x ∷ xs) each = All-cons P x xs each.0 (all-of xs each.1)
-
-  pub each-of : (xs : List X) → All P xs → Each P xs
-  each-of [] all = tt
-  each-of (x ∷ xs) all = (all 0 x (omega arith), each-of xs (λ k d lt. all (suc k) d (omega arith)))
 
   pub then-each : (o : Option X) (xs : List X) → IfAny P o → Each P xs → Each P (option_to_list o ++ xs)
   then-each None xs h each = each

@@ -1,14 +1,12 @@
 -- Trees in which no variable stands are constant values, and the tree of a default is one.
 use Rattle.std.proofs.Common.{◌≡◌, ℕ, Bool, true, false, ◌&&◌, if◌then◌else◌, List, [], ◌∷◌, ◌++◌, map, option_to_list, Option, Some, None, refl, sym, ap, ◌∙◌, subst}
-use Rattle.std.specs.Prelude.{option_and_then, slice_range}
+use Rattle.std.specs.Prelude.{slice_range}
 use Rattle.std.specs.List.{list_any}
-use Rattle.std.specs.Option.{option_map, option_map_or}
+use Rattle.std.specs.Option.{option_map}
 use Rattle.gql_source.specs.declared.file_id.FileId.{FileId}
-use Rattle.gql_cst_grammar.specs.declared.word.Word.{Word}
 use Rattle.gql_cst_grammar.specs.declared.syntax_kind.SyntaxKind.{SyntaxKind}
 use Rattle.gql_cst_grammar.specs.declared.syntax_kind.SyntaxKind.TheVariants as kind
 use Rattle.gql_cst_grammar.specs.Nodes.{AllAllowed}
-use Rattle.gql_cst_grammar.specs.Row.{Row}
 use Rattle.gql_cst.specs.Forest.{Forest, Plain, nothing, tree_then}
 use Rattle.gql_cst.specs.Leaves.{Part, word, ignored, node, part_of}
 use Rattle.gql_cst.specs.Sentences.{row_then, shown}
@@ -20,7 +18,7 @@ use Rattle.gql_ast_base.specs.Parts.{Text, head, first, gather, child, children_
 use Rattle.gql_ast_base.specs.declared.value.Value.{Value}
 use Rattle.gql_ast_base.specs.declared.value.ValueKind.{ValueKind, List as ListKind, Object as ObjectKind}
 use Rattle.gql_ast_base.specs.declared.value.ValueKind.TheVariants.{Null, Variable, Int, Float, String, Boolean, Enum}
-use Rattle.gql_ast_base.specs.Values.{number_kind, literal, truth, token_content, boolean_content, simple_content, content_step, pair_of, member_step, value_step, values, contents, members, content_of, member_of, value_of, default_value}
+use Rattle.gql_ast_base.specs.Values.{number_kind, literal, token_content, boolean_content, simple_content, content_step, pair_of, member_step, value_step, values, contents, members, content_of, member_of, value_of, default_value}
 use Rattle.gql_ast_laws.proofs.Inner.{both_ways, node_of, here, later}
 use Rattle.gql_ast_laws.proofs.Shown.{node-row, rest-row}
 use Rattle.gql_ast_laws.proofs.TokenKinds.{word_is_token, kind_is}

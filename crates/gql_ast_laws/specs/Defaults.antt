@@ -1,5 +1,5 @@
 -- Definitions whose defaults are constant: `DefaultValue` is `= Value[Const]` in sections 2.10 and 3.10 of GraphQL October 2021.
-use Rattle.std.specs.Prelude.{◌≡◌, true, List, Option, Some, None}
+use Rattle.std.specs.Prelude.{◌≡◌, true, Option, Some, None}
 use Rattle.std.specs.List.{All}
 use Rattle.gql_source.specs.Span.{Span}
 use Rattle.gql_source.specs.declared.file_id.FileId.{FileId}

@@ -146,13 +146,6 @@ module _ (types : List ExtendedType) where
 
 -- ---- A value with members
 
-module _ (types : List ExtendedType) (below : Value → Coercion) (members : Members) (d : List ℕ) (name : Named) (value : Value) where
-  pub object-given : (it : InputObjectType) → input_object_called name.text types ≡ Some it → object types below members d name value ≡ input_object below name.text it members
-  object-given it is = ap (λ found. object_at types below found members d name value) is
-
-  pub object-other : input_object_called name.text types ≡ None → object types below members d name value ≡ leaf types d name value
-  object-other is = ap (λ found. object_at types below found members d name value) is
-
 -- ---- The value of a field
 
 module _ (below : Value → Coercion) (members : Members) (T : List ℕ) (field : InputValueDefinition) where

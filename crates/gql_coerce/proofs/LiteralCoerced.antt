@@ -192,14 +192,6 @@ module _ (types : List ExtendedType) (env : Members) where
 
 -- ---- A literal with members
 
-module _ (types : List ExtendedType) (env : Members) (below : Value → Coercion) (members : Literals) (d : List ℕ) (name : Named) (literal : Value) where
-  pub members-given : (it : InputObjectType) → input_object_called name.text types ≡ Some it
-      → literal_members types env below members d name literal ≡ literal_object below literal.location name.text it members
-  members-given it is = ap (λ found. literal_members_at types env below found members d name literal) is
-
-  pub members-other : input_object_called name.text types ≡ None → literal_members types env below members d name literal ≡ literal_leaf types d name literal
-  members-other is = ap (λ found. literal_members_at types env below found members d name literal) is
-
 -- ---- The value of a field
 
 module _ (below : Value → Coercion) (place : Option Span) (members : Literals) (T : List ℕ) (field : InputValueDefinition) where

@@ -1,5 +1,5 @@
 -- Lists of outcomes and maps that are filled, as far as a loop has come.
-use Rattle.std.proofs.Common.{◌≡◌, ℕ, ◌+◌, ◌<◌, zero, suc, List, [], ◌∷◌, ◌++◌, length, map, get_or, slice_get, take, drop, position, true, false, cond, subst, Option, Some, None, Result, Ok, Err, refl, sym, ap, ◌∙◌, arith, add-one}
+use Rattle.std.proofs.Common.{◌≡◌, ℕ, ◌+◌, ◌<◌, zero, suc, List, [], ◌∷◌, ◌++◌, length, get_or, slice_get, take, drop, position, true, false, cond, subst, Option, Some, None, Result, Ok, Err, refl, sym, ap, ◌∙◌, arith, add-one}
 use Rattle.std.specs.Str.{bytes_eq}
 use Rattle.std.specs.List.{IsDistinct}
 use Rattle.std.specs.Map.{keys_of, values_of}
@@ -11,7 +11,7 @@ use Rattle.jb_text.specs.declared.refused.Refused.{Refused}
 use Rattle.jb_text.specs.declared.refused.Refused.TheVariants.{Fault, Memory}
 use Rattle.jb_tree.specs.declared.value.Value.{Value as JsonValue, Null}
 use Rattle.gql_coerce.specs.declared.fault.CoercionFault.{CoercionFault}
-use Rattle.gql_coerce.specs.Outcome.{Outcome, Answers, and_then, mapped, all_of}
+use Rattle.gql_coerce.specs.Outcome.{Outcome, Answers, and_then}
 use Rattle.gql_coerce.specs.Filled.{Members, with_value, filled}
 
 drop_suc : {A : Type 0} (xs : List A) (i : ℕ) (x : A) → i < length xs → x ≡ get_or xs i x → drop i xs ≡ x ∷ drop (suc i) xs
@@ -28,26 +28,6 @@ pub stops : {A B : Type 0} (part : Outcome A) (whole : Outcome B) (refused : Ref
     → ((fault : CoercionFault) → part ≡ Err fault → whole ≡ Err fault) → Answers part (Err refused) → Answers whole (Err refused)
 stops part whole (Fault fault) follows answers = follows fault answers
 stops part whole Memory follows answers = tt
-
-pub mapped-mapped : {A B C : Type 0} (g : B → C) (f : A → B) (made : Outcome A) → mapped g (mapped f made) ≡ mapped (λ x. g (f x)) made
-mapped-mapped g f (Ok x) = refl
-mapped-mapped g f (Err e) = refl
-
-module _ {A B C : Type 0} (make : A → Outcome B) (g : List B → C) where
-  -- one more that is made
-  pub all-made : (xs : List A) (i : ℕ) (x : A) (y : B) → i < length xs → x ≡ get_or xs i x → make x ≡ Ok y
-      → mapped g (all_of (map make (drop i xs))) ≡ mapped (λ ys. g (y ∷ ys)) (all_of (map make (drop (i + 1) xs)))
-  all-made xs i x y within is made =
-      ap (λ l. mapped g (all_of (map make l))) (drop_at xs i x within is)
-      ∙ ap (λ first. mapped g (and_then first (λ z. mapped (λ ys. z ∷ ys) (all_of (map make (drop (i + 1) xs)))))) made
-      ∙ mapped-mapped g (λ ys. y ∷ ys) (all_of (map make (drop (i + 1) xs)))
-
-  -- the first that is not
-  pub all-stop : (xs : List A) (i : ℕ) (x : A) (fault : CoercionFault) → i < length xs → x ≡ get_or xs i x → make x ≡ Err fault
-      → mapped g (all_of (map make (drop i xs))) ≡ Err fault
-  all-stop xs i x fault within is made =
-      ap (λ l. mapped g (all_of (map make l))) (drop_at xs i x within is)
-      ∙ ap (λ first. mapped g (and_then first (λ z. mapped (λ ys. z ∷ ys) (all_of (map make (drop (i + 1) xs)))))) made
 
 module _ {D : Type 0} (value : D → Outcome (Option JsonValue)) (name : D → List ℕ) where
   pub filled-next : (members : Members) (ds : List D) (i : ℕ) (d : D) (found : Option JsonValue) → i < length ds → d ≡ get_or ds i d → value d ≡ Ok found

@@ -3,10 +3,10 @@
 ghost use Rattle.std.specs.Prelude.{◌≡◌, Some, None, IfOk, Ok, Err, if◌then◌else◌};
 ghost use Rattle.gql_coerce.specs.Faults.{fault};
 ghost use Rattle.gql_coerce.specs.Messages.{null_value as null_text};
-ghost use Rattle.std.specs.Option.{option_copied, option_map};
+ghost use Rattle.std.specs.Option.{option_copied};
 ghost use Rattle.std.specs.Map.{keys_of};
 ghost use Rattle.jb_tree.specs.declared.value.Value.{Value as JsonValue, Null, Object};
-ghost use Rattle.gql_coerce.specs.Outcome.{Outcome, Answers, mapped, all_of};
+ghost use Rattle.gql_coerce.specs.Outcome.{Outcome, Answers, mapped};
 ghost use Rattle.gql_coerce.specs.Subject.{subject_text};
 ghost use Rattle.gql_coerce.specs.Missing.{missing_fault};
 ghost use Rattle.gql_ast_base.specs.TypeParts.{named_type, is_non_null};

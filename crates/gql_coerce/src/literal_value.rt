@@ -1,7 +1,7 @@
 //! Literals as input values of a type (GraphQL October 2021, section 3.10).
 
 ghost use Rattle.std.specs.Prelude.{◌≡◌, [], IfOk, map};
-ghost use Rattle.std.specs.Option.{option_copied, option_map};
+ghost use Rattle.std.specs.Option.{option_map};
 ghost use Rattle.std.specs.Str.{bytes_eq};
 ghost use Rattle.std.specs.Map.{lookup};
 ghost use Rattle.jb_tree.specs.declared.value.Value.{Object};

@@ -1,6 +1,5 @@
 -- Where each variable and each input field can be coerced, no fault is marked.
-use Rattle.std.proofs.Common.{◌≡◌, ℕ, zero, suc, List, [], ◌∷◌, map, Option, Some, None, is_some, Bool, true, false, not, if◌then◌else◌, Ok, Err, All, refl, sym, ap, ◌∙◌, subst}
-use Rattle.std.specs.Option.{option_map_or, option_and_then}
+use Rattle.std.proofs.Common.{◌≡◌, ℕ, zero, suc, List, [], ◌∷◌, map, Option, Some, None, Bool, true, false, not, if◌then◌else◌, Ok, Err, All, refl, ap, ◌∙◌}
 use Rattle.std.specs.Str.{bytes_eq}
 use Rattle.std.specs.Map.{lookup, keys_of}
 use Rattle.std.proofs.lemmas.List.Elements.{All-head, All-tail, All-weaker}
@@ -11,14 +10,14 @@ use Rattle.gql_ast_base.specs.declared.type_ref.TypeRef.{TypeRef}
 use Rattle.gql_ast_base.specs.declared.value.Value.{Value as Literal}
 use Rattle.gql_ast_definitions.specs.declared.field_definition.InputValueDefinition.{InputValueDefinition}
 use Rattle.gql_ast_definitions.specs.declared.operation.VariableDefinition.{VariableDefinition}
-use Rattle.gql_schema_types.specs.Types.{type_called, is_composite}
+use Rattle.gql_schema_types.specs.Types.{type_called}
 use Rattle.gql_schema_types.specs.declared.types.ExtendedType.{ExtendedType}
 use Rattle.gql_schema_types.specs.declared.types.ExtendedType.TheVariants as type
 use Rattle.gql_schema_types.specs.declared.types.InputObjectType.{InputObjectType}
 use Rattle.gql_coerce.specs.declared.fault.CoercionFault.{CoercionFault}
 use Rattle.gql_coerce.specs.Outcome.{Outcome, mapped, and_then, all_of}
 use Rattle.gql_coerce.specs.Faults.{fault, fault_at}
-use Rattle.gql_coerce.specs.Filled.{Members, with_value, filled, absent, not_given}
+use Rattle.gql_coerce.specs.Filled.{Members, with_value, filled, not_given}
 use Rattle.gql_coerce.specs.InputTypes.{input_object_called, field_name}
 use Rattle.gql_coerce.specs.Messages.{missing_field, missing_variable}
 use Rattle.gql_coerce.specs.Subject.{field_words, variable_words, default_words}
@@ -26,7 +25,7 @@ use Rattle.gql_ast_base.specs.TypeParts.{named_type, is_non_null, item_type}
 use Rattle.gql_coerce.specs.Wrapped.{wrap}
 use Rattle.gql_coerce.specs.Scalars.{scalar_takes, enum_takes}
 use Rattle.gql_coerce.specs.Translation.{translated}
-use Rattle.gql_coerce.specs.InputValue.{Coercion, misfit, refused_or, places, taken, at_definition, field_given, field_value, input_object, each_at, object_at, leaf, object, array, level, rule, within, coerced}
+use Rattle.gql_coerce.specs.InputValue.{Coercion, misfit, refused_or, places, taken, at_definition, field_given, field_value, input_object, object_at, leaf, object, array, level, within, coerced}
 use Rattle.gql_coerce.specs.Variables.{variable_name, variable_given, variable_value, coerced_variables}
 use Rattle.gql_coerce.proofs.TypeParts.{innermost-item}
 use Rattle.gql_ast_laws.specs.Constants.{is_constant_default}

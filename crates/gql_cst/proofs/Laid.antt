@@ -4,19 +4,17 @@ use Rattle.std.specs.Prelude.{nat_le}
 use Rattle.std.specs.List.{list_all}
 use Rattle.std.proofs.lemmas.Bool.{leb-true, le-leb}
 use Rattle.std.proofs.lemmas.List.{length-take-le, take-append-le, drop-append-le, take-take, take_at, drop_at, take-map, drop-map, map-append, reverse-append, append_assoc, length-map}
-use Rattle.std.proofs.Math.Seq.{take-length, drop-length}
 use Rattle.gql_cst_grammar.specs.declared.word.Word.{Word}
 use Rattle.gql_cst_grammar.specs.declared.rule.Rule.{Rule}
 use Rattle.gql_cst_grammar.specs.declared.symbol.Symbol.{Symbol}
-use Rattle.gql_cst_grammar.specs.declared.symbol.Symbol.TheVariants.{Repeated, Close}
+use Rattle.gql_cst_grammar.specs.declared.symbol.Symbol.TheVariants.{Close}
 use Rattle.gql_cst_grammar.specs.declared.syntax_kind.SyntaxKind.{SyntaxKind}
 use Rattle.gql_cst_grammar.specs.Row.{level}
-use Rattle.gql_cst_grammar.specs.Rule.{kind_of}
 use Rattle.gql_cst_grammar.specs.Stands.{way_at}
 use Rattle.gql_cst.specs.declared.frame.Frame.{Frame}
 use Rattle.gql_cst.specs.declared.tree.Tree.{Tree}
 use Rattle.gql_cst.specs.Forest.{Plain, plain}
-use Rattle.gql_cst.specs.Machine.{State, again, finished, node_of, entered, pushed, wrapped, closed_in, enter, turned_at, turned_by, turned, ended, all_ended, grown}
+use Rattle.gql_cst.specs.Machine.{State, again, node_of, pushed, wrapped, closed_in, turned, ended, all_ended, grown}
 use Rattle.gql_cst.specs.Laid.{is_loose, closing, stack_of, start_of, outside, rows_of, shares_row, lies, is_laid, state_of, gathered, left_by, IsSame}
 use Rattle.gql_cst.proofs.Ways.{both, way_loose}
 use Rattle.gql_cst.proofs.Rows.{ended-loose}
@@ -117,99 +115,6 @@ wrapped-state frames ts kind level deepest h =
     state-of-parts (stack_of frames) level deepest _ _ _ _ (drop_at (take s ts) (node_of kind (drop s ts) ∷ []) s (length-take-le s ts le))
     (rows-alike frames s (gathered kind s ts) ts (laid-start frames (length ts) h) (front-kept kind s ts le))
 
-pub opened-state : (g : Frame) (frames : List Frame) (ts : List Plain) (kind : SyntaxKind) (l deepest : ℕ)
-    → g.kind ≡ Some kind → g.start ≡ length ts
-    → state_of (g ∷ frames) ts l deepest ≡ record {
-      stack = g.way.now ++ (Close kind ∷ stack_of frames);
-      row = [];
-      rows = drop (start_of frames) ts ∷ rows_of ts frames;
-      level = l;
-      deepest = deepest;
-    }
-opened-state g frames ts kind l deepest k s =
-    let row : drop g.start ts ≡ [] = ap (λ n. drop n ts) s ∙ drop-length ts in
-    let all : take g.start ts ≡ ts = ap (λ n. take n ts) s ∙ take-length ts in
-    (λ i. record {
-      stack = g.way.now ++ closing (k i) (stack_of frames);
-      row = row i;
-      rows = outside (k i) (drop (start_of frames) (all i)) (rows_of ts frames);
-      level = l;
-      deepest = deepest;
-    })
-
-pub opened-laid : (g : Frame) (frames : List Frame) (n : ℕ) (kind : SyntaxKind) → g.kind ≡ Some kind → g.start ≡ n
-    → list_all is_loose g.way.now ≡ true → is_laid n frames ≡ true → is_laid n (g ∷ frames) ≡ true
-opened-laid g frames n kind k s loose h =
-    let shares : shares_row g.kind g.start (start_of frames) ≡ true = ap (λ z. shares_row z g.start (start_of frames)) k in
-    both-laid g frames n (record { within = omega (arith, s); behind = omega (arith, s, start-le frames n h); shares = shares; loose = loose })
-    (subst (λ z. is_laid z frames ≡ true) (sym s) h)
-
-pub grouped-state : (g : Frame) (frames : List Frame) (ts : List Plain) (l deepest : ℕ)
-    → g.kind ≡ None → g.start ≡ start_of frames
-    → state_of (g ∷ frames) ts l deepest ≡ pushed g.way.now (state_of frames ts l deepest)
-grouped-state g frames ts l deepest k s =
-    (λ i. record {
-      stack = g.way.now ++ closing (k i) (stack_of frames);
-      row = drop (s i) ts;
-      rows = outside (k i) (drop (start_of frames) (take g.start ts)) (rows_of ts frames);
-      level = l;
-      deepest = deepest;
-    })
-
-pub grouped-laid : (g : Frame) (frames : List Frame) (n : ℕ) → g.kind ≡ None → g.start ≡ start_of frames
-    → list_all is_loose g.way.now ≡ true → is_laid n frames ≡ true → is_laid n (g ∷ frames) ≡ true
-grouped-laid g frames n k s loose h =
-    let shares : shares_row g.kind g.start (start_of frames) ≡ true =
-    ap (λ z. shares_row z g.start (start_of frames)) k ∙ le-leb g.start (start_of frames) (omega (arith, s)) in
-    both-laid g frames n (record { within = omega (arith, s, start-le frames n h); behind = omega (arith, s); shares = shares; loose = loose })
-    (subst (λ z. is_laid z frames ≡ true) (sym s) (laid-start frames n h))
-
-pub moved-laid : (f g : Frame) (frames : List Frame) (n : ℕ) (symbol : Symbol) → f.way.now ≡ symbol ∷ g.way.now → g.kind ≡ f.kind → g.start ≡ f.start
-    → is_laid n (f ∷ frames) ≡ true → is_laid n (g ∷ frames) ≡ true
-moved-laid f g frames n symbol w k s h =
-    let l = first-lies f frames n h in
-    let loose : list_all is_loose (symbol ∷ g.way.now) ≡ true = ap (list_all is_loose) (sym w) ∙ l.loose in
-    let shares : shares_row g.kind g.start (start_of frames) ≡ true = (λ i. shares_row (k i) (s i) (start_of frames)) ∙ l.shares in
-    both-laid g frames n (record { within = omega (arith, s, l.within); behind = omega (arith, s, l.behind); shares = shares; loose = (both (is_loose symbol) _ loose).1 })
-    (subst (λ z. is_laid z frames ≡ true) (sym s) (rest-laid f frames n h))
-
-pub symbol-loose : (f : Frame) (frames : List Frame) (n : ℕ) (symbol : Symbol) (rest : List Symbol) → f.way.now ≡ symbol ∷ rest → is_laid n (f ∷ frames) ≡ true → is_loose symbol ≡ true
-symbol-loose f frames n symbol rest w h =
-    let loose : list_all is_loose (symbol ∷ rest) ≡ true = ap (list_all is_loose) (sym w) ∙ (first-lies f frames n h).loose in
-    (both (is_loose symbol) _ loose).0
-
-turned-stack : (next : Option Word) (a b : List Symbol) (s : State) → a ≡ b → turned next (record s { stack = a }) ≡ turned_at next b (record s { stack = b })
-turned-stack next a b s e = (λ i. turned_at next (e i) (record s { stack = e i }))
-
-pub turned-symbol : (next : Option Word) (f g : Frame) (frames : List Frame) (ts : List Plain) (symbol : Symbol) (l deepest : ℕ)
-    → f.way.now ≡ symbol ∷ g.way.now → g.kind ≡ f.kind → g.start ≡ f.start
-    → turned next (state_of (f ∷ frames) ts l deepest) ≡ turned_by next symbol (state_of (g ∷ frames) ts l deepest)
-turned-symbol next f g frames ts symbol l deepest w k s =
-    (λ i. turned next (record {
-      stack = w i ++ closing (sym k i) (stack_of frames);
-      row = drop (sym s i) ts;
-      rows = outside (sym k i) (drop (start_of frames) (take (sym s i) ts)) (rows_of ts frames);
-      level = l;
-      deepest = deepest;
-    }))
-
-pub turned-repeated : (next : Option Word) (f : Frame) (frames : List Frame) (ts : List Plain) (rule : Rule) (rest : List Symbol) (way : List Symbol) (l deepest : ℕ)
-    → f.way.now ≡ Repeated rule ∷ rest → way_at rule next ≡ Some way
-    → turned next (state_of (f ∷ frames) ts l deepest)
-    ≡ again (entered (kind_of rule) way (state_of (f ∷ frames) ts l deepest))
-turned-repeated next f frames ts rule rest way l deepest w e =
-    let all = state_of (f ∷ frames) ts l deepest in
-    let stack : stack_of (f ∷ frames) ≡ Repeated rule ∷ (rest ++ closing f.kind (stack_of frames)) = ap (λ z. z ++ closing f.kind (stack_of frames)) w in
-    turned-stack next _ _ all stack ∙ (λ i. enter (e i) (kind_of rule) (record all { stack = sym stack i }) (again (record all { stack = rest ++ closing f.kind (stack_of frames) })))
-
-pub turned-finished : (next : Option Word) (f : Frame) (frames : List Frame) (ts : List Plain) (l deepest : ℕ)
-    → f.way.now ≡ [] → f.kind ≡ None → frames ≡ []
-    → turned next (state_of (f ∷ frames) ts l deepest) ≡ finished (state_of (f ∷ frames) ts l deepest)
-turned-finished next f frames ts l deepest w k none =
-    let all = state_of (f ∷ frames) ts l deepest in
-    let stack : stack_of (f ∷ frames) ≡ [] = (λ i. w i ++ closing (k i) (stack_of (none i))) in
-    turned-stack next _ _ all stack ∙ (λ i. finished (record all { stack = sym stack i }))
-
 closed-parts : (start : ℕ) (frames : List Frame) (ts : List Plain) (kind : SyntaxKind) (l deepest : ℕ) → start ≤ length ts → start_of frames ≤ start → is_laid start frames ≡ true
     → closed_in kind (drop (start_of frames) (take start ts) ∷ rows_of ts frames) (record {
       stack = stack_of frames;
@@ -240,9 +145,6 @@ turned-closed next f frames ts kind l deepest w k h =
 
 -- ---- rules that have ended
 
-pub same-itself : (frames : List Frame) → IsSame frames frames
-same-itself frames = record { stack = refl; laid = λ n h. h; start = λ n h. refl; rows = λ ts. refl }
-
 pub same-then : (a b c : List Frame) → IsSame a b → IsSame b c → IsSame a c
 same-then a b c p q = record {
   stack = q.stack ∙ p.stack;
@@ -262,21 +164,6 @@ same-skipped f frames w k =
       laid = λ n h. laid-more frames f.start n (rest-laid f frames n h) (first-lies f frames n h).within;
       start = λ n h. let l = first-lies f frames n h in omega (arith, l.behind, group-start f.kind f.start (start_of frames) k l.shares);
       rows = λ ts. (λ i. outside (sym k i) (drop (start_of frames) (take f.start ts)) (rows_of ts frames));
-    }
-
-pub same-outermost : (f : Frame) → f.way.now ≡ [] → f.kind ≡ None → f.start ≡ 0 → IsSame [] (f ∷ [])
-same-outermost f w k s =
-    record {
-      stack = (λ i. w i ++ closing (k i) []);
-      laid = λ n h.
-          both-laid f [] n (record {
-            within = omega (arith, s);
-            behind = omega arith;
-            shares = ap (λ z. shares_row z f.start 0) k ∙ le-leb f.start 0 (omega (arith, s));
-            loose = ap (list_all is_loose) w;
-          }) refl;
-      start = λ n h. s;
-      rows = λ ts. (λ i. outside (k i) (drop 0 (take f.start ts)) []);
     }
 
 pub reverse-pushed : {X : Type 0} (xs front : List X) (x : X) → xs ≡ front ++ (x ∷ []) → reverse xs ≡ x ∷ reverse front
@@ -318,35 +205,12 @@ module _ (next : Option Word) (old : List Frame) (f : Frame) (outer : List Frame
   now-state : state_of (f ∷ outer) (map plain trees) l deepest ≡ state_of old (map plain trees) l deepest
   now-state = same-state old (f ∷ outer) (length trees) (map plain trees) l deepest same laid
 
-  pub symbol-turn : (g : Frame) (symbol : Symbol) → f.way.now ≡ symbol ∷ g.way.now → g.kind ≡ f.kind → g.start ≡ f.start
-      → turned_by next symbol (state_of (g ∷ outer) (map plain trees) l deepest) ≡ turned next (state_of old (map plain trees) l deepest)
-  symbol-turn g symbol w k s = sym (turned-symbol next f g outer (map plain trees) symbol l deepest w k s) ∙ ap (turned next) now-state
-
-  pub symbol-laid : (g : Frame) (symbol : Symbol) → f.way.now ≡ symbol ∷ g.way.now → g.kind ≡ f.kind → g.start ≡ f.start → is_laid (length trees) (g ∷ outer) ≡ true
-  symbol-laid g symbol w k s = moved-laid f g outer (length trees) symbol w k s now-laid
-
-  pub symbol-is_loose : (symbol : Symbol) (rest : List Symbol) → f.way.now ≡ symbol ∷ rest → is_loose symbol ≡ true
-  symbol-is_loose symbol rest w = symbol-loose f outer (length trees) symbol rest w now-laid
-
-  pub repeated-turn : (rule : Rule) (symbol : Symbol) (rest way : List Symbol) (new : State) → f.way.now ≡ symbol ∷ rest → symbol ≡ Repeated rule → way_at rule next ≡ Some way
-      → new ≡ entered (kind_of rule) way (state_of (f ∷ outer) (map plain trees) l deepest)
-      → again new ≡ turned next (state_of old (map plain trees) l deepest)
-  repeated-turn rule symbol rest way new w r e n =
-      ap again n ∙ sym (turned-repeated next f outer (map plain trees) rule rest way l deepest (w ∙ ap (λ z. z ∷ rest) r) e) ∙ ap (turned next) now-state
-
-  pub finished-turn : f.way.now ≡ [] → f.kind ≡ None → outer ≡ []
-      → finished (state_of (f ∷ outer) (map plain trees) l deepest) ≡ turned next (state_of old (map plain trees) l deepest)
-  finished-turn w k none = sym (turned-finished next f outer (map plain trees) l deepest w k none) ∙ ap (turned next) now-state
-
   pub closed-turn : (after : List Frame) (new : List Tree) (kind : SyntaxKind) (lower : ℕ) → f.way.now ≡ [] → f.kind ≡ Some kind
       → map plain new ≡ gathered kind f.start (map plain trees) → lower ≡ l - level kind → IsSame outer after
       → again (state_of after (map plain new) lower deepest) ≡ turned next (state_of old (map plain trees) l deepest)
   closed-turn after new kind lower w k e low left =
       ap again ((λ i. state_of after (e i) (low i) deepest) ∙ same-state outer after f.start (gathered kind f.start (map plain trees)) (l - level kind) deepest left (rest-laid f outer (length trees) now-laid))
       ∙ sym (turned-closed next f outer (map plain trees) kind l deepest w k (laid-of trees (f ∷ outer) now-laid)) ∙ ap (turned next) now-state
-
-  pub closed-laid : (after : List Frame) (count : ℕ) → f.start ≤ count → IsSame outer after → is_laid count after ≡ true
-  closed-laid after count le left = left.laid count (laid-more outer f.start count (rest-laid f outer (length trees) now-laid) le)
 
 -- ---- all rules end
 
@@ -373,6 +237,3 @@ ended-left f frames trees new l deepest h e =
 
 pub left-laid : (f : Frame) (frames : List Frame) (n m : ℕ) → is_laid n (f ∷ frames) ≡ true → f.start ≤ m → is_laid m frames ≡ true
 left-laid f frames n m h le = laid-more frames f.start m (rest-laid f frames n h) le
-
-pub front-start : (f : Frame) (frames : List Frame) (n : ℕ) → is_laid n (f ∷ frames) ≡ true → f.start ≤ n
-front-start f frames n h = (first-lies f frames n h).within

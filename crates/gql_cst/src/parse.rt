@@ -1,7 +1,7 @@
 //! Reads a whole text: a document, a selection set, or a reference to a type.
 
 ghost use Rattle.std.specs.Prelude.{◌≡◌, true, IfOk, OnOk, is_some};
-ghost use Rattle.gql_cst.specs.Progress.{IsRead, HasStopped, SameText};
+ghost use Rattle.gql_cst.specs.Progress.{IsRead, SameText};
 ghost use Rattle.gql_cst.specs.Judged.{IsStood, IsJudged};
 ghost use Rattle.gql_cst.specs.Nested.{IsNested, EndsNested};
 ghost use Rattle.gql_cst.specs.Parses.{Accepts, Ended, IsParse};

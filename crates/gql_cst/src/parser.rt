@@ -1,6 +1,6 @@
 //! Reads a text token by token: counts them, and hands their words on.
 
-ghost use Rattle.std.specs.Prelude.{◌≡◌, ◌≢◌, ◌<◌, ◌++◌, ◌∷◌, [], true, map, length, MatchBool, IfOk, OnOk, IfNone, IfSome, Some, None, is_some};
+ghost use Rattle.std.specs.Prelude.{◌≡◌, ◌≢◌, ◌<◌, true, length, MatchBool, IfOk, OnOk, IfNone, IfSome, Some, None, is_some};
 ghost use Rattle.gql_cst_lexer.specs.declared.token.TokenKind.{TokenKind};
 ghost use Rattle.gql_cst.specs.Forest as Forest;
 ghost use Rattle.gql_cst.specs.Forest.{plain};
@@ -53,7 +53,7 @@ impl<'a> Parser<'a> {
     ghost use Rattle.gql_cst.specs.Judged.{IsStood, IsJudged};
     ghost use Rattle.gql_cst.specs.Nested.{IsNested, EndsNested};
     ghost use Rattle.gql_cst.specs.Parses.{Accepts, Ended, IsParse};
-    ghost use Rattle.gql_cst.specs.Progress.{trees, IsRead, IsUnderway, HasStopped, SameText, leaf_of, word_leaf};
+    ghost use Rattle.gql_cst.specs.Progress.{IsRead, IsUnderway, HasStopped, SameText, leaf_of, word_leaf};
 
     /// At the beginning of the text, which is read by the rule.
     #[tactic(auto, using(crate::proofs::Nested::new_nested))]

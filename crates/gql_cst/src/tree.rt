@@ -1,6 +1,6 @@
 //! Concrete syntax trees: every token of a text, in the nodes of its grammar.
 
-ghost use Rattle.std.specs.Prelude.{◌≡◌, ℕ, map};
+ghost use Rattle.std.specs.Prelude.{◌≡◌};
 
 use crate::SyntaxKind;
 use std::ops::Range;

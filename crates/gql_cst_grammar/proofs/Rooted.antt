@@ -15,7 +15,7 @@ use Rattle.gql_cst_grammar.specs.Starts.{way}
 use Rattle.gql_cst_grammar.specs.Ends.{closes}
 use Rattle.gql_cst_grammar.specs.Stands.{way_at, Stands, rooted, around, BetweenIn, StandsIn}
 use Rattle.gql_cst_grammar.proofs.Ways.{way-some}
-use Rattle.gql_cst_grammar.proofs.Turns.{begin, begun, look, enter_tree, enter_group, into_optional, into_repeated, into_eager, past_optional, past_repeated, past_eager, past_wrap, past_close, taken, accepted, alone, ended_token, ended_rule, refused_token, refused_rule, refused_rest}
+use Rattle.gql_cst_grammar.proofs.Turns.{begin, begun, look, enter_tree, enter_group, into_optional, into_repeated, into_eager, past_optional, past_repeated, past_eager, past_wrap, past_close, taken, accepted, ended_token, ended_rule, refused_token, refused_rule, refused_rest}
 
 -- ---- the first word
 
@@ -128,9 +128,6 @@ closed_in {start = start} {k = k} {before = before} {next = next} {x = x} {rows 
 
 pub accepted_in : {start : Rule} {k : SyntaxKind} {before : List Word} {x : Row} {rows : List Row} → StandsIn start k before None [] x rows → Sentence start before (node k x nothing)
 accepted_in s = accepted (closed_in s)
-
-pub alone_in : {start : Rule} {k : SyntaxKind} {before : List Word} {x : Row} {rows : List Row} → StandsIn start k before None [] x rows → (f : Row) → Sentence start before f → f ≡ node k x nothing
-alone_in s f d = alone (closed_in s) f d
 
 pub ended_token_in : {start : Rule} {k : SyntaxKind} {before : List Word} {t : Terminal} {ss : List Symbol} {x : Row} {rows : List Row}
     → StandsIn start k before None (Token t ∷ ss) x rows → (f : Row) → Sentence start before f → ⊥

@@ -7,7 +7,7 @@ use Rattle.std.proofs.lemmas.Slice.Eq.{bytes_eq-Decides}
 use Rattle.gql_cst_grammar.specs.declared.word.Word.{Word}
 use Rattle.gql_cst_grammar.specs.declared.word.Word.TheVariants.{FragmentWord, OnWord, NullWord, SchemaWord, ScalarWord, TypeWord, InterfaceWord, ImplementsWord, UnionWord, EnumWord, InputWord, DirectiveWord, RepeatableWord, ExtendWord, OperationWord, BooleanWord, LocationWord, OtherName}
 use Rattle.gql_cst_grammar.specs.Spelling.{keyword, word_of_name}
-use Rattle.gql_cst_grammar.specs.Lengths.{word_of_two, word_of_four, word_of_five, word_of_six, word_of_eight, word_of_nine, word_of_ten, word_of_long}
+use Rattle.gql_cst_grammar.specs.Lengths.{word_of_four, word_of_five, word_of_six, word_of_eight, word_of_nine, word_of_ten, word_of_long}
 
 -- one test after the other
 abbrev chain : (List ℕ → Bool) → Word
@@ -124,9 +124,6 @@ chained p name h =
 at_length : (n : ℕ) (name : List ℕ) → length name ≡ n → word_of_name name ≡ chain (λ text. (length text == n) && bytes_eq name text)
 at_length n name e = chained (λ k. k == n) name (eq-eqb (length name) n e)
 
-pub is_two : (name : List ℕ) → length name ≡ 2 → word_of_two name ≡ word_of_name name
-is_two name e = sym (at_length 2 name e)
-
 pub is_four : (name : List ℕ) → length name ≡ 4 → word_of_four name ≡ word_of_name name
 is_four name e = sym (at_length 4 name e)
 
@@ -147,18 +144,3 @@ is_ten name e = sym (at_length 10 name e)
 
 pub is_long : (name : List ℕ) → 12 ≤ length name → word_of_long name ≡ word_of_name name
 is_long name h = sym (chained (λ k. nat_le 12 k) name (le-leb 12 (length name) h))
-
-pub is_other-0 : (name : List ℕ) → length name ≡ 0 → OtherName ≡ word_of_name name
-is_other-0 name e = sym (at_length 0 name e)
-
-pub is_other-1 : (name : List ℕ) → length name ≡ 1 → OtherName ≡ word_of_name name
-is_other-1 name e = sym (at_length 1 name e)
-
-pub is_other-3 : (name : List ℕ) → length name ≡ 3 → OtherName ≡ word_of_name name
-is_other-3 name e = sym (at_length 3 name e)
-
-pub is_other-7 : (name : List ℕ) → length name ≡ 7 → OtherName ≡ word_of_name name
-is_other-7 name e = sym (at_length 7 name e)
-
-pub is_other-11 : (name : List ℕ) → length name ≡ 11 → OtherName ≡ word_of_name name
-is_other-11 name e = sym (at_length 11 name e)

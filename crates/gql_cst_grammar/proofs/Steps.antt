@@ -190,7 +190,3 @@ wrap_past (symbol (wrap k done) e) = e
 pub wrap_from : {k : SyntaxKind} {ss : List Symbol} {x : Row} {rows : List Row} {ws : List Word} {out : Row}
     → Ends ss (node k x nothing) rows ws out → Ends (Wrap k ∷ ss) x rows ws out
 wrap_from {k = k} e = symbol (wrap k done) e
-
--- the stack is at its end
-pub Ends-same : {x : Row} {rows : List Row} {ws : List Word} {out : Row} → Ends [] x rows ws out → out ≡ x
-Ends-same end = refl

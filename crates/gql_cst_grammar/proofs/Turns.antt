@@ -173,11 +173,6 @@ past_close {k = k} {ss = ss} {x = x} {y = y} {rows = rows} s =
     let even : closes ss + 1 ≡ length (x ∷ rows) = s.balanced in
     turned s ss (with_node x k y) rows s.decided (omega arith) (λ ws out e. step.close_past e) (λ ws out e. close k e)
 
-pub close_has_row : {start : Rule} {before : List Word} {next : Option Word} {k : SyntaxKind} {ss : List Symbol} {y : Row}
-    → Stands start before next (Close k ∷ ss) y [] → ⊥
-close_has_row {ss = ss} s =
-    let even : closes ss + 1 ≡ 0 = s.balanced in omega arith
-
 -- ---- a word is taken
 
 pub taken : {start : Rule} {before : List Word} {w : Word} {t : Terminal} {ss : List Symbol} {x : Row} {rows : List Row}
@@ -204,11 +199,6 @@ pub accepted : {start : Rule} {before : List Word} {x : Row} {rows : List Row} �
 accepted {start = start} {before = before} {x = x} {rows = rows} s =
     let ended : Ends [] x rows [] x = subst (λ more. Ends [] x more [] x) (rows_none rows s.balanced) end in
     Sentence-from s.makes_node (subst (λ us. EndsFrom start us x) (append-none before) (s.back [] x ended))
-
--- no other tree is one of the same words
-pub alone : {start : Rule} {before : List Word} {x : Row} {rows : List Row} → Stands start before None [] x rows → (f : Row) → Sentence start before f → f ≡ x
-alone {start = start} {before = before} s f d =
-    step.Ends-same (s.onward [] f (subst (λ us. EndsFrom start us f) (sym (append-none before)) (Sentence-ends d)))
 
 pub ended_token : {start : Rule} {before : List Word} {t : Terminal} {ss : List Symbol} {x : Row} {rows : List Row}
     → Stands start before None (Token t ∷ ss) x rows → (f : Row) → Sentence start before f → ⊥

@@ -15,10 +15,6 @@ pub or_right : (a b : Bool) → b ≡ true → (a || b) ≡ true
 or_right true b h = refl
 or_right false b h = h
 
-pub or_false : (a b : Bool) → (a || b) ≡ true → a ≡ false → b ≡ true
-or_false true b h e = cc
-or_false false b h e = h
-
 -- the test holds of each of the words
 abbrev pub all_of : (Word → Bool) → List Word → Bool
 all_of p [] = true

@@ -50,9 +50,6 @@ behind-added [] = refl
 behind-added (line ∷ others) =
     behind-by line others (is_white_line line) (list_all is_white_line others) (added-white (0x0A ∷ line) others) (behind-added others)
 
-pub joined-white : (line : Text) (others : List Text) → is_white_line line ≡ true → joined (line ∷ others) ≡ joined others
-joined-white line others h = rw h refl
-
 pub joined-line : (line : Text) (others : List Text) → is_white_line line ≡ false → joined (line ∷ others) ≡ line ++ added [] others
 joined-line line others h = rw (h, h) (join-behind line (without_white_end others) ∙ ap (λ t. line ++ t) (behind-added others))
 
@@ -75,11 +72,6 @@ takes-first [] white line new e empty h is = rw (is, empty refl) record {
   value = λ ls. completed-some line [] ls (some_line line h) ∙ sym (joined-line line ls h);
 }
 takes-first (b ∷ text) white line new e empty h is = absurd (omega arith)
-
--- nothing more comes: the text is the value
-pub completed-all : (text white : Text) → completed text white [] ≡ text
-completed-all [] white = refl
-completed-all (b ∷ text) white = append-nil (b ∷ text)
 
 -- ---- indents
 

@@ -1,6 +1,6 @@
 //! The values of block strings.
 
-ghost use Rattle.std.specs.Prelude.{◌≡◌, ◌-◌, ◌<◌, ◌≤◌, length, drop, slice_index, slice_range, true, [], OnOk, IfOk, string_bytes, unwrap_or};
+ghost use Rattle.std.specs.Prelude.{◌≡◌, ◌-◌, ◌<◌, ◌≤◌, length, slice_index, slice_range, true, [], OnOk, IfOk, string_bytes, unwrap_or};
 ghost use Rattle.gql_cst_lexer.specs.BlockString as spec;
 ghost use Rattle.gql_cst_lexer.specs.BlockWriting as writing;
 ghost use Rattle.gql_cst_lexer.specs.Lex as lex;

@@ -1,6 +1,6 @@
 //! What ends the reading of a text.
 
-ghost use Rattle.std.specs.Prelude.{◌≡◌, codes};
+ghost use Rattle.std.specs.Prelude.{◌≡◌};
 ghost use Rattle.gql_cst_lexer.specs.Message.{message_of};
 
 use std::alloc::AllocError;

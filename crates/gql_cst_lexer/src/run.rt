@@ -1,6 +1,6 @@
 //! Runs of bytes and of items.
 
-ghost use Rattle.std.specs.Prelude.{◌≡◌, ◌+◌, ◌<◌, ◌≤◌, length, drop, slice_index, false};
+ghost use Rattle.std.specs.Prelude.{◌≡◌, ◌+◌, ◌<◌, ◌≤◌, length, drop, slice_index};
 ghost use Rattle.gql_cst_lexer.specs.Lex as spec;
 
 use crate::class::{

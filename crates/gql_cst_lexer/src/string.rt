@@ -1,6 +1,6 @@
 //! What strings and block strings are made of.
 
-ghost use Rattle.std.specs.Prelude.{◌≡◌, ◌+◌, ◌<◌, ◌≤◌, length, slice_index, true};
+ghost use Rattle.std.specs.Prelude.{◌≡◌, ◌+◌, ◌<◌, ◌≤◌, length, true};
 ghost use Rattle.gql_cst_lexer.specs.Lex as spec;
 
 use crate::class::{is_digit, is_line, is_source};

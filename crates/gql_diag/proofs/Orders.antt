@@ -1,7 +1,6 @@
 -- The orders of diagnostics are total.
 use Rattle.std.specs.Cmp.{IsTotalOrder}
-use Rattle.std.specs.Ordering.{on, then_cmp, nat_cmp}
-use Rattle.std.specs.Cmp.Lexicographic.{slice_cmp}
+use Rattle.std.specs.Ordering.{on, nat_cmp}
 use Rattle.std.proofs.lemmas.Cmp.{nat_cmp_total, nat_list_cmp_total, lists_total, on_total, then_total}
 use Rattle.gql_diag.specs.Order.{place_key, place_order, row_of, names_of, other_of, details_order, by_place, list_order}
 

@@ -1,5 +1,5 @@
 -- The compact texts of what refusals are made of.
-use Rattle.std.proofs.Common.{rules, ◌≡◌, Bool, ◌++◌, ◌∷◌, [], true, false, pos, map, codes, refl, ◌∙◌, sym, ap, append_assoc, ℕ, List}
+use Rattle.std.proofs.Common.{rules, ◌≡◌, Bool, ◌++◌, ◌∷◌, [], true, pos, map, codes, refl, ◌∙◌, sym, ap, append_assoc, ℕ, List}
 use Rattle.std.proofs.lemmas.List.{append-nil}
 use Rattle.jb_tree.specs.declared.value.Value.{Value, the_lemmas}
 use Rattle.jb_tree.specs.declared.value.Value.TheVariants as json

@@ -1,6 +1,5 @@
 //! Going through a list of diagnostics.
 
-ghost use Rattle.std.specs.Prelude.{◌≡◌, map};
 ghost use Rattle.std.specs.Iterator.{YieldsFirstBy, YieldsLastBy, item_count};
 ghost use Rattle.gql_diag.specs.Walk.{shown, left_of};
 

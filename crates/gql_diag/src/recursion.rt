@@ -2,7 +2,6 @@
 
 ghost use Rattle.std.specs.Prelude.{◌≡◌, ◌≤◌, ◌<◌, ◌↔◌, [], ◌∷◌, None, Some, Err, length, slice_get, IfOk, OnOk, OnErr};
 ghost use Rattle.std.specs.Option.{option_copied};
-ghost use Rattle.jb_text.specs.declared.refused.Refused.TheVariants as refused_variant;
 ghost use Rattle.gql_diag.specs.Stack.{popped, with_name};
 
 use crate::depth::{DEFAULT_LIMIT, RecursionLimitError};

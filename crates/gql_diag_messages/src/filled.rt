@@ -1,7 +1,7 @@
 //! Texts with places for names.
 
-ghost use Rattle.std.specs.Prelude.{◌≡◌, ◌<◌, ◌≤◌, ◌+◌, [], ◌∷◌, ◌++◌, drop, length, IfOk, OnOk, string_bytes};
-ghost use Rattle.gql_diag_messages.specs.Filled.{name_at, is_lacking, is_directive, place_for, filled, filled_behind};
+ghost use Rattle.std.specs.Prelude.{◌≡◌, ◌<◌, ◌≤◌, ◌+◌, ◌++◌, drop, length, IfOk, string_bytes};
+ghost use Rattle.gql_diag_messages.specs.Filled.{name_at, is_lacking, is_directive, place_for, filled};
 
 use jb_text::{Memory, Text};
 use std::alloc::Global;

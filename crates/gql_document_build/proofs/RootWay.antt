@@ -24,10 +24,6 @@ pub record IsOnTheWay (schema : Schema) (fragments : List FragmentDefinition) (s
   pub whole : walk.roots ++ first_roots schema fragments steps walk.entered (all_of walk.left) ≡ root_selections schema fragments start
 
 module _ (schema : Schema) (fragments : List FragmentDefinition) (start : List Selection) where
-  no_more : (n : ℕ) (entered : List Named) → first_roots schema fragments n entered [] ≡ []
-  no_more zero entered = refl
-  no_more (suc n) entered = refl
-
   -- one selection more
   one_more : (n : ℕ) (first : Selection) (others : List Selection) (walk : Walk)
       → own first + total others + total_left walk.left + unentered fragments walk.entered ≤ n
@@ -65,10 +61,6 @@ module _ (schema : Schema) (fragments : List FragmentDefinition) (start : List S
       let found : selections_of roots ≡ [] = ap selections_of none_found in
       let whole : walk_of entered pending roots ≡ record { entered = []; left = start ∷ []; roots = [] } = λ i. record { entered = none_entered i; left = left i; roots = found i } in
       subst (IsOnTheWay schema fragments start) (sym whole) way_begins
-
-  pub way_ends : (entered : List Named) (roots : List Selection) → IsOnTheWay schema fragments start (record { entered = entered; left = []; roots = roots })
-      → roots ≡ root_selections schema fragments start
-  way_ends entered roots way = sym (ap (λ l. roots ++ l) (no_more way.steps entered) ∙ append-nil roots) ∙ way.whole
 
   taken_up : (entered : List Named) (pending popped : List (Bor (List Selection))) (roots : List (Bor Selection)) (list : Bor (List Selection))
       → pending ≡ popped ++ list ∷ [] → walk_of entered pending roots ≡ record (walk_of entered popped roots) { left = list.now ∷ lists_of popped }

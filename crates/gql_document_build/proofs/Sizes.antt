@@ -1,8 +1,8 @@
 -- How large selections are, by which what is made of them comes to an end.
-use Rattle.std.proofs.Common.{rules, ◌≡◌, ℕ, ◌+◌, List, [], ◌∷◌, map}
+use Rattle.std.proofs.Common.{ℕ, ◌+◌, List, [], ◌∷◌, map}
 use Rattle.gql_ast_definitions.specs.declared.selection.Field.{Field}
 use Rattle.gql_ast_definitions.specs.declared.selection.InlineFragment.{InlineFragment}
-use Rattle.gql_ast_definitions.specs.declared.selection.Selection.{Selection, the_lemmas, fold-Selection}
+use Rattle.gql_ast_definitions.specs.declared.selection.Selection.{Selection, fold-Selection}
 use Rattle.gql_ast_definitions.specs.declared.selection.Selection.TheVariants as selection
 use Rattle.gql_ast_definitions.specs.declared.selection.Selection.TheOpen.{Selection-F, Field-F, InlineFragment-F}
 
@@ -32,9 +32,3 @@ inside_field field = total field.selection_set
 
 abbrev pub inside_inline : InlineFragment → ℕ
 inside_inline fragment = total fragment.selection_set
-
-pub size-field : (f : Field) → size (selection.Field f) ≡ 4 + inside_field f
-size-field f = search (rules, the_lemmas)
-
-pub size-inline : (i : InlineFragment) → size (selection.InlineFragment i) ≡ 4 + inside_inline i
-size-inline i = search (rules, the_lemmas)

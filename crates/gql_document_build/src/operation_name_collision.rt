@@ -1,6 +1,6 @@
 //! Operations have distinct names (GraphQL October 2021, section 5.2.1.1).
 
-ghost use Rattle.std.specs.Prelude.{◌≡◌, ◌++◌, [], IfOk, OnOk};
+ghost use Rattle.std.specs.Prelude.{◌≡◌, ◌++◌, IfOk, OnOk};
 ghost use Rattle.gql_document_build.specs.OperationNameCollision as spec;
 
 use crate::fault::list_name;

@@ -1,7 +1,7 @@
 -- What each function of counting owes, over plain values.
-use Rattle.std.proofs.Common.{arith, ◌≡◌, ◌⊎◌, inl, inr, ℕ, zero, suc, ◌+◌, ◌<◌, ◌≤◌, Bool, List, [], ◌∷◌, drop, length, get_or, set, replicate, Option, Some, None, is_some, leb, slice_get, refl, sym, ap, ◌∙◌, subst}
+use Rattle.std.proofs.Common.{arith, ◌≡◌, ℕ, zero, suc, ◌+◌, ◌<◌, ◌≤◌, Bool, List, drop, length, get_or, set, replicate, Option, Some, None, is_some, leb, slice_get, sym, ap, ◌∙◌, subst}
 use Rattle.std.proofs.lemmas.Bool.{le-leb, lt-leb}
-use Rattle.std.proofs.lemmas.List.{length-replicate, length-set}
+use Rattle.std.proofs.lemmas.List.{length-replicate}
 use Rattle.std.proofs.lemmas.Option.{slice_get-get_or}
 use Rattle.std.proofs.Math.ListN.{drop_of_length-le}
 use Rattle.gql_document_types.specs.declared.fragment.Fragment.{Fragment}
@@ -16,19 +16,12 @@ use Rattle.gql_document_types.proofs.Counts.{count-inside, count-item}
 pub counted-as : (limit m n : ℕ) (o : Option ℕ) → m ≡ n → IsCounted limit m o → IsCounted limit n o
 counted-as limit m n o same counted = subst (λ k. IsCounted limit k o) same counted
 
--- what is not counted makes no larger sum that is
-pub none-above : (limit m n : ℕ) → m ≤ n → limit < m → limit < n
-none-above limit m n more past = omega (arith, more, past)
-
 module _ (all : List Fragment) (limit : ℕ) where
   -- how far the counting of a set has come
   pub record IsCountedSoFar (whole left : List Selection) (total : ℕ) (memo : List (Option ℕ)) : Type 0 where
     pub right : AreRight all limit memo
     pub low : total ≤ limit
     pub sum : total + count (expanded all left) ≡ count (expanded all whole)
-
-  pub count-start : (whole items : List Selection) (memo : List (Option ℕ)) → items ≡ whole → AreRight all limit memo → IsCountedSoFar whole items 0 memo
-  count-start whole items memo same right = record { right = right; low = omega arith; sum = omega (arith, ap (λ l. count (expanded all l)) same) }
 
   module _ (whole items : List Selection) (i total : ℕ) (memo : List (Option ℕ)) (so_far : IsCountedSoFar whole (drop i items) total memo) where
     pub count-end : length items ≤ i → IsCounted limit (count (expanded all whole)) (Some total)
@@ -58,22 +51,6 @@ module _ (all : List Fragment) (limit : ℕ) where
 
   pub remembered : (memo : List (Option ℕ)) (f n : ℕ) → AreRight all limit memo → f < length all → get_or memo f None ≡ Some n → IsCounted limit (count_at all f) (Some n)
   remembered memo f n right within is = right.right f n (memo-is memo f (Some n) (omega (arith, within, right.sized)) is)
-
-  set-known : (memo : List (Option ℕ)) (f g n m : ℕ) → slice_get (set memo f (Some n)) g ≡ Some (Some m) → ((g ≡ f) × (m ≡ n)) ⊎ (slice_get memo g ≡ Some (Some m))
-  set-known [] f g n m e = cc
-  set-known (o ∷ memo) zero zero n m e = inl (refl, cc)
-  set-known (o ∷ memo) zero (suc g) n m e = inr e
-  set-known (o ∷ memo) (suc f) zero n m e = inr e
-  set-known (o ∷ memo) (suc f) (suc g) n m e = elim (set-known memo f g n m e) [ inl same ↦ inl (ap suc same.0, same.1) | inr other ↦ inr other ]
-
-  pub right-set : (memo : List (Option ℕ)) (f n : ℕ) → AreRight all limit memo → IsCounted limit (count_at all f) (Some n) → AreRight all limit (set memo f (Some n))
-  right-set memo f n right counted = record {
-    sized = length-set memo f (Some n) ∙ right.sized;
-    right = λ g m known. elim (set-known memo f g n m known) [
-      | inl same ↦ subst (λ h. IsCounted limit (count_at all h) (Some m)) (sym same.0) (subst (λ k. IsCounted limit (count_at all f) (Some k)) (sym same.1) counted)
-      | inr other ↦ right.right g m other
-    ];
-  }
 
   at-none : (n f m : ℕ) → slice_get (replicate n None) f ≡ Some (Some m) → ⊥
   at-none zero f m e = cc

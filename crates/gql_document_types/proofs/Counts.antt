@@ -13,9 +13,9 @@ use Rattle.gql_schema_types.specs.Entries.{is_called}
 use Rattle.gql_schema_types.proofs.Lookups.{found, missing}
 use Rattle.gql_document_types.specs.Contents.{HaveContents}
 use Rattle.gql_document_types.specs.Count.{count}
-use Rattle.gql_document_types.specs.Counted.{one_count, field_count, inline_count, spread_count, count_at}
+use Rattle.gql_document_types.specs.Counted.{one_count, spread_count, count_at}
 use Rattle.gql_document_types.specs.Expanded.{in_place, contents, expanded, expanded_one, expanded_field, expanded_inline, expanded_spread}
-use Rattle.gql_document_types.proofs.Views.{expand-field, expand-spread, expand-inline, count-field, count-inline}
+use Rattle.gql_document_types.proofs.Views.{expand-field, expand-spread, expand-inline, count-inline}
 
 count-append : (xs ys : List Selection) → count (xs ++ ys) ≡ count xs + count ys
 count-append [] ys = omega arith
@@ -53,15 +53,6 @@ module _ (all : List Fragment) where
   spread-defined s number it is there = ap (placed s) (found (is_called fragment_name s.fragment_name.text) all number is ∙ there)
 
   -- ---- how many that are
-
-  pub count-of-field : (f : Field) → one_count all (selection.Field f) ≡ field_count all f
-  count-of-field f = omega (arith, ap count (one-field f), count-field (expanded_field all f))
-
-  pub count-of-inline : (i : InlineFragment) → one_count all (selection.InlineFragment i) ≡ inline_count all i
-  count-of-inline i = omega (arith, ap count (one-inline i), count-inline (expanded_inline all i))
-
-  pub count-of-spread : (s : FragmentSpread) → one_count all (selection.FragmentSpread s) ≡ spread_count all s
-  count-of-spread s = ap count (one-spread s)
 
   pub count-undefined : (s : FragmentSpread) → position (is_called fragment_name s.fragment_name.text) all ≡ None → spread_count all s ≡ 0
   count-undefined s is = ap count (spread-undefined s is)

@@ -2,7 +2,7 @@
 use Rattle.std.proofs.Common.{◌≡◌, ◌<◌, Bool, true, false, cond, List, [], ◌∷◌, ◌++◌, map, Option, Some, None, refl, sym, ap, ◌∙◌, subst, append_assoc}
 use Rattle.std.specs.Borrow.{Bor}
 use Rattle.std.specs.Option.{option_map_or}
-use Rattle.std.proofs.lemmas.List.{reverse-append, map-append, append-nil}
+use Rattle.std.proofs.lemmas.List.{reverse-append, append-nil}
 use Rattle.gql_ast_base.specs.Names.{Named}
 use Rattle.gql_schema_types.specs.Entries.{entry}
 use Rattle.gql_document_types.specs.RootFields.{AreRootFields, none_left, a_field, an_inline_fragment, a_first_spread, a_further_spread, fragment_name, is_entered, fields_of}
@@ -57,9 +57,6 @@ module _ (fragments : List Fragment) (start : List Selection) where
   first_met [] walk way = way
   first_met (first ∷ others) walk way = selection_met first (with_list others walk) way
 
-  pub way_begins : IsOnTheWay fragments start (record { entered = []; left = start ∷ []; fields = [] })
-  way_begins = λ rest roots. subst (λ all. AreRootFields fragments [] all rest) (append-nil start) roots
-
   pub way_ends : (entered : List Named) (fields : List Field) → IsOnTheWay fragments start (record { entered = entered; left = []; fields = fields }) → AreRootFields fragments [] start fields
   way_ends entered fields way = subst (AreRootFields fragments [] start) (append-nil fields) (way [] none_left)
 
@@ -67,9 +64,6 @@ module _ (fragments : List Fragment) (start : List Selection) where
 
 pub laid_aside : (pending : List (Bor (List Selection))) (list : Bor (List Selection)) → lists_of (pending ++ list ∷ []) ≡ list.now ∷ lists_of pending
 laid_aside pending list = ap (map (λ (selections : Bor (List Selection)). selections.now)) (reverse-append pending (list ∷ []))
-
-pub found_field : (fields : List (Bor Field)) (field : Bor Field) → fields_of (fields ++ field ∷ []) ≡ fields_of fields ++ field.now ∷ []
-found_field fields field = map-append (λ (f : Bor Field). f.now) fields (field ∷ [])
 
 -- one list more is taken up
 pub taken_up : (fragments : List Fragment) (entered : List Named) (pending popped : List (Bor (List Selection))) (fields : List (Bor Field)) (list : Bor (List Selection))

@@ -1,7 +1,5 @@
 //! Fragments.
 
-ghost use Rattle.std.specs.Prelude.{◌≡◌};
-
 use crate::selection::SelectionSet;
 use gql_ast_base::{Copying, Directive, Name, all_three};
 use gql_schema_types::Named;

@@ -39,7 +39,7 @@ use Rattle.gql_engine.specs.Answered.{ExecutionLooks, IsPrint, IsResponseBy, IsR
 use Rattle.gql_engine.specs.Answering.{Answers, AnswersWithin}
 use Rattle.gql_engine.specs.Depths.{IsShallow, all_selections, depth_looks}
 use Rattle.gql_engine.specs.Ready.{IsChosen, MeantBy, Ready}
-use Rattle.gql_engine.specs.Responding.{HasCauseOf, IsAnswer, IsCause, IsOfStep, IsResponse, OrCause, Performs, of_texts, told, told_as}
+use Rattle.gql_engine.specs.Responding.{HasCauseOf, IsAnswer, IsCause, IsOfStep, IsResponse, OrCause, Performs, of_texts, told}
 use Rattle.gql_engine.specs.Unanswered.{Unanswered, no_texts, no_operation, no_depth, no_variables}
 use Rattle.gql_engine.specs.Wanted.{Members, Wanted}
 use Rattle.gql_engine.proofs.Results.{same_ok, same_err, ok_or_err, true_or_false}
@@ -193,12 +193,6 @@ same_refusal P Q w (Fault refusal) h = h
 same_refusal P Q w Memory h = tt
 
 -- ---- the call
-
--- a cause, as callers are told it
-pub cause_told : (w : Wanted) (r : Refusal) → IsCause w r → HasCauseOf w (told_as r)
-cause_told w (refused.Schema list) h = h
-cause_told w (refused.Document list) h = h
-cause_told w (refused.Request k e sources) h = h
 
 module _ {X : Type 0} (types : X → List ℕ) (resolves : Resolving X) (root : X) (call : Call) (members : Members) (object : IsObjectText call.variables members) where
   has_cause : (e : AnswerError) → HasCauseOf (wanted_with call members) e → HasCause call e

@@ -1,6 +1,6 @@
 //! What is replied to the bytes of a request.
 
-ghost use Rattle.std.specs.Prelude.{◌≡◌, ℕ, IfOk};
+ghost use Rattle.std.specs.Prelude.{ℕ, IfOk};
 ghost use Rattle.gql_exec_plan.specs.Request.{asked_in};
 ghost use Rattle.gql_engine.specs.declared.task.Wish.TheVariants as wished;
 ghost use Rattle.gql_engine.specs.Reply.{IsRefusedWith, IsReply, IsReplyTo, IsReplyToAsked};

@@ -3,8 +3,7 @@ use Rattle.std.proofs.Common.{rules, ◌≡◌, ℕ, Bool, true, false, cond, if
 use Rattle.std.specs.List.{AllByRecursion, filter, find}
 use Rattle.std.specs.Option.{option_and_then}
 use Rattle.std.specs.Str.{bytes_eq}
-use Rattle.std.proofs.lemmas.Slice.Eq.{bytes_eq-Decides}
-use Rattle.jb_tree.specs.declared.value.Value.{Value, the_lemmas}
+use Rattle.jb_tree.specs.declared.value.Value.{the_lemmas}
 use Rattle.jb_tree.specs.declared.value.Value.TheVariants as json
 use Rattle.jb_tree.specs.Value.{is_null}
 use Rattle.gql_ast_base.specs.declared.type_ref.TypeRef.{TypeRef}
@@ -21,9 +20,9 @@ use Rattle.gql_exec_resolve.specs.Fit.{wrong, unless, null_misfit, leaf_misfit, 
 use Rattle.gql_exec_resolve.specs.Lists.{is_list}
 use Rattle.gql_exec_resolve.specs.Messages as message
 use Rattle.gql_exec_plan.specs.Flat.{flat_sets}
-use Rattle.gql_exec_plan.specs.Groups.{response_key, has_key, keys, FieldGroup, group_at, groups_of, is_defined, applying}
+use Rattle.gql_exec_plan.specs.Groups.{response_key, has_key, keys, FieldGroup, group_at, is_defined}
 use Rattle.gql_exec_plan.proofs.Keys.{Text, has, text-same, text-itself, AreDistinct, are-distinct}
-use Rattle.gql_exec_resolve.specs.Resolved.{Misfit, gives_leaf, gives_object, fails_with}
+use Rattle.gql_exec_resolve.specs.Resolved.{Misfit}
 use Rattle.gql_ast_base.specs.TypeParts.{is_non_null}
 use Rattle.gql_exec_resolve.specs.World.{World, key_of, DistinctKeys, IsLawful}
 use Rattle.gql_exec_fields.specs.Group.{Group, started, groups_from}

@@ -1,11 +1,10 @@
 -- What is selected below a group goes less deep, where no fragment leads back to itself.
-use Rattle.std.proofs.Common.{arith, ◌≡◌, ℕ, zero, suc, ◌<◌, ◌≤◌, max, ltb, Bool, true, false, cond, not, ◌&&◌, List, [], ◌∷◌, ◌++◌, map, length, Option, Some, None, is_some, slice_get, position, refl, sym, ap, ◌∙◌, subst, lt-ltb, ltb-true}
+use Rattle.std.proofs.Common.{arith, ◌≡◌, ℕ, zero, suc, ◌<◌, ◌≤◌, max, ltb, Bool, true, false, cond, not, ◌&&◌, List, [], ◌∷◌, ◌++◌, map, length, Option, Some, None, is_some, slice_get, refl, sym, ap, ◌∙◌, subst, lt-ltb, ltb-true}
 use Rattle.std.specs.List.{AllByRecursion, find, filter}
 use Rattle.std.specs.Option.{option_map, option_map_or}
 use Rattle.std.proofs.Math.Nat.{le-max_left, le-max_right, max-le}
 use Rattle.std.proofs.lemmas.List.{length-map}
 use Rattle.std.proofs.lemmas.Option.{slice_get-map}
-use Rattle.gql_ast_base.specs.Names.{Named}
 use Rattle.gql_document_types.specs.RootFields.{fragment_name}
 use Rattle.gql_document_types.specs.Spreads.{spreads_in, spread_graph}
 use Rattle.gql_document_types.specs.declared.fragment.Fragment.{Fragment}
@@ -13,11 +12,8 @@ use Rattle.gql_document_types.specs.declared.selection.Field.{Field}
 use Rattle.gql_document_types.specs.declared.selection.FragmentSpread.{FragmentSpread}
 use Rattle.gql_document_types.specs.declared.selection.InlineFragment.{InlineFragment}
 use Rattle.gql_document_types.specs.declared.selection.Selection.{Selection, out-Selection}
-use Rattle.gql_document_types.specs.declared.selection.Selection.TheOpen.{Selection-F}
 use Rattle.gql_document_types.specs.declared.selection.Selection.TheVariants as selection
-use Rattle.gql_schema_types.specs.Entries.{is_called}
 use Rattle.gql_schema_types.specs.Schemas.{field_of as field_of_type}
-use Rattle.gql_schema_types.specs.declared.schema.Schema.{Schema}
 use Rattle.gql_schema_types.specs.declared.types.ObjectType.{ObjectType}
 use Rattle.gql_exec_plan.specs.Expanded.{most}
 use Rattle.gql_exec_plan.specs.Nested.{Nested, nothing, field_then, spread_then, inline_then, Fragments, Place, body_in, body_of, IsBelow as IsRankedBelow, AreRanked as AreNestedRanked}
@@ -26,7 +22,7 @@ use Rattle.gql_exec_plan.proofs.Ranked.{fragments-ranked}
 use Rattle.gql_exec_plan.proofs.Views.{view-field, view-spread, view-inline, view-inside, view-node}
 use Rattle.gql_exec_plan.specs.Applies.{applies, applies_if}
 use Rattle.gql_exec_plan.specs.Flat.{when, contents, body, field_of, opened, flat_within, enough, flat, flat_sets}
-use Rattle.gql_exec_plan.specs.Groups.{response_key, has_key, keys, FieldGroup, group_at, groups_of, has_field, is_defined, applying, SameGroups, none_same, one_same}
+use Rattle.gql_exec_plan.specs.Groups.{has_key, keys, FieldGroup, group_at, has_field, is_defined, applying, SameGroups, none_same, one_same}
 use Rattle.gql_exec_plan.specs.Kept.{is_kept}
 use Rattle.gql_exec_plan.specs.Ranks.{AreRanked}
 use Rattle.gql_exec_plan.specs.Same.{SameFirst}
@@ -37,7 +33,7 @@ use Rattle.gql_rules_graph.specs.Ranks.{IsRanked}
 use Rattle.gql_exec_resolve.specs.Depth.{AllGroups, Suffices}
 use Rattle.gql_exec_resolve.specs.World.{World}
 use Rattle.gql_exec_fields.specs.Group.{Group, piece_of, pieces_of, started, groups_from}
-use Rattle.gql_exec_fields.specs.Nesting.{nesting_with, fragment_nesting, nesting_in, nesting, IsBelow, AllBelow}
+use Rattle.gql_exec_fields.specs.Nesting.{nesting_with, fragment_nesting, nesting_in, nesting, AllBelow}
 use Rattle.gql_exec_fields.specs.Request.{Request}
 use Rattle.gql_exec_fields.specs.RequestWorld.{setting_on, plain_world}
 

@@ -1,5 +1,5 @@
 -- What comes of a field on an object: sections 6.4.1 and 6.4.2 of GraphQL October 2021.
-use Rattle.std.specs.Prelude.{ℕ, Bool, ◌&&◌, ◌||◌, if◌then◌else◌, List, Option, Result, Ok, Err, codes}
+use Rattle.std.specs.Prelude.{ℕ, Bool, ◌&&◌, ◌||◌, if◌then◌else◌, List, Result, Ok, Err, codes}
 use Rattle.std.specs.Option.{unwrap_or}
 use Rattle.std.specs.Str.{bytes_eq}
 use Rattle.jb_tree.specs.declared.value.Value.TheVariants as json
@@ -12,7 +12,7 @@ use Rattle.gql_document_types.specs.declared.selection.Field.{Field}
 use Rattle.gql_schema_types.specs.Schemas.{field_of, is_query_root}
 use Rattle.gql_schema_types.specs.declared.schema.Schema.{Schema}
 use Rattle.gql_schema_types.specs.declared.types.ObjectType.{ObjectType}
-use Rattle.gql_exec_resolve.specs.Resolved.{Meaning, gives_leaf, fails_with, Fault, Outcome, answered, refused}
+use Rattle.gql_exec_resolve.specs.Resolved.{Meaning, gives_leaf, Fault, Outcome, answered, refused}
 use Rattle.gql_exec_fields.specs.Request.{Members, Request}
 
 -- the definition of a field on an object type, which the first field of each group has; else the one where it is selected
@@ -41,9 +41,3 @@ asks r U x f = asked r U x f.name.text (arguments_at r (definition_on r.schema U
 -- a field that tells of the schema: section 4.2
 abbrev pub is_introspection : Schema → ObjectType → List ℕ → Bool
 is_introspection schema U f = (bytes_eq f (codes "__schema") || bytes_eq f (codes "__type")) && is_query_root schema.schema_definition U.name.text
-
--- where introspection is off, the fields that tell of the schema fail, and any other is as its resolver says
-abbrev pub answers_without : {X : Type 0} → (Schema → ObjectType → X → List ℕ → Members → Meaning X) → Schema
-    → ObjectType → X → List ℕ → Members → Meaning X
-answers_without resolves schema U x f arguments =
-    if is_introspection schema U f then fails_with (codes "schema introspection is disabled") else resolves schema U x f arguments

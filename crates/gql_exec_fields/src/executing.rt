@@ -4,7 +4,7 @@ ghost use Rattle.std.specs.Prelude.{◌≡◌, ℕ, List, map, is_some, true, If
 ghost use Rattle.gql_exec_plan.specs.Ranks.{AreRanked};
 ghost use Rattle.gql_exec_resolve.specs.Lists.{is_list};
 ghost use Rattle.gql_exec_resolve.specs.Execute.{completed, field_made, items_made, one_array, one_object, settled, settled_item, unless_misfit, value_made};
-ghost use Rattle.gql_exec_resolve.specs.Resolved.{gives_leaf, gives_list, gives_object};
+ghost use Rattle.gql_exec_resolve.specs.Resolved.{gives_list, gives_object};
 ghost use Rattle.gql_exec_resolve.specs.Spot.{field_spot, item_spot, trail};
 ghost use Rattle.gql_exec_resolve.specs.Types as places;
 ghost use Rattle.gql_exec_plan.specs.Ways.{TurnsTo};

@@ -1,5 +1,5 @@
 -- Members of a type, without the deprecated ones unless these are asked for: section 4.2 of GraphQL October 2021.
-use Rattle.std.specs.Prelude.{ℕ, Bool, false, not, ◌||◌, List, map, filter, Option, option_and_then, unwrap_or, codes}
+use Rattle.std.specs.Prelude.{Bool, false, not, ◌||◌, List, map, filter, option_and_then, unwrap_or, codes}
 use Rattle.std.specs.Map.{lookup}
 use Rattle.std.specs.Str.{bytes_eq}
 use Rattle.jb_tree.specs.Value.{truth_value}

@@ -1,9 +1,9 @@
 -- How contracts see the objects of introspection and what their fields give.
-use Rattle.std.specs.Prelude.{◌≡◌, List, map, Option, Result, Ok, Err}
+use Rattle.std.specs.Prelude.{◌≡◌, map, Option, Result, Ok, Err}
 use Rattle.std.specs.Option.{option_map}
 use Rattle.std.specs.declared.alloc.AllocError.{AllocError}
 use Rattle.gql_exec_resolve.specs.Resolved.{Meaning}
-use Rattle.gql_exec_resolve.specs.Meaning.{meaning_by, item_by}
+use Rattle.gql_exec_resolve.specs.Meaning.{meaning_by}
 use Rattle.gql_exec_resolve.specs.declared.resolved_value.ResolvedValue.{ResolvedValue}
 use Rattle.gql_exec_meta.specs.Meta.{Meta, schema_meta, type_def, wrapped, directive_def, field_def, enum_value_def, input_value_def}
 use Rattle.gql_exec_meta.specs.declared.meta_object.MetaObject.{MetaObject}

@@ -1,6 +1,6 @@
 //! A directive, as `__Directive`.
 
-ghost use Rattle.std.specs.Prelude.{◌≡◌, map};
+ghost use Rattle.std.specs.Prelude.{map};
 ghost use Rattle.gql_ast_definitions.specs.Schemas.{location_name};
 ghost use Rattle.gql_exec_meta.specs.Answers.{texts};
 ghost use Rattle.gql_exec_meta.specs.DirectiveDef as spec;

@@ -1,6 +1,5 @@
 //! The objects of introspection.
 
-ghost use Rattle.std.specs.Prelude.{◌≡◌};
 ghost use Rattle.gql_exec_meta.specs.MetaMeaning as spec;
 ghost use Rattle.gql_exec_meta.specs.Seen.{GivesField, stands_for};
 

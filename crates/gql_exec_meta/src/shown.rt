@@ -1,7 +1,6 @@
 //! Parts of a schema that an object stands for each, and lists of such objects.
 
 ghost use Rattle.std.specs.Prelude.{◌≡◌, List, ◌++◌, map, OnOk, if◌then◌else◌, [], ◌∷◌};
-ghost use Rattle.jb_tree.specs.Value.{truth_value};
 ghost use Rattle.gql_ast_base.specs.declared.directive.Directive.{Directive as Use};
 ghost use Rattle.gql_exec_resolve.specs.Resolved.{gives_object};
 ghost use Rattle.gql_schema_types.specs.declared.schema.Schema.{Schema as TheSchema};

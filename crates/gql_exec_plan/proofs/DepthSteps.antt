@@ -22,16 +22,6 @@ pub record IsCheckedSoFar (fragments : Fragments) (c : ℕ) (s : Nested) (m : Me
   pub refuses : (at : Place) (k : ℕ) → Refuses fragments c n left at k → Refuses fragments c m s at (taken + k)
 
 module _ (fragments : Fragments) (c : ℕ) where
-  pub check-start : (s : Nested) (m : Memo) (t : ℕ) → c < 3 → IsCheckedSoFar fragments c s m t s 0 m t
-  check-start s m t low = record {
-    taken = 0;
-    looks = omega arith;
-    fewer = omega arith;
-    low = omega arith;
-    accepts = λ e k o w. accepts_at e (max 0 e) k (0 + k) (omega arith) (omega arith) w;
-    refuses = λ at k w. refuses_at k (0 + k) (omega arith) w;
-  }
-
   pub check-one : (s : Nested) (m : Memo) (t : ℕ) (one : One) (rest : Nested) (d : ℕ) (n : Memo) (u e : ℕ) (o : Memo) (v : ℕ)
       → IsCheckedSoFar fragments c s m t (then_more one rest) d n u → AcceptedOne fragments c one n u e o v → IsCheckedSoFar fragments c s m t rest (max d e) o v
   check-one s m t one rest d n u e o v so_far found = record {

@@ -1,5 +1,5 @@
 -- Lists that grow while looks are counted.
-use Rattle.std.proofs.Common.{arith, ◌≡◌, ◌≤◌, ◌+◌, ◌*◌, ◌⊎◌, inl, inr, ℕ, List, length, refl, ap, subst}
+use Rattle.std.proofs.Common.{arith, ◌≡◌, ◌+◌, ◌*◌, inl, inr, ℕ, List, length, ap, subst}
 use Rattle.gql_exec_plan.specs.Lists.{IsOneOf}
 use Rattle.gql_exec_plan.specs.Ways.{Grows}
 

@@ -11,7 +11,6 @@ pub mod SameFacts
 pub mod Standings
 pub mod Unentered
 pub mod WalkFacts
-pub mod WithinGroups
 pub mod Views
 pub mod DepthFacts
 pub mod DepthSteps
@@ -28,5 +27,4 @@ pub mod Room
 pub mod Totals
 pub mod Ways
 pub mod Weights
-mod Told
 mod Items

@@ -1,6 +1,6 @@
 -- Plans: groups that were collected once, and stand for those that are collected for each object (GraphQL October 2021,
 -- section 6.3.2).
-use Rattle.std.specs.Prelude.{◌≡◌, ℕ, zero, suc, List, map, Option, Some, IfSome, Result, slice_get}
+use Rattle.std.specs.Prelude.{◌≡◌, ℕ, zero, suc, List, map, Some, IfSome, Result, slice_get}
 use Rattle.std.specs.List.{AllByRecursion}
 use Rattle.std.specs.Option.{option_copied, unwrap_or}
 use Rattle.gql_ast_definitions.specs.declared.field_definition.FieldDefinition.{FieldDefinition}

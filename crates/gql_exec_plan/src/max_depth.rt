@@ -1,6 +1,6 @@
 //! The check of an operation's depth.
 
-ghost use Rattle.std.specs.Prelude.{◌≡◌, ◌<◌, ◌≤◌, ◌+◌, ℕ, IfErr, IfOk, MatchOption, OnOk};
+ghost use Rattle.std.specs.Prelude.{◌<◌, ◌≤◌, ◌+◌, ℕ, IfErr, IfOk, MatchOption, OnOk};
 ghost use Rattle.gql_document_types.specs.Spreads.{spread_graph};
 ghost use Rattle.gql_exec_plan.specs.Check.{total, total_fragments};
 ghost use Rattle.gql_exec_plan.specs.Expanded.{expanded_depth};

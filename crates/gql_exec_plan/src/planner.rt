@@ -1,6 +1,6 @@
 //! How plans begin and grow.
 
-ghost use Rattle.std.specs.Prelude.{◌≡◌, ◌≤◌, ◌+◌, ◌++◌, ◌∷◌, [], ℕ, IfOk, OnOk};
+ghost use Rattle.std.specs.Prelude.{◌≡◌, ◌≤◌, ◌+◌, [], ℕ, IfOk, OnOk};
 ghost use Rattle.std.specs.List.{position};
 ghost use Rattle.gql_exec_plan.specs.Collected.{sets_of};
 ghost use Rattle.gql_exec_plan.specs.Ranks.{AreRanked};

@@ -1,6 +1,6 @@
 //! What a request asks: the members of its JSON object, each of the kind that it must have.
 
-ghost use Rattle.std.specs.Prelude.{◌≡◌, Some, None, IfOk, MatchResult, codes};
+ghost use Rattle.std.specs.Prelude.{◌≡◌, Some, None, IfOk, MatchResult};
 ghost use Rattle.jb_tree.specs.Value.{object_members, string_text, truth_value};
 ghost use Rattle.std.specs.Option.{option_copied};
 ghost use Rattle.gql_exec_plan.specs.declared.request.RequestFault.TheVariants.{WrongKind};

@@ -1,8 +1,8 @@
 //! The request of the self-test.
 
-ghost use Rattle.std.specs.Prelude.{◌≡◌, ◌++◌, IfOk, OnOk, codes, string_bytes};
+ghost use Rattle.std.specs.Prelude.{◌≡◌, ◌++◌, IfOk, OnOk, string_bytes};
 ghost use Rattle.std.specs.Fmt.{decimal};
-ghost use Rattle.gql_exec_plan.specs.SelfTest.{comma_before, head, item, items, self_test, tag, tail};
+ghost use Rattle.gql_exec_plan.specs.SelfTest.{comma_before, item, items, self_test, tag};
 
 use bytes::Bytes;
 use itoa::Buffer;

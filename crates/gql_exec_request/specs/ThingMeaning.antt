@@ -5,7 +5,6 @@ use Rattle.gql_exec_resolve.specs.Resolved.{Meaning}
 use Rattle.gql_exec_resolve.specs.Meaning.{Members}
 use Rattle.gql_exec_fields.specs.Asks.{is_introspection}
 use Rattle.gql_schema_types.specs.declared.schema.Schema.{Schema}
-use Rattle.gql_schema_types.specs.declared.types.ObjectType.{ObjectType}
 use Rattle.gql_exec_meta.specs.Meta.{Meta}
 use Rattle.gql_exec_meta.specs.MetaMeaning.{meta_meaning}
 use Rattle.gql_exec_meta.specs.RootFields.{schema_field_meaning, type_field_meaning}

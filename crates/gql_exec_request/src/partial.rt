@@ -1,6 +1,6 @@
 //! The part of an operation that tells of the schema alone.
 
-ghost use Rattle.std.specs.Prelude.{◌≡◌, ℕ};
+ghost use Rattle.std.specs.Prelude.{ℕ};
 ghost use Rattle.gql_document_types.specs.Spreads.{spread_graph};
 ghost use Rattle.gql_exec_request.specs.Partial as spec;
 ghost use Rattle.gql_rules_graph.specs.Cycles.{IsOnCycle};

@@ -1,6 +1,6 @@
 //! How executions run: what refuses them, and else the cycle from the root.
 
-ghost use Rattle.std.specs.Prelude.{◌≡◌, ℕ, Err, Ok, IfOk};
+ghost use Rattle.std.specs.Prelude.{ℕ, Err, Ok, IfOk};
 ghost use Rattle.gql_coerce.specs.Outcome.{told_as};
 ghost use Rattle.gql_coerce.specs.Variables.{coerced_variables};
 ghost use Rattle.gql_document_types.specs.Spreads.{spread_graph};

@@ -1,5 +1,5 @@
 -- How many lists are inside one another in a type.
-use Rattle.std.proofs.Common.{◌≡◌, ℕ, suc, true, false, Some, None, is_some, refl, ap, ◌∙◌}
+use Rattle.std.proofs.Common.{◌≡◌, ℕ, suc, true, false, is_some, refl, ap, ◌∙◌}
 use Rattle.gql_ast_base.specs.declared.type_ref.TypeRef.{TypeRef, fold-TypeRef, out-TypeRef, fold_out-TypeRef}
 use Rattle.gql_ast_base.specs.declared.type_ref.TypeRef as ref
 use Rattle.gql_ast_base.specs.declared.type_ref.TypeRef.TheOpen.{TypeRef-F}
@@ -25,15 +25,3 @@ height-item ty list = fold_out-TypeRef ℕ height_step ty ∙ by (out-TypeRef ty
     by (TypeRef-F.NonNullNamed name) e = absurd (let f : false ≡ true = e in cc)
     by (TypeRef-F.List item) e = refl
     by (TypeRef-F.NonNullList item) e = refl
-
-pub height-some : (ty item : TypeRef) → item_type ty ≡ Some item → height ty ≡ suc (height item)
-height-some ty item is = fold_out-TypeRef ℕ height_step ty ∙ by (out-TypeRef ty) is
-  where
-    here : (other : TypeRef) → Some other ≡ Some item → suc (height other) ≡ suc (height item)
-    here other e = let same : other ≡ item = cc in ap (λ t. suc (height t)) same
-
-    by : (k : TypeRef-F TypeRef) → item_level k ≡ Some item → height_step (ref.map-TypeRef TypeRef ℕ height k) ≡ suc (height item)
-    by (TypeRef-F.Named name) e = absurd (let f : None ≡ Some item = e in cc)
-    by (TypeRef-F.NonNullNamed name) e = absurd (let f : None ≡ Some item = e in cc)
-    by (TypeRef-F.List other) e = here other e
-    by (TypeRef-F.NonNullList other) e = here other e

@@ -4,7 +4,7 @@ ghost use Rattle.std.specs.Prelude.{◌≡◌, IfOk};
 ghost use Rattle.std.specs.Option.{option_copied};
 ghost use Rattle.jb_tree.specs.Value.{array_items, object_members};
 ghost use Rattle.gql_exec_resolve.specs.Resolved.{gives_leaf, gives_list};
-ghost use Rattle.gql_exec_resolve.specs.Meaning.{Answers, IsFailure, item_by, meaning_by, itself};
+ghost use Rattle.gql_exec_resolve.specs.Meaning.{Answers, IsFailure, item_by, itself};
 ghost use Rattle.gql_exec_resolve.specs.DataMeaning as spec;
 ghost use Rattle.gql_exec_resolve.specs.DataShape.{composite_of};
 ghost use Rattle.gql_exec_resolve.specs.DataName.{name_of};

@@ -1,7 +1,6 @@
 //! What is wrong with an answer of a resolver.
 
 ghost use Rattle.std.specs.Prelude.{◌≡◌, ℕ, List, IfOk, Some};
-ghost use Rattle.gql_exec_resolve.specs.Resolved.{Misfit as Wrong};
 ghost use Rattle.gql_exec_resolve.specs.Seen.{misfit_seen, Refuses};
 ghost use Rattle.gql_exec_resolve.specs.Fit as spec;
 

@@ -1,5 +1,5 @@
 -- What is made of a parse is what comes of the file.
-use Rattle.std.proofs.Common.{◌≡◌, inl, inr, ℕ, List, Option, Some, None, MatchOption, IsSome, IfOk, Result, Ok, Err, ◌++◌, ◌∙◌, refl, sym, ap, subst}
+use Rattle.std.proofs.Common.{◌≡◌, inl, inr, ℕ, List, Option, Some, None, MatchOption, IsSome, IfOk, Result, Ok, Err, ◌++◌, ◌∙◌, sym, ap, subst}
 use Rattle.jb_text.specs.declared.refused.Refused.{Refused}
 use Rattle.jb_text.specs.declared.refused.Refused.TheVariants.{Fault, Memory}
 use Rattle.gql_source.specs.declared.file_id.FileId.{FileId}

@@ -1,5 +1,5 @@
 -- The selections of a row, within braces and without, are what its trees stand for.
-use Rattle.std.proofs.Common.{◌≡◌, true, false, if◌then◌else◌, ◌++◌, option_to_list, Some, None, refl, sym, ap, ◌∙◌}
+use Rattle.std.proofs.Common.{◌≡◌, true, false, if◌then◌else◌, ◌++◌, option_to_list, Some, None, refl, ap, ◌∙◌}
 use Rattle.gql_source.specs.declared.file_id.FileId.{FileId}
 use Rattle.gql_cst.specs.Forest.{Forest, nothing, tree_then}
 use Rattle.gql_cst_grammar.specs.declared.syntax_kind.SyntaxKind.TheVariants.{SelectionSet}

@@ -16,7 +16,6 @@ use Rattle.gql_diag.specs.Order.{list_order}
 use Rattle.gql_diag.specs.declared.with_errors.WithErrors.{WithErrors}
 use Rattle.gql_diag_messages.specs.declared.diagnostic_data.DiagnosticData.{DiagnosticData}
 use Rattle.gql_parser.specs.Diagnosed.{diagnostic}
-use Rattle.gql_parser.specs.DocumentsRead as parsed
 use Rattle.gql_parser.specs.DocumentsRead.{IsDocumentStopped}
 use Rattle.gql_parser.specs.Parsers.{ParserState, fresh}
 use Rattle.gql_parser.specs.Readings.{IsSentenceWithin}
@@ -62,14 +61,6 @@ schema_read text schema (Err Memory) b r = tt
 
 -- ---- the build behind the reading
 
-pub is_built : (document : Document) (taken : Taken) (schema : Schema) → HasTaken document taken → all_faults taken ≡ [] → schema ≡ built taken → IsBuilt document schema
-is_built document taken schema h builds is = record {
-  built_in = h.built_in;
-  are_built_in = h.are_built_in;
-  builds = ap all_faults (sym h.all) ∙ builds;
-  is = is ∙ ap built h.all;
-}
-
 pub is_unbuilt : (document : Document) (taken : Taken) (list : Diagnostics) → HasTaken document taken → all_faults taken ≢ [] → IsStableSort list_order (all_faults taken) list.items
     → list.sources ≡ (built taken).sources → IsUnbuilt document list
 is_unbuilt document taken list h some items sources = record {
@@ -111,13 +102,6 @@ build_read text document (Err (Fault list)) read b =
 build_read text document (Err Memory) read b = tt
 
 -- ---- the reading
-
-pub is_read : (text : List ℕ) (document : Document) (parser : ParserState) → parser.limits ≡ fresh.limits → parsed.IsDocumentRead parser (its_given text) document → IsReadOf text document
-is_read text document parser limits read = record {
-  sentence = subst (λ (l : Limits). IsSentenceWithin l rule.Document text) limits read.whole.sentence;
-  sources = read.sources;
-  means = read.means;
-}
 
 pub is_stopped : (text : List ℕ) (document : Document) (errors : Diagnostics) (parser : ParserState) → parser.limits ≡ fresh.limits
     → IsDocumentStopped parser (its_given text) document errors → IsStoppedOf text errors

@@ -1,6 +1,6 @@
 //! What a file builds as a schema and as an executable document.
 
-ghost use Rattle.std.specs.Prelude.{◌≡◌, ◌++◌, IfOk, OnOk};
+ghost use Rattle.std.specs.Prelude.{◌≡◌, ◌++◌, IfOk};
 ghost use Rattle.gql_diag.specs.List.{IsStableSort};
 ghost use Rattle.gql_diag.specs.Order.{list_order};
 ghost use Rattle.gql_parser.specs.MixedBuilt.{IsDocumentBuilt, IsSchemaBuilt};

@@ -1,6 +1,6 @@
 //! Texts as references to types.
 
-ghost use Rattle.std.specs.Prelude.{◌≡◌, ◌+◌, ◌<◌, ◌^◌, IfOk, IsSome, Some};
+ghost use Rattle.std.specs.Prelude.{◌≡◌, ◌+◌, ◌<◌, ◌^◌, Some};
 ghost use Rattle.gql_cst_grammar.specs.declared.rule.Rule.TheVariants as rule;
 ghost use Rattle.gql_parser.specs.Parsers.{given, given_next};
 ghost use Rattle.gql_parser.specs.Readings.{IsLeft};

@@ -1,17 +1,15 @@
 -- What stands for a response is read as it, the places of names aside.
-use Rattle.std.proofs.Common.{◌≡◌, ℕ, ◌-◌, ◌^◌, ◌≤◌, pos, true, false, List, [], ◌∷◌, ◌++◌, map, Option, Some, None, Result, Ok, Err, codes, refl, sym, ◌∙◌, ap, rules}
-use Rattle.std.specs.Str.{bytes_eq}
+use Rattle.std.proofs.Common.{◌≡◌, ℕ, ◌-◌, ◌^◌, pos, true, false, List, [], ◌∷◌, ◌++◌, map, Option, Some, None, Result, Ok, Err, codes, refl, ◌∙◌, ap, rules}
 use Rattle.jb_tree.specs.declared.value.Value.{Value, the_lemmas}
 use Rattle.jb_tree.specs.declared.value.Value.TheVariants as json
 use Rattle.jb_tree.specs.Value.{array_items, object_members, string_text, is_null}
 use Rattle.jb_shape.specs.declared.shape_error.ShapeError.{ShapeError}
 use Rattle.jb_shape.specs.Outcome.{and_then, each}
 use Rattle.jb_shape.specs.Faithful.{AllOf}
-use Rattle.jb_shape.specs.Scalars.{of_kind, read_text}
+use Rattle.jb_shape.specs.Scalars.{of_kind}
 use Rattle.jb_shape.specs.Lists.{read_list}
 use Rattle.jb_shape.specs.Back.{unsigned_back, text_back}
 use Rattle.gql_source.specs.declared.line_column.LineColumn.{LineColumn}
-use Rattle.gql_ast_base.specs.Names.{is_name}
 use Rattle.gql_response.specs.declared.graphql_error.GraphQLError.{GraphQLError}
 use Rattle.gql_response.specs.declared.path.ResponseDataPathSegment.{ResponseDataPathSegment}
 use Rattle.gql_response.specs.declared.path.ResponseDataPathSegment.TheVariants.{Field, ListIndex}
@@ -19,7 +17,7 @@ use Rattle.gql_response.specs.declared.execution_response.ExecutionResponse.{Exe
 use Rattle.gql_response.specs.declared.error_parts.ErrorParts.{ErrorParts}
 use Rattle.gql_response.specs.Response.{Member, location_value, segment_value, list_member, object_member, error_members, error_value, data_value, response_value}
 use Rattle.gql_response.specs.Puts.{in_turn, parts_of}
-use Rattle.gql_response.specs.Reading.{read_count, read_location, read_segment, named, segment_of, put_error, no_parts, whole_error, read_error, read_data, put_response, read_response}
+use Rattle.gql_response.specs.Reading.{read_count, read_location, read_segment, segment_of, put_error, no_parts, whole_error, read_error, read_data, put_response, read_response}
 use Rattle.gql_response.specs.Held.{IsCount, IsHeldLocation, IsHeldSegment, IsHeldError, IsHeld, unplaced_segment, unplaced_error, unplaced}
 
 items-Array : (values : List Value) → array_items (json.Array values) ≡ Some values

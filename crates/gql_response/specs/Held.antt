@@ -1,5 +1,5 @@
 -- Responses as programs hold them, and with the places of their names left aside.
-use Rattle.std.specs.Prelude.{◌≡◌, ℕ, ◌-◌, ◌^◌, ◌≤◌, true, map, Option, None}
+use Rattle.std.specs.Prelude.{◌≡◌, ℕ, ◌-◌, ◌^◌, ◌≤◌, true, map, None}
 use Rattle.jb_shape.specs.Faithful.{AllOf}
 use Rattle.gql_source.specs.declared.line_column.LineColumn.{LineColumn}
 use Rattle.gql_ast_base.specs.Names.{is_name}

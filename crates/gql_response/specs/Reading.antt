@@ -1,6 +1,6 @@
 -- What a JSON value is read as: a response, and its parts. The members of an object are judged as they stand, and what
 -- is missing after all of them.
-use Rattle.std.specs.Prelude.{◌≡◌, ℕ, ◌-◌, ◌^◌, Bool, if◌then◌else◌, List, [], ◌∷◌, Option, Some, None, Result, Ok, Err, codes}
+use Rattle.std.specs.Prelude.{◌≡◌, ℕ, ◌-◌, ◌^◌, if◌then◌else◌, List, [], Option, Some, None, Result, Ok, Err, codes}
 use Rattle.std.specs.Str.{bytes_eq}
 use Rattle.jb_text.specs.declared.refused.Refused.{Refused}
 use Rattle.jb_text.specs.declared.refused.Refused.TheVariants as refused
@@ -15,7 +15,7 @@ use Rattle.jb_shape.specs.Scalars.{of_kind, read_unsigned, read_text}
 use Rattle.jb_shape.specs.Lists.{read_list}
 use Rattle.jb_shape.specs.Variants.{present}
 use Rattle.gql_source.specs.declared.line_column.LineColumn.{LineColumn}
-use Rattle.gql_ast_base.specs.Names.{Named, is_name}
+use Rattle.gql_ast_base.specs.Names.{is_name}
 use Rattle.gql_response.specs.declared.graphql_error.GraphQLError.{GraphQLError}
 use Rattle.gql_response.specs.declared.path.ResponseDataPathSegment.{ResponseDataPathSegment}
 use Rattle.gql_response.specs.declared.path.ResponseDataPathSegment.TheVariants.{Field, ListIndex}
@@ -25,7 +25,7 @@ use Rattle.gql_response.specs.declared.fault.ResponseFault.TheVariants.{Read, Sh
 use Rattle.gql_response.specs.declared.location.LocationParts.{LocationParts}
 use Rattle.gql_response.specs.declared.error_parts.ErrorParts.{ErrorParts}
 use Rattle.gql_response.specs.Response.{Member}
-use Rattle.gql_response.specs.Puts.{in_turn, parts_of}
+use Rattle.gql_response.specs.Puts.{parts_of}
 
 -- a whole number that counts or places something
 abbrev pub read_count : Value → Result ℕ ShapeError

@@ -1,5 +1,5 @@
 -- A response as a JSON value (GraphQL October 2021, section 7.1).
-use Rattle.std.specs.Prelude.{ℕ, pos, List, [], ◌∷◌, ◌++◌, map, Option, Some, None, option_to_list, codes}
+use Rattle.std.specs.Prelude.{ℕ, pos, List, [], ◌∷◌, ◌++◌, map, Option, Some, None, codes}
 use Rattle.jb_tree.specs.declared.value.Value.{Value}
 use Rattle.jb_tree.specs.declared.value.Value.TheVariants as json
 use Rattle.gql_source.specs.declared.line_column.LineColumn.{LineColumn}

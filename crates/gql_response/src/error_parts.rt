@@ -1,6 +1,6 @@
 //! Reading the errors of responses.
 
-ghost use Rattle.std.specs.Prelude.{◌≡◌, [], None};
+ghost use Rattle.std.specs.Prelude.{◌≡◌, None};
 ghost use Rattle.jb_tree.specs.Value.{object_members};
 ghost use Rattle.jb_shape.specs.Outcome.{Answers};
 ghost use Rattle.jb_shape.specs.Scalars.{of_kind};

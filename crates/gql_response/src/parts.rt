@@ -1,10 +1,10 @@
 //! Reading objects member by member.
 
-ghost use Rattle.std.specs.Prelude.{◌≡◌, Result};
+ghost use Rattle.std.specs.Prelude.{Result};
 ghost use Rattle.jb_shape.specs.Outcome.{Answers};
 ghost use Rattle.jb_shape.specs.declared.shape_error.ShapeError.{ShapeError as Cause};
 ghost use Rattle.gql_response.specs.Response.{Member};
-ghost use Rattle.gql_response.specs.Puts.{in_turn, parts_of, Puts};
+ghost use Rattle.gql_response.specs.Puts.{parts_of, Puts};
 
 use jb_shape::ShapeError;
 use jb_text::Refused;

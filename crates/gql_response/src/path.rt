@@ -1,7 +1,5 @@
 //! The steps from a response's data to a place in it.
 
-ghost use Rattle.std.specs.Prelude.{◌≡◌, ◌++◌, OnOk, string_bytes, pos};
-ghost use Rattle.jb_tree.specs.declared.value.Value.TheVariants as json;
 ghost use Rattle.jb_shape.specs.Outcome.{Answers};
 ghost use Rattle.gql_response.specs.Response.{segment_value};
 ghost use Rattle.gql_response.specs.Reading.{named, read_segment};

@@ -1,6 +1,6 @@
 //! Printing straight to a text, as the JSON value that a thing stands for.
 
-ghost use Rattle.std.specs.Prelude.{◌≡◌, ◌++◌, ◌∷◌, [], Bool, true, pos, map, codes, OnOk, string_bytes};
+ghost use Rattle.std.specs.Prelude.{◌≡◌, ◌++◌, true, pos, map, codes, OnOk, string_bytes};
 ghost use Rattle.jb_tree.specs.declared.value.Value.{Value as JsonValue};
 ghost use Rattle.jb_tree.specs.declared.value.Value.TheVariants as json;
 ghost use Rattle.jb_print.specs.Compact.{compact};

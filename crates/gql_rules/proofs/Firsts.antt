@@ -1,5 +1,5 @@
 -- The first of some things of which something is told.
-use Rattle.std.proofs.Common.{◌≡◌, Bool, true, false, ◌||◌, cond, if◌then◌else◌, List, [], ◌∷◌, ◌++◌, map, filter, Option, Some, None, refl, sym, ap, ◌∙◌}
+use Rattle.std.proofs.Common.{◌≡◌, Bool, true, false, ◌||◌, if◌then◌else◌, List, [], ◌∷◌, ◌++◌, map, Option, Some, None, refl, sym, ap, ◌∙◌}
 use Rattle.std.specs.List.{list_any, flat_map}
 use Rattle.std.specs.Option.{option_map_or}
 use Rattle.std.proofs.lemmas.List.Folds.{list_any-append}
@@ -63,10 +63,6 @@ module _ {X : Type 0} where
   pub none-told : {D : Type 0} (f : X → List D) → ((x : X) → f x ≡ []) → (xs : List X) → first_told f xs ≡ []
   none-told f none [] = refl
   none-told f none (x ∷ xs) = ap (λ l. or_else l (first_told f xs)) (none x) ∙ none-told f none xs
-
-  pub map-same : {Y : Type 0} (f g : X → Y) → ((x : X) → f x ≡ g x) → (xs : List X) → map f xs ≡ map g xs
-  map-same f g same [] = refl
-  map-same f g same (x ∷ xs) = λ i. same x i ∷ map-same f g same xs i
 
   pub flat-same : {Y : Type 0} (f g : X → List Y) → ((x : X) → f x ≡ g x) → (xs : List X) → flat_map f xs ≡ flat_map g xs
   flat-same f g same [] = refl

@@ -1,5 +1,5 @@
 -- Some diagnostics alone, or such ones where there are none.
-use Rattle.std.proofs.Common.{◌≡◌, List, [], ◌∷◌, ◌++◌, refl, sym, ap, ◌∙◌, subst, append_assoc}
+use Rattle.std.proofs.Common.{◌≡◌, List, [], ◌∷◌, refl, subst}
 use Rattle.gql_diag_messages.specs.declared.diagnostic_data.DiagnosticData.{DiagnosticData}
 use Rattle.gql_rules.specs.DocumentFaults.{AreFirstOrAll}
 
@@ -7,15 +7,6 @@ module _ (AreOthers : List DiagnosticData → Type 0) where
   pub alone : (faults : List DiagnosticData) → (faults ≡ [] → ⊥) → AreFirstOrAll AreOthers faults faults
   alone [] some = absurd (some refl)
   alone (fault ∷ faults) some = refl
-
-  pub all : (old new : List DiagnosticData) → old ≡ [] → (told : List DiagnosticData) × AreOthers told × (new ≡ old ++ told)
-      → AreFirstOrAll AreOthers old new
-  all [] new none found = subst AreOthers (sym found.2) found.1
-  all (fault ∷ faults) new none found = absurd cc
-
-  pub all_made : (old new : List DiagnosticData) → old ≡ [] → AreOthers new → AreFirstOrAll AreOthers old new
-  all_made [] new none are = are
-  all_made (fault ∷ faults) new none are = absurd cc
 
   -- the first diagnostics under another name
   pub of_same : (firsts same new : List DiagnosticData) → same ≡ firsts → AreFirstOrAll AreOthers same new → AreFirstOrAll AreOthers firsts new

@@ -3,10 +3,8 @@ mod Firsts
 mod Known
 mod Noted
 mod Reaches
-mod Selections
 mod Steps
 mod Told
 pub mod Layers
 pub mod Listed
 pub mod UntypedLayers
-mod Untyped

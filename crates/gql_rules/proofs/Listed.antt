@@ -1,6 +1,5 @@
 -- What a list has where memory ran out.
-use Rattle.std.proofs.Common.{◌≡◌, ◌⊎◌, inl, inr, Result, Ok, Err, OnErr, List, [], ◌++◌, refl, sym}
-use Rattle.std.proofs.lemmas.List.{append-nil}
+use Rattle.std.proofs.Common.{◌≡◌, ◌⊎◌, inl, inr, Result, Ok, Err, OnErr, List}
 use Rattle.gql_diag_messages.specs.declared.diagnostic_data.DiagnosticData.{DiagnosticData}
 use Rattle.gql_schema.specs.Taken.{HasTakenSome, HasListedSome}
 
@@ -14,7 +13,3 @@ some_listed AreFaults faults old new are taken =
 pub on_refusal : {T E P Q : Type 0} (r : Result T E) → (P → Q) → OnErr r P → OnErr r Q
 on_refusal (Ok x) f told = tt
 on_refusal (Err e) f told = f told
-
--- nothing was taken yet
-pub none_taken : (old faults : List DiagnosticData) → HasTakenSome old faults old
-none_taken old faults = record { some = []; rest = faults; all = refl; taken = sym (append-nil old) }

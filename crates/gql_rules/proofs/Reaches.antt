@@ -1,35 +1,29 @@
 -- The uses in fragments, judged for the operations that reach them.
-use Rattle.std.proofs.Common.{◌≡◌, ℕ, ◌+◌, Bool, true, false, ◌||◌, cond, if◌then◌else◌, List, [], ◌∷◌, ◌++◌, map, filter, Option, Some, None, fold, is_some, not, position, refl, sym, ap, ◌∙◌, append_assoc}
-use Rattle.std.specs.List.{All, flat_map, list_any}
+use Rattle.std.proofs.Common.{◌≡◌, ℕ, ◌+◌, Bool, true, false, ◌||◌, cond, if◌then◌else◌, List, [], ◌∷◌, ◌++◌, map, filter, Option, Some, None, fold, is_some, not, position, refl, sym, ap, ◌∙◌}
+use Rattle.std.specs.List.{flat_map, list_any}
 use Rattle.std.specs.Option.{option_and_then, option_map_or}
 use Rattle.std.specs.Str.{bytes_eq}
-use Rattle.std.proofs.lemmas.Grind.{flat_map-append}
 use Rattle.std.proofs.lemmas.List.{map-append, append-nil}
-use Rattle.std.proofs.lemmas.List.Elements.{All-append, All-cons, All-nil, filter-append}
-use Rattle.std.proofs.lemmas.List.Folds.{flat_map-map, fold-map, list_any-append}
+use Rattle.std.proofs.lemmas.List.Elements.{filter-append}
+use Rattle.std.proofs.lemmas.List.Folds.{fold-map, list_any-append}
 use Rattle.gql_ast_definitions.specs.declared.operation.VariableDefinition.{VariableDefinition}
 use Rattle.gql_ast_base.specs.declared.type_ref.TypeRef.{TypeRef}
 use Rattle.gql_ast.specs.TypeText.{type_text}
 use Rattle.gql_diag_messages.specs.declared.rule.Rule.TheVariants.{DisallowedVariableUsage}
-use Rattle.gql_diag_messages.specs.declared.diagnostic_data.DiagnosticData.{DiagnosticData}
 use Rattle.gql_document_types.specs.declared.fragment.Fragment.{Fragment}
 use Rattle.gql_document_types.specs.declared.operation.Operation.{Operation}
 use Rattle.gql_rules_base.specs.Faults.{fault}
 use Rattle.gql_rules_selections.specs.Reached.{is_reached}
-use Rattle.gql_rules.proofs.Firsts.{or-false, any-one_more, first_of, first-one_more, any-told, first-told, none-first, none-told, map-same, flat-same}
+use Rattle.gql_rules.proofs.Firsts.{or-false, any-one_more, first_of, first-one_more, any-told, first-told, none-first, none-told, flat-same}
 use Rattle.gql_rules.proofs.Noted.{is_some-position, noted}
-use Rattle.gql_rules.specs.DisallowedVariableUsage.{breaks, misfit, disallowed_type, disallowed_fault, types_fault, disallowed_usage}
-use Rattle.gql_rules.specs.Judged.{Judged, fresh, fresh_row, or_first, judged_in, row_judged, rows_judged, told, row_told}
-use Rattle.gql_rules.specs.Operations.{with_name, with_use, rows_noted, not_noted, fresh_rows, rows_told, own_row, names_after, operation_told, IsJudged}
-use Rattle.gql_rules.specs.UndefinedVariable.{is_undefined, undefined_fault, undefined_variable, variable_called}
-use Rattle.gql_rules.specs.UnusedVariable.{is_used, unless_used, unused_variables}
-use Rattle.gql_rules.specs.Uses.{Place, Use, operation_uses, fragment_uses}
-use Rattle.gql_rules.specs.VariableFaults.{Reach, IsReach, first_told, use_faults, reaching, fragments_faults, reached_uses, operation_faults}
+use Rattle.gql_rules.specs.DisallowedVariableUsage.{breaks, misfit, disallowed_type, types_fault}
+use Rattle.gql_rules.specs.Judged.{Judged, fresh, fresh_row, judged_in, row_judged, rows_judged, told, row_told}
+use Rattle.gql_rules.specs.Operations.{with_use, rows_noted, fresh_rows, rows_told, own_row, names_after, operation_told}
+use Rattle.gql_rules.specs.UndefinedVariable.{is_undefined, undefined_fault, variable_called}
+use Rattle.gql_rules.specs.UnusedVariable.{is_used, unless_used}
+use Rattle.gql_rules.specs.Uses.{Use, operation_uses, fragment_uses}
+use Rattle.gql_rules.specs.VariableFaults.{Reach, first_told, use_faults, reaching, fragments_faults, reached_uses, operation_faults}
 use Rattle.gql_schema_types.specs.declared.schema.Schema.{Schema}
-
-any-same : {X : Type 0} (p q : X → Bool) → ((x : X) → p x ≡ q x) → (xs : List X) → list_any p xs ≡ list_any q xs
-any-same p q same [] = refl
-any-same p q same (x ∷ xs) = λ i. same x i || any-same p q same xs i
 
 or_assoc : (a b c : Bool) → ((a || b) || c) ≡ (a || (b || c))
 or_assoc true b c = refl

@@ -1,8 +1,6 @@
 -- What is lent, as plain values.
-use Rattle.std.specs.Prelude.{List, map, Option}
-use Rattle.std.specs.Borrow.{Bor}
+use Rattle.std.specs.Prelude.{List, map}
 use Rattle.std.specs.Option.{option_copied}
-use Rattle.gql_ast_definitions.specs.declared.operation.VariableDefinition.{VariableDefinition}
 use Rattle.gql_rules.specs.Judged.{Judged}
 use Rattle.gql_rules.specs.Uses as plain
 use Rattle.gql_rules.specs.declared.judged.JudgedUse.{JudgedUse}

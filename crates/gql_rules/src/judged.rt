@@ -1,6 +1,6 @@
 //! Uses of variables, judged for operations one after another.
 
-ghost use Rattle.std.specs.Prelude.{◌≡◌, ◌++◌, ℕ, fold, IfOk, OnOk};
+ghost use Rattle.std.specs.Prelude.{◌≡◌, ◌++◌, fold, IfOk, OnOk};
 ghost use Rattle.gql_rules.specs.Judged as spec;
 ghost use Rattle.gql_rules.specs.Operations.{with_use};
 ghost use Rattle.gql_rules.specs.Views as seen;

@@ -1,6 +1,6 @@
 //! The uses of variables, judged for one operation.
 
-ghost use Rattle.std.specs.Prelude.{◌≡◌, ◌++◌, List, ℕ, IfOk, OnOk};
+ghost use Rattle.std.specs.Prelude.{◌≡◌, ◌++◌, List, IfOk, OnOk};
 ghost use Rattle.gql_document_types.specs.Spreads.{spread_graph, spread_numbers};
 ghost use Rattle.gql_rules_selections.specs.Reached.{AreReached};
 ghost use Rattle.gql_rules.specs.Operations as step;

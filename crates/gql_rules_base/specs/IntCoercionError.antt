@@ -1,6 +1,6 @@
 -- A whole number at `Int` is one of 32 bits, with a sign: sections 3.5.1 and 5.6.1 of GraphQL October 2021.
 use Rattle.std.specs.Prelude.{ℕ, ℤ, pos, negsuc, nat_lt, ◌^◌, Bool, true, false}
-use Rattle.std.specs.Prelude.{◌&&◌, not, List, [], ◌∷◌, length, None, if◌then◌else◌, codes}
+use Rattle.std.specs.Prelude.{◌&&◌, not, List, [], ◌∷◌, length, None, codes}
 use Rattle.std.specs.Char.{is_ascii_digit}
 use Rattle.std.specs.List.{list_all}
 use Rattle.std.specs.Option.{option_map_or}

@@ -1,5 +1,5 @@
 -- The rules on literals: section 5.6 of GraphQL October 2021.
-use Rattle.std.specs.Prelude.{ℕ, Option, List, [], ◌++◌, if◌then◌else◌}
+use Rattle.std.specs.Prelude.{Option, List, [], ◌++◌, if◌then◌else◌}
 use Rattle.std.specs.List.{flat_map}
 use Rattle.std.specs.Option.{option_map_or}
 use Rattle.gql_ast_base.specs.declared.type_ref.TypeRef.{TypeRef}

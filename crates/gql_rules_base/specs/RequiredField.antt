@@ -1,5 +1,5 @@
 -- A literal at an input object type gives each field that has to be given: section 5.6.4 of GraphQL October 2021.
-use Rattle.std.specs.Prelude.{ℕ, ◌&&◌, not, List, [], ◌∷◌, None}
+use Rattle.std.specs.Prelude.{◌&&◌, not, List, [], ◌∷◌, None}
 use Rattle.std.specs.List.{flat_map, list_any}
 use Rattle.std.specs.Str.{bytes_eq}
 use Rattle.gql_ast_base.specs.Names.{Named}

@@ -1,5 +1,5 @@
 -- A literal and the values inside it, each with the type that is wanted there, if one is known: sections 3.10 and 5.6 of GraphQL October 2021.
-use Rattle.std.specs.Prelude.{ℕ, Option, Some, None, List, [], ◌∷◌, ◌++◌}
+use Rattle.std.specs.Prelude.{ℕ, Option, None, List, [], ◌∷◌, ◌++◌}
 use Rattle.std.specs.Option.{option_and_then, option_map}
 use Rattle.gql_ast_base.specs.Names.{Named}
 use Rattle.gql_ast_base.specs.declared.type_ref.TypeRef.{TypeRef}

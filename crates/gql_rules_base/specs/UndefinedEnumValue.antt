@@ -1,5 +1,5 @@
 -- A name at an enum is one of its values: sections 3.9 and 5.6.1 of GraphQL October 2021.
-use Rattle.std.specs.Prelude.{ℕ, not, List, [], ◌∷◌, None, is_some}
+use Rattle.std.specs.Prelude.{not, List, [], ◌∷◌, None, is_some}
 use Rattle.std.specs.Option.{option_map_or}
 use Rattle.gql_ast_base.specs.Names.{Named}
 use Rattle.gql_ast_definitions.specs.declared.field_definition.EnumValueDefinition.{EnumValueDefinition}

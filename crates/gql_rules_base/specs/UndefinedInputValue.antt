@@ -1,7 +1,6 @@
 -- A key in a literal at an input object type is one of its fields: section 5.6.2 of GraphQL October 2021.
-use Rattle.std.specs.Prelude.{ℕ, not, List, [], ◌∷◌, None, is_some}
+use Rattle.std.specs.Prelude.{not, List, [], ◌∷◌, None, is_some}
 use Rattle.std.specs.List.{flat_map}
-use Rattle.std.specs.Option.{option_map_or}
 use Rattle.gql_ast_base.specs.Names.{Named}
 use Rattle.gql_ast_definitions.specs.declared.field_definition.InputValueDefinition.{InputValueDefinition}
 use Rattle.gql_ast_base.specs.declared.value.Value.{Value}

@@ -1,5 +1,5 @@
 -- A key stands once in an object literal, and an argument once in a definition: sections 5.6.3 and 3.6.1 of GraphQL October 2021.
-use Rattle.std.specs.Prelude.{ℕ, Bool, true, List, [], Option}
+use Rattle.std.specs.Prelude.{Bool, true, List, [], Option}
 use Rattle.gql_source.specs.Span.{Span}
 use Rattle.gql_ast_base.specs.Names.{Named}
 use Rattle.gql_ast_definitions.specs.declared.field_definition.InputValueDefinition.{InputValueDefinition}

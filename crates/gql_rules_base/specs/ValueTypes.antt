@@ -1,5 +1,5 @@
 -- What the values of types are: section 3.4 of GraphQL October 2021. A built-in scalar that is not among the types has its values all the same.
-use Rattle.std.specs.Prelude.{ℕ, Bool, true, false, ◌||◌, not, List, Option, Some, None, is_some, if◌then◌else◌, codes}
+use Rattle.std.specs.Prelude.{ℕ, Bool, true, false, ◌||◌, not, List, is_some, if◌then◌else◌, codes}
 use Rattle.std.specs.Option.{option_map_or}
 use Rattle.std.specs.Str.{bytes_eq}
 use Rattle.gql_ast_base.specs.declared.type_ref.TypeRef.{TypeRef}

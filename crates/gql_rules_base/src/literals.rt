@@ -1,9 +1,8 @@
 //! The rules on literals (GraphQL October 2021, section 5.6).
 
-ghost use Rattle.std.specs.Prelude.{◌≡◌, ◌++◌, Some, None, OnOk, [], List, ℕ};
+ghost use Rattle.std.specs.Prelude.{◌≡◌, ◌++◌, Some, None, OnOk, List};
 ghost use Rattle.std.specs.List.{flat_map};
-ghost use Rattle.std.specs.Option.{option_copied, option_map_or};
-ghost use Rattle.gql_rules_base.specs.TypeShape as shape;
+ghost use Rattle.std.specs.Option.{option_copied};
 ghost use Rattle.gql_rules_base.specs.Literals as spec;
 ghost use Rattle.gql_rules_base.specs.Typed as nodes;
 

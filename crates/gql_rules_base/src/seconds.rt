@@ -1,6 +1,6 @@
 //! What has the name of one that came before it in a list.
 
-ghost use Rattle.std.specs.Prelude.{◌≡◌, ◌++◌, Bool, true, Option, IfSome, OnOk};
+ghost use Rattle.std.specs.Prelude.{◌≡◌, ◌++◌, Bool, true, Option, OnOk};
 ghost use Rattle.gql_source.specs.Span.{Span};
 ghost use Rattle.gql_ast_base.specs.Names as names;
 ghost use Rattle.gql_rules_base.specs.Seconds as spec;

@@ -1,17 +1,14 @@
 -- Chains of names, and marks of them.
-use Rattle.std.proofs.Common.{◌≡◌, ◌⊎◌, inl, inr, ℕ, zero, suc, ◌+◌, ◌<◌, ◌≤◌, nat_lt, Bool, true, false, cond, ◌&&◌, ◌||◌, not, if◌then◌else◌, Option, Some, None, List, [], ◌∷◌, ◌++◌, length, replicate, refl, sym, ap, ◌∙◌, subst, arith}
-use Rattle.std.specs.List.{Contains, slice_get, list_any, flat_map}
+use Rattle.std.proofs.Common.{◌≡◌, ◌⊎◌, inl, inr, ℕ, zero, suc, ◌+◌, ◌<◌, ◌≤◌, nat_lt, Bool, true, false, cond, ◌&&◌, ◌||◌, not, if◌then◌else◌, Option, Some, None, List, [], ◌∷◌, ◌++◌, length, replicate, refl, sym, ap, ◌∙◌, arith}
+use Rattle.std.specs.List.{slice_get, list_any, flat_map}
 use Rattle.std.specs.Option.{unwrap_or}
 use Rattle.std.proofs.lemmas.Bool.Decides.{nat_tests}
-use Rattle.std.proofs.lemmas.List.Elements.{Contains-append_left, Contains-push, Contains-push_cases}
 use Rattle.std.proofs.lemmas.Option.{slice_get_within, slice_get_past}
-use Rattle.std.proofs.lemmas.List.{append-nil}
-use Rattle.gql_rules_graph.specs.Chains.{AreJudged, AreMarkedNodes, AreReaching, mark_of, is_marked, any_marked, is_marked_next, any_next, next_mark, next_names, has_chain, is_long, only_if}
+use Rattle.gql_rules_graph.specs.Chains.{AreJudged, AreMarkedNodes, AreReaching, mark_of, is_marked, any_marked, is_marked_next, any_next, next_mark, next_names, has_chain, is_long}
 use Rattle.gql_rules_graph.specs.Cycles.{IsOnCycle, ReachesCycle, IsReverse, AreMarked, Told}
 use Rattle.gql_rules_graph.specs.Flooding.{has}
 use Rattle.gql_rules_graph.specs.Graph.{Graph, row, IsFlooded}
 use Rattle.gql_rules_graph.proofs.Cyclic.{zeros, has_is, is_has}
-use Rattle.gql_rules_graph.proofs.Flooded.{none_contained, same_or_not}
 use Rattle.gql_rules_graph.proofs.Walks.{forget, lift, inside, from_node, forward, backward}
 
 -- ---- tests of lists
@@ -121,28 +118,6 @@ unfolding has_chain
 no_names g named marks is v = ap (λ l. is_marked l v) is ∙ all_true (length g) v
 
 -- ---- the nodes that are marked
-pub none_listed : (marks : List Bool) (nodes : List ℕ) → nodes ≡ [] → AreMarkedNodes marks nodes 0
-none_listed marks nodes is = record { listed = λ v below. absurd (omega (arith, below)); only = λ v c. absurd (none_contained v (subst (λ l. Contains l v) is c)) }
-
-pub one_listed : (marks : List Bool) (nodes new : List ℕ) (count : ℕ) (mark : Bool) → AreMarkedNodes marks nodes count → mark ≡ is_marked marks count → new ≡ nodes ++ only_if mark count
-    → AreMarkedNodes marks new (count + 1)
-one_listed marks nodes new count mark are is grown = subst (λ l. AreMarkedNodes marks l (count + 1)) (sym grown) (by_mark mark is)
-  where
-    by_mark : (b : Bool) → b ≡ is_marked marks count → AreMarkedNodes marks (nodes ++ only_if b count) (count + 1)
-    by_mark true is = record {
-      listed = λ v below marked. elim (same_or_not v count) [
-        | inl e ↦ subst (Contains (nodes ++ count ∷ [])) (sym e) (Contains-push nodes count)
-        | inr other ↦ Contains-append_left nodes (count ∷ []) v (are.listed v (omega arith) marked)
-      ];
-      only = λ v c. elim (Contains-push_cases nodes count v c) [ inl before ↦ are.only v before | inr e ↦ ap (is_marked marks) (sym e) ∙ sym is ];
-    }
-    by_mark false is = record {
-      listed = λ v below marked. elim (same_or_not v count) [
-        | inl e ↦ absurd (let h : false ≡ true = is ∙ ap (is_marked marks) (sym e) ∙ marked in cc)
-        | inr other ↦ Contains-append_left nodes [] v (are.listed v (omega arith) marked)
-      ];
-      only = λ v c. are.only v (subst (λ l. Contains l v) (append-nil nodes) c);
-    }
 
 -- ---- what reaches a marked node
 pub reaching : (r : Graph) (marks : List Bool) (starts old states told : List ℕ) → length marks ≡ length r → AreMarkedNodes marks starts (length marks) → old ≡ replicate (length marks) 0

@@ -1,15 +1,14 @@
 -- Nodes on cycles, by the parts of a graph.
-use Rattle.std.proofs.Common.{◌≡◌, ◌⊎◌, inl, inr, ℕ, zero, suc, ◌+◌, ◌<◌, Bool, true, false, ◌||◌, Option, Some, None, List, [], ◌∷◌, ◌++◌, length, replicate, take, drop, refl, sym, ap, ◌∙◌, arith, length-append}
+use Rattle.std.proofs.Common.{◌≡◌, ◌⊎◌, inl, inr, ℕ, zero, suc, ◌+◌, ◌<◌, Bool, true, false, ◌||◌, Option, Some, None, List, [], ◌∷◌, ◌++◌, length, replicate, take, drop, refl, sym, ap, ◌∙◌, arith}
 use Rattle.std.specs.List.{Contains, slice_get, list_any}
 use Rattle.std.proofs.lemmas.Bool.{eqb-true, eq-eqb}
 use Rattle.std.proofs.lemmas.List.Elements.{Contains-append_right}
-use Rattle.std.proofs.lemmas.List.{length-replicate}
 use Rattle.std.proofs.Math.Seq.{take-append_seam}
 use Rattle.std.proofs.lemmas.Option.{slice_get_within}
 use Rattle.gql_rules_graph.specs.Cycles.{at_once, along, IsOnCycle, IsPartitioned, HasPart, AreMarked, Told, in_part, shares_part}
 use Rattle.gql_rules_graph.specs.Flooding.{has}
 use Rattle.gql_rules_graph.specs.Graph.{Graph, row}
-use Rattle.gql_rules_graph.proofs.Flooded.{Contains-cons_cases, none_contained, same_or_not}
+use Rattle.gql_rules_graph.proofs.Flooded.{Contains-cons_cases, none_contained}
 
 -- ---- tests of lists
 pub any_of : {X : Type 0} (test : X → Bool) (xs : List X) → list_any test xs ≡ true → (x : X) × Contains xs x × (test x ≡ true)
@@ -57,32 +56,6 @@ module _ (g : Graph) (parts : List ℕ) (whole : IsPartitioned g parts) where
       ap (in_part parts (row g v)) part.1 ∙ any_yes (λ w. has (k + 2) (slice_get parts w)) (row g v) w cycle.1 (is_has (k + 2) (slice_get parts w) at)
 
 -- ---- lists that grow by one
-pub push_before : {A : Type 0} (xs : List A) (x : A) (v : ℕ) → v < length xs → slice_get (xs ++ x ∷ []) v ≡ slice_get xs v
-push_before [] x v within = absurd (omega (arith, within))
-push_before (y ∷ xs) x zero within = refl
-push_before (y ∷ xs) x (suc v) within = push_before xs x v (omega (arith, within))
-
-pub push_at : {A : Type 0} (xs : List A) (x : A) (v : ℕ) → v ≡ length xs → slice_get (xs ++ x ∷ []) v ≡ Some x
-push_at [] x zero is = refl
-push_at [] x (suc v) is = absurd (omega (arith, is))
-push_at (y ∷ xs) x zero is = absurd (omega (arith, is))
-push_at (y ∷ xs) x (suc v) is = push_at xs x v (omega (arith, is))
-
-pub told_none : (test : ℕ → Bool) (marks : List Bool) → marks ≡ [] → Told test marks 0
-told_none test marks is = record { as_many = ap length is; each = λ v within. absurd (omega (arith, within)) }
-
-pub told_more : (test : ℕ → Bool) (marks new : List Bool) (count : ℕ) (mark : Bool) → Told test marks count → mark ≡ test count → new ≡ marks ++ mark ∷ [] → Told test new (count + 1)
-told_more test marks new count mark told is grown = record {
-  as_many = ap length grown ∙ length-append marks (mark ∷ []) ∙ (let h = told.as_many in omega arith);
-  each = λ v within. ap (λ l. slice_get l v) grown ∙ by_place v (near v within);
-}
-  where
-    near : (v : ℕ) → v < count + 1 → (v < count) ⊎ (v ≡ count)
-    near v within = elim (same_or_not v count) [ inl e ↦ inr e | inr apart ↦ inl (omega arith) ]
-
-    by_place : (v : ℕ) → (v < count) ⊎ (v ≡ count) → slice_get (marks ++ mark ∷ []) v ≡ Some (test v)
-    by_place v (inl before) = push_before marks mark v (let h = told.as_many in omega arith) ∙ told.each v before
-    by_place v (inr e) = push_at marks mark v (e ∙ sym told.as_many) ∙ ap Some (is ∙ ap test (sym e))
 
 pub marked_cycles : (g : Graph) (parts : List ℕ) (marks : List Bool) → IsPartitioned g parts → ((v : ℕ) → v < length g → HasPart parts v)
     → Told (λ v. shares_part parts v (row g v)) marks (length g) → AreMarked (IsOnCycle g) (length g) marks
@@ -99,17 +72,6 @@ pub zeros : (count u y : ℕ) → slice_get (replicate count 0) u ≡ Some y →
 zeros zero u y is = absurd cc
 zeros (suc count) zero y is = cc
 zeros (suc count) (suc u) y is = zeros count u y is
-
-pub none_parted : (g : Graph) (parts : List ℕ) → parts ≡ replicate (length g) 0 → IsPartitioned g parts
-none_parted g parts is =
-    let none : (u y : ℕ) → slice_get parts u ≡ Some y → y ≡ 0 = λ u y at. zeros (length g) u y (ap (λ l. slice_get l u) (sym is) ∙ at) in
-    record {
-      as_many = ap length is ∙ length-replicate (length g) 0;
-      same = λ u w k at_u at_w. absurd (omega (arith, none u (k + 2) at_u));
-      whole = λ u w k at_u pair. absurd (omega (arith, none u (k + 2) at_u));
-      led = λ u k at_u. absurd (omega (arith, none u (k + 2) at_u));
-      known = λ u at_u. omega (arith, none u 1 at_u);
-    }
 
 -- a list that was written over whole
 pub written : (n : ℕ) (xs ys : List ℕ) → n ≡ length xs → take n (xs ++ drop (length xs) ys) ≡ xs

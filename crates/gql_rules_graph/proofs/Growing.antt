@@ -53,14 +53,6 @@ added g keys classes items fields key_count count in_full old new counted are_ke
 }
 
 module _ (g : Graph) (keys classes : List ℕ) where
-  pub none_added : (old : List Pair) → AreAdded g keys classes [] old old
-  none_added old = record {
-    more = [];
-    grown = sym (append-nil old);
-    only = λ p c. inl c;
-    met = λ items c. absurd (none_contained items c);
-  }
-
   pub one_added : (sets : List (List ℕ)) (items : List ℕ) (old between new : List Pair) → AreAdded g keys classes sets old between
       → IsAdded g keys classes true items between new → AreAdded g keys classes (sets ++ items ∷ []) old new
   one_added sets items old between new before last = record {
@@ -130,9 +122,6 @@ module _ (s : Sets) (classes : List ℕ) where
     pub begun_from : IsBegun s classes found
     pub closed : (k : ℕ) (p : Pair) (in_full : Bool) → k < next → slice_get found k ≡ Some p → s.below p ≡ Some in_full
         → AreMet s.fragments s.keys classes found in_full (items_below s p)
-
-  pub first_turn : (found : List Pair) → IsBegun s classes found → Turn found 0
-  first_turn found begun = record { begun_from = begun; closed = λ k p in_full before. absurd (omega (arith, before)) }
 
   pub next_turn : (found new : List Pair) (next : ℕ) (p : Pair) → slice_get found next ≡ Some p → IsGoneBelow s classes p found new → Turn found next → Turn new (next + 1)
   next_turn found new next p at gone turn = record {

@@ -1,7 +1,6 @@
 //! The exploration of pairs: from the sets of a document on, and below each pair that is found.
 
-ghost use Rattle.std.specs.Prelude.{◌≡◌, ◌++◌, [], ℕ, Bool, List, Option, IfOk, OnOk, map};
-ghost use Rattle.std.specs.List.{range_with_len};
+ghost use Rattle.std.specs.Prelude.{◌≡◌, ◌++◌, [], ℕ, Bool, List, Option, IfOk, OnOk};
 ghost use Rattle.gql_rules_graph.specs.Explored as spec;
 ghost use Rattle.gql_rules_graph.specs.Exploring as exploring;
 

@@ -1,6 +1,6 @@
 //! A graph the other way round.
 
-ghost use Rattle.std.specs.Prelude.{◌≡◌, ◌<◌, ℕ, IfOk, OnOk, length};
+ghost use Rattle.std.specs.Prelude.{◌≡◌, ◌<◌, IfOk, OnOk};
 ghost use Rattle.gql_rules_graph.specs.Cycles.{IsReverse};
 ghost use Rattle.gql_rules_graph.specs.Reversing as step;
 

@@ -78,9 +78,6 @@ abbrev pub AreLike : ℕ → List Selected → List ℕ → Type 0
 AreLike base fields classes = (a r : ℕ) (field : Selected) → slice_get classes a ≡ Some r → slice_get fields a ≡ Some field → (a == r) ≡ false
     → is_like_at base classes fields field r ≡ true
 
-pub none_like : (base : ℕ) (fields : List Selected) → AreLike base fields []
-none_like base fields a r field is at apart = absurd cc
-
 pub next_like : (base : ℕ) (fields : List Selected) (classes : List ℕ) (x : Selected) (class : ℕ) → AreLike base fields classes → slice_get fields (length classes) ≡ Some x
     → IsClassFor base classes fields x class → AreLike base fields (classes ++ class ∷ [])
 next_like base fields classes x class before here is a r field in_classes at apart = by_place (same_or_not a (length classes))

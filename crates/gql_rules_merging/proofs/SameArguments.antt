@@ -44,14 +44,6 @@ depth value = depth_of value.kind
 abbrev weighed : Named × Value → Named × ℕ
 weighed member = (member.0, depth member.1)
 
-depth-List : (items : List Value) → depth_of (ListKind items) ≡ greatest (map depth items) + 1
-unfolding depth_of
-depth-List items = search (rules, the_lemmas)
-
-depth-Object : (members : List (Named × Value)) → depth_of (ObjectKind members) ≡ greatest_member (map weighed members) + 1
-unfolding depth_of
-depth-Object members = search (rules, the_lemmas)
-
 -- ---- one level of a value, with tests in the place of the values inside
 
 abbrev Level : Type 0
@@ -200,9 +192,6 @@ module _ {A : Type 0} (name_of : A → List ℕ) (value_of : A → Value) where
 
 text_on : (xs ys zs : List ℕ) → bytes_eq xs ys ≡ true → bytes_eq ys zs ≡ true → bytes_eq xs zs ≡ true
 text_on xs ys zs one two = ap (λ l. bytes_eq l zs) (one_text xs ys one) ∙ two
-
-truth_on : (a b c : Bool) → beq a b ≡ true → beq b c ≡ true → beq a c ≡ true
-truth_on a b c one two = ap (λ t. beq t c) (beq-true a b one) ∙ two
 
 -- the same values in the place of values of less than a depth
 abbrev IsOn : ℕ → Type 0

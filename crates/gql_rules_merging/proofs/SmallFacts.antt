@@ -1,65 +1,16 @@
 -- Small facts that the answers share.
-use Rattle.std.proofs.Common.{◌≡◌, ℕ, zero, suc, ◌<◌, ◌≤◌, Bool, true, false, cond, ◌&&◌, Option, Some, None, List, [], ◌∷◌, drop, length, map, refl, sym, ap, ◌∙◌, arith}
+use Rattle.std.proofs.Common.{◌≡◌, ℕ, zero, suc, ◌<◌, ◌≤◌, Bool, true, false, cond, Option, Some, None, List, [], ◌∷◌, drop, length, map, refl, sym, ap, ◌∙◌, arith}
 use Rattle.std.specs.List.{slice_get}
 use Rattle.std.specs.Option.{option_map, unwrap_or}
 use Rattle.std.proofs.lemmas.Option.{slice_get-map, slice_get_within}
-use Rattle.gql_ast_base.specs.declared.value.Value.{Value}
 use Rattle.gql_rules_merging.specs.Numbering.{Selected}
 use Rattle.gql_rules_merging.specs.ResponseKeys.{key_of, has_key, place_of, key_number, key_numbers}
-use Rattle.gql_rules_merging.specs.Classes.{same_item, same_items as same_selected}
-use Rattle.gql_rules_merging.specs.ClassSteps.{same_at}
-use Rattle.gql_rules_merging.specs.SameValue.{same_items, same_value}
 
 pub dropped_all : {A : Type 0} (xs : List A) (i : ℕ) → length xs ≤ i → drop i xs ≡ []
 dropped_all [] zero past = refl
 dropped_all [] (suc i) past = refl
 dropped_all (x ∷ xs) zero past = absurd (omega (arith, past))
 dropped_all (x ∷ xs) (suc i) past = dropped_all xs i (omega (arith, past))
-
-abbrev none_left : {A : Type 0} → Option A → Bool
-none_left None = true
-none_left (Some x) = false
-
--- nothing is left of the one list: is anything left of the other?
-values_left : (ys : List Value) (i : ℕ) → same_items [] (drop i ys) ≡ none_left (slice_get ys i)
-values_left [] zero = refl
-values_left [] (suc i) = refl
-values_left (y ∷ ys) zero = refl
-values_left (y ∷ ys) (suc i) = values_left ys i
-
-pub values_end : (xs ys : List Value) (i : ℕ) (o : Option Value) → length xs ≤ i → slice_get ys i ≡ o → same_items (map same_value (drop i xs)) (drop i ys) ≡ none_left o
-values_end xs ys i o past at = ap (λ l. same_items (map same_value l) (drop i ys)) (dropped_all xs i past) ∙ values_left ys i ∙ ap none_left at
-
-module _ (base : ℕ) (classes : List ℕ) where
-  selected_left : (ys : List ℕ) (i : ℕ) → same_selected base classes [] (drop i ys) ≡ none_left (slice_get ys i)
-  selected_left [] zero = refl
-  selected_left [] (suc i) = refl
-  selected_left (y ∷ ys) zero = refl
-  selected_left (y ∷ ys) (suc i) = selected_left ys i
-
-  pub selected_end : (xs ys : List ℕ) (i : ℕ) (o : Option ℕ) → length xs ≤ i → slice_get ys i ≡ o → same_selected base classes (drop i xs) (drop i ys) ≡ none_left o
-  selected_end xs ys i o past at = ap (λ l. same_selected base classes l (drop i ys)) (dropped_all xs i past) ∙ selected_left ys i ∙ ap none_left at
-
-  -- item by item
-  selected_at : (xs ys : List ℕ) (i x : ℕ) → slice_get xs i ≡ Some x
-      → same_selected base classes (drop i xs) (drop i ys) ≡ (same_at base classes x (slice_get ys i) && same_selected base classes (drop (suc i) xs) (drop (suc i) ys))
-  selected_at [] ys i x is = absurd cc
-  selected_at (z ∷ xs) [] zero x is = refl
-  selected_at (z ∷ xs) (y ∷ ys) zero x is = ap (λ n. same_item base classes n y && same_selected base classes xs ys) (let h : Some z ≡ Some x = is in let e : z ≡ x = cc in e)
-  selected_at (z ∷ xs) [] (suc i) x is = ap (λ l. same_selected base classes (drop i xs) l) (sym (dropped_none i)) ∙ selected_at xs [] i x is
-    where
-      dropped_none : {A : Type 0} (i : ℕ) → drop {A = A} i [] ≡ []
-      dropped_none zero = refl
-      dropped_none (suc i) = refl
-  selected_at (z ∷ xs) (y ∷ ys) (suc i) x is = selected_at xs ys i x is
-
-  pub selected_goes : (xs ys : List ℕ) (i x : ℕ) → slice_get xs i ≡ Some x → same_at base classes x (slice_get ys i) ≡ true
-      → same_selected base classes (drop i xs) (drop i ys) ≡ same_selected base classes (drop (suc i) xs) (drop (suc i) ys)
-  selected_goes xs ys i x is holds = selected_at xs ys i x is ∙ ap (λ t. t && same_selected base classes (drop (suc i) xs) (drop (suc i) ys)) holds
-
-  pub selected_stops : (xs ys : List ℕ) (i x : ℕ) → slice_get xs i ≡ Some x → same_at base classes x (slice_get ys i) ≡ false
-      → same_selected base classes (drop i xs) (drop i ys) ≡ false
-  selected_stops xs ys i x is fails = selected_at xs ys i x is ∙ ap (λ t. t && same_selected base classes (drop (suc i) xs) (drop (suc i) ys)) fails
 
 -- ---- the numbers of keys are those of fields
 

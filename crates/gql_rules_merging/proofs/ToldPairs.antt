@@ -8,7 +8,6 @@ use Rattle.std.proofs.lemmas.Map.Keys.{IsDistinct-head, IsDistinct-tail, IsDisti
 use Rattle.std.proofs.lemmas.List.Elements.{Contains-append_right}
 use Rattle.std.proofs.lemmas.Bool.{eqb-true, eq-eqb}
 use Rattle.gql_rules_graph.proofs.Flooded.{Contains-cons_cases, none_contained}
-use Rattle.gql_diag_messages.specs.declared.diagnostic_data.DiagnosticData.{DiagnosticData}
 use Rattle.gql_rules_graph.specs.Explored.{pair_of, IsMet, same, other, IsExplored}
 use Rattle.gql_rules_graph.specs.Pairs.{Sets, IsCompared, in_set, below as under}
 use Rattle.gql_rules_graph.specs.Steps.{is_pair}
@@ -16,13 +15,12 @@ use Rattle.gql_rules_graph.specs.declared.pair.Pair.{Pair}
 use Rattle.gql_schema_types.specs.declared.types.ExtendedType.{ExtendedType}
 use Rattle.gql_rules_merging.specs.ConflictingFieldType.{types_conflict}
 use Rattle.gql_rules_merging.specs.FieldSelectionMerging.{below, below_fields, conflict_of, same_fields, sets_of, are_apart, differ, items, AreConflicts}
-use Rattle.gql_rules_merging.specs.Numbering.{Selected, Numbered, numbered}
+use Rattle.gql_rules_merging.specs.Numbering.{Selected, Numbered}
 use Rattle.gql_rules_merging.specs.Classes.{AreClasses, is_sound}
 use Rattle.gql_rules_merging.specs.ResponseKeys.{key_numbers}
 use Rattle.gql_rules_merging.specs.Telling.{in_full, is_told, told_of, AreConflictsOf, NoneBreaks}
 use Rattle.gql_rules_merging.proofs.Pairing.{pair_of-low, is_pair-true}
 use Rattle.gql_rules_merging.proofs.Screened.{none_breaks}
-use Rattle.gql_document_types.specs.declared.document.ExecutableDocument.{ExecutableDocument}
 
 -- ---- lists
 
@@ -281,9 +279,3 @@ none_told types document none = record {
   only = λ p c. absurd (none_contained p c);
   whole = refl;
 }
-
-pub of_document : (types : List ExtendedType) (document : ExecutableDocument) (made : Numbered) (told : List DiagnosticData) → made ≡ numbered document
-    → AreConflictsOf types made told → AreConflicts types document told
-of_document types document made told is are =
-    let conflicts = subst (λ n. AreConflictsOf types n told) is are in
-    record { pairs = conflicts.pairs; distinct = conflicts.distinct; all = conflicts.all; only = conflicts.only; whole = conflicts.whole }

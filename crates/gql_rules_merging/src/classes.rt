@@ -1,7 +1,7 @@
 //! Classes of fields that are alike but for their places. Where many fields of one response key stand in a set, of each class one
 //! is compared.
 
-ghost use Rattle.std.specs.Prelude.{◌≡◌, ◌⊎◌, true, IfOk, OnOk, length};
+ghost use Rattle.std.specs.Prelude.{◌≡◌, true, IfOk};
 ghost use Rattle.std.specs.Option.{option_copied};
 ghost use Rattle.gql_rules_merging.specs.Classes as spec;
 ghost use Rattle.gql_rules_merging.specs.ClassSteps as step;

@@ -1,7 +1,6 @@
 //! What two fields of one response key are compared by.
 
 ghost use Rattle.std.specs.Prelude.{◌≡◌, ◌++◌, [], ◌∷◌, Option, OnOk};
-ghost use Rattle.std.specs.Option.{option_copied};
 ghost use Rattle.gql_rules_merging.specs.FieldSelectionMerging as spec;
 ghost use Rattle.gql_rules_merging.specs.Gathering.{fields_of, selected_of};
 

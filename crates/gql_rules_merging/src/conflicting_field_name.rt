@@ -1,6 +1,6 @@
 //! Fields of one response key that one object can have are the same field (GraphQL October 2021, section 5.3.2).
 
-ghost use Rattle.std.specs.Prelude.{◌≡◌, ◌++◌, ◌∷◌, [], not, OnOk};
+ghost use Rattle.std.specs.Prelude.{◌≡◌, ◌++◌, ◌∷◌, [], OnOk};
 ghost use Rattle.gql_rules_merging.specs.ConflictingFieldName as spec;
 ghost use Rattle.gql_rules_merging.specs.Gathering.{selected_of};
 

@@ -1,7 +1,7 @@
 //! Fields of one response key in a set, or in the sets below such fields, have one shape (GraphQL October 2021, section 5.3.2,
 //! SameResponseShape).
 
-ghost use Rattle.std.specs.Prelude.{◌≡◌, ◌++◌, ◌∷◌, [], not, OnOk};
+ghost use Rattle.std.specs.Prelude.{◌≡◌, ◌++◌, ◌∷◌, [], OnOk};
 ghost use Rattle.gql_rules_merging.specs.ConflictingFieldType as spec;
 ghost use Rattle.gql_rules_merging.specs.Gathering.{selected_of};
 

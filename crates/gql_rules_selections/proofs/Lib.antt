@@ -1,5 +1,4 @@
 mod CycleTold
 mod FromStarts
 mod OneName
-mod OneSelection
 mod Possible

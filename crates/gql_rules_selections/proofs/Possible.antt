@@ -142,10 +142,6 @@ map-same : {X Y : Type 0} (f g : X → Y) → ((x : X) → f x ≡ g x) → (o :
 map-same f g same None = refl
 map-same f g same (Some x) = ap Some (same x)
 
-pub names_at : (implementers : Found) (types : List ExtendedType) → AreImplementers implementers types
-    → (o : Option ExtendedType) → option_map (names_in implementers) o ≡ option_map (possible_names types) o
-names_at implementers types known o = map-same (names_in implementers) (possible_names types) (names-known implementers types known) o
-
 -- the table at the place of a type
 pub table_at : (implementers : Found) (types : List ExtendedType) → AreImplementers implementers types
     → (tables : List (List (List ℕ))) → tables ≡ tables_in implementers types

@@ -2,7 +2,6 @@
 
 ghost use Rattle.std.specs.Prelude.{◌≡◌, ◌++◌, OnOk};
 ghost use Rattle.gql_rules_selections.specs.DocumentNodes as spec;
-ghost use Rattle.gql_rules_selections.specs.Nodes as nodes;
 
 use crate::invalid_fragment_spread::{list_invalid_fragment_spread, list_invalid_spread};
 use crate::invalid_fragment_target::list_invalid_fragment_target;

@@ -1,6 +1,6 @@
 //! What some nodes of a graph reach.
 
-ghost use Rattle.std.specs.Prelude.{◌≡◌, IfOk, slice_get};
+ghost use Rattle.std.specs.Prelude.{◌≡◌, IfOk};
 ghost use Rattle.gql_rules_selections.specs.Reached as spec;
 
 use gql_rules_graph::{Graph, flood};

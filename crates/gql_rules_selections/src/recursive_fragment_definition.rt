@@ -2,7 +2,6 @@
 
 ghost use Rattle.std.specs.Prelude.{◌≡◌, ◌++◌, ◌∷◌, [], None, List, OnOk};
 ghost use Rattle.gql_diag_messages.specs.declared.diagnostic_data.DiagnosticData as item;
-ghost use Rattle.gql_rules_base.specs.Faults as told;
 ghost use Rattle.gql_rules_selections.specs.RecursiveFragmentDefinition as spec;
 ghost use Rattle.gql_rules_selections.specs.WayRound as way;
 

@@ -1,9 +1,7 @@
 //! A variable is of an input type (GraphQL October 2021, section 5.8.2).
 
 ghost use Rattle.std.specs.Prelude.{◌≡◌, ◌++◌, OnOk, ◌∷◌, [], None};
-ghost use Rattle.gql_ast.specs.TypeText.{type_text};
 ghost use Rattle.gql_diag_messages.specs.declared.rule.Rule.TheVariants.{VariableInputType};
-ghost use Rattle.gql_rules_base.specs.Faults as told;
 ghost use Rattle.gql_rules_selections.specs.VariableInputType as spec;
 
 use crate::composite::is_composite;

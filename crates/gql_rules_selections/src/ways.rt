@@ -1,8 +1,7 @@
 //! The way from a fragment back to itself, as it is told.
 
-ghost use Rattle.std.specs.Prelude.{◌≡◌, ◌++◌, [], map, string_bytes, IfOk, OnOk};
+ghost use Rattle.std.specs.Prelude.{◌≡◌, ◌++◌, map, string_bytes, IfOk, OnOk};
 ghost use Rattle.std.specs.List.{flat_map, find};
-ghost use Rattle.std.specs.Option.{option_copied};
 ghost use Rattle.gql_rules_graph.specs.Chains.{is_marked};
 ghost use Rattle.gql_rules_selections.specs.WayRound as spec;
 

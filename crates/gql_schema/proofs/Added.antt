@@ -1,6 +1,6 @@
 -- Scalars that were added and are taken out again, and faults that a list has taken.
-use Rattle.std.proofs.Common.{◌≡◌, ℕ, Bool, true, false, cond, not, ◌&&◌, ◌⊎◌, inl, inr, Option, Some, None, is_some, Result, Ok, Err, OnErr, List, [], ◌∷◌, ◌++◌, refl, sym, ap, ◌∙◌}
-use Rattle.std.specs.List.{filter, find}
+use Rattle.std.proofs.Common.{◌≡◌, ℕ, Bool, true, false, cond, not, inl, inr, Some, None, Result, Ok, Err, OnErr, List, [], ◌∷◌, ◌++◌, refl, sym, ap}
+use Rattle.std.specs.List.{find}
 use Rattle.std.proofs.lemmas.List.{append-nil}
 use Rattle.gql_diag_messages.specs.declared.diagnostic_data.DiagnosticData.{DiagnosticData}
 use Rattle.gql_schema.specs.Taken.{HasTakenSome}
@@ -21,10 +21,6 @@ taken_out name (t ∷ ts) none = by_test (bytes_eq name (type_name t).text) none
         → cond (not b) (t ∷ without type_name name (ts ++ new_scalar name ∷ [])) (without type_name name (ts ++ new_scalar name ∷ [])) ≡ t ∷ ts
     by_test true none later = absurd cc
     by_test false none later = ap (λ l. t ∷ l) (later none)
-
--- nothing was taken yet
-pub none_taken : (old faults : List DiagnosticData) → HasTakenSome old faults old
-none_taken old faults = record { some = []; rest = faults; all = refl; taken = sym (append-nil old) }
 
 -- what has taken some of the faults lists some of them
 pub some_listed : (schema : Schema) (faults old new : List DiagnosticData) → AreSchemaFaults schema faults → HasTakenSome old faults new → HasListedSomeFaults schema old new

@@ -1,5 +1,5 @@
 -- No input object needs itself: section 3.10 of GraphQL October 2021, "Circular References".
-use Rattle.std.specs.Prelude.{ℕ, List, [], ◌∷◌, Option, position, slice_get, length, map}
+use Rattle.std.specs.Prelude.{ℕ, List, [], ◌∷◌, position, slice_get, length, map}
 use Rattle.std.specs.List.{flat_map}
 use Rattle.std.specs.Option.{option_map_or}
 use Rattle.gql_ast_base.specs.Names.{Named}

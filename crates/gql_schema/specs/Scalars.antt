@@ -2,7 +2,6 @@
 use Rattle.std.specs.Prelude.{ℕ, Bool, false, ◌&&◌, ◌||◌, not, List, [], ◌∷◌, ◌++◌, None, is_some, if◌then◌else◌, codes}
 use Rattle.std.specs.List.{list_any}
 use Rattle.std.specs.Str.{bytes_eq}
-use Rattle.gql_ast_base.specs.Names.{Named}
 use Rattle.gql_ast_definitions.specs.declared.field_definition.FieldDefinition.{FieldDefinition}
 use Rattle.gql_ast_definitions.specs.declared.field_definition.InputValueDefinition.{InputValueDefinition}
 use Rattle.gql_ast_definitions.specs.declared.schema_definition.DirectiveDefinition.{DirectiveDefinition}

@@ -2,7 +2,6 @@
 //! section 3.13). The standard goes on through the fields and values of these types; docs/DECISIONS.md says why this does not.
 
 ghost use Rattle.std.specs.Prelude.{◌≡◌, ◌++◌, ◌+◌, ◌<◌, List, length, map, IfOk, OnOk};
-ghost use Rattle.std.specs.List.{flat_map};
 ghost use Rattle.gql_diag_messages.specs.declared.diagnostic_data.DiagnosticData as item;
 ghost use Rattle.gql_schema.specs.RecursiveDirectiveDefinition as spec;
 

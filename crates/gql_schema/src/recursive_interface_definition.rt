@@ -1,6 +1,6 @@
 //! No interface implements itself (GraphQL October 2021, section 3.7).
 
-ghost use Rattle.std.specs.Prelude.{◌≡◌, ◌++◌, List, length, map, IfOk, OnOk};
+ghost use Rattle.std.specs.Prelude.{◌≡◌, ◌++◌, List, map, IfOk, OnOk};
 ghost use Rattle.std.specs.List.{flat_map};
 ghost use Rattle.gql_diag_messages.specs.declared.diagnostic_data.DiagnosticData as item;
 ghost use Rattle.gql_schema.specs.RecursiveInterfaceDefinition as spec;

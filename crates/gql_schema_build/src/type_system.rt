@@ -1,6 +1,6 @@
 //! The definitions and extensions that a schema is built of, sorted by what they are.
 
-ghost use Rattle.std.specs.Prelude.{◌≡◌, [], OnOk, fold};
+ghost use Rattle.std.specs.Prelude.{◌≡◌, OnOk};
 
 use crate::type_definition::TypeDefinition;
 use crate::type_extension::TypeExtension;

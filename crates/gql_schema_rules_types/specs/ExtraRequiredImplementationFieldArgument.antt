@@ -1,6 +1,6 @@
 -- An argument that the field of an interface does not have may be left out: sections 3.6 and 3.7 of GraphQL October 2021,
 -- "IsValidImplementation".
-use Rattle.std.specs.Prelude.{ℕ, Bool, ◌&&◌, List, [], ◌∷◌, None, is_none}
+use Rattle.std.specs.Prelude.{Bool, ◌&&◌, List, [], ◌∷◌, None, is_none}
 use Rattle.gql_ast_base.specs.Names.{Named}
 use Rattle.gql_ast_definitions.specs.declared.field_definition.FieldDefinition.{FieldDefinition}
 use Rattle.gql_ast_definitions.specs.declared.field_definition.InputValueDefinition.{InputValueDefinition}

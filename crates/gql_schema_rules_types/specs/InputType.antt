@@ -1,5 +1,5 @@
 -- An argument or an input field is of an input type: sections 3.4.2, 3.6.1, 3.7, 3.10 and 3.13 of GraphQL October 2021.
-use Rattle.std.specs.Prelude.{Bool, false, List, [], ◌∷◌, None}
+use Rattle.std.specs.Prelude.{false, List, [], ◌∷◌, None}
 use Rattle.std.specs.Option.{option_map_or}
 use Rattle.gql_ast_definitions.specs.declared.field_definition.InputValueDefinition.{InputValueDefinition}
 use Rattle.gql_diag_messages.specs.declared.rule.Rule.TheVariants.{InputType}

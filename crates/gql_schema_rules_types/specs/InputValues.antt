@@ -1,5 +1,5 @@
 -- What is wrong with arguments and input fields where they are defined: sections 3.6.1 and 3.10 of GraphQL October 2021.
-use Rattle.std.specs.Prelude.{Option, Some, List, [], ◌++◌, if◌then◌else◌}
+use Rattle.std.specs.Prelude.{Some, List, [], ◌++◌, if◌then◌else◌}
 use Rattle.std.specs.List.{flat_map}
 use Rattle.std.specs.Option.{option_map_or}
 use Rattle.gql_ast_definitions.specs.declared.field_definition.InputValueDefinition.{InputValueDefinition}

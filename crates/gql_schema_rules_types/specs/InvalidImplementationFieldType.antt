@@ -1,6 +1,6 @@
 -- A field is of a subtype of the type of the field of an interface: sections 3.6 and 3.7 of GraphQL October 2021,
 -- "IsValidImplementation".
-use Rattle.std.specs.Prelude.{ℕ, ◌&&◌, not, List, [], ◌∷◌, None}
+use Rattle.std.specs.Prelude.{◌&&◌, not, List, [], ◌∷◌, None}
 use Rattle.gql_ast_base.specs.Names.{Named}
 use Rattle.gql_ast_definitions.specs.declared.field_definition.FieldDefinition.{FieldDefinition}
 use Rattle.gql_ast.specs.TypeText.{type_text}

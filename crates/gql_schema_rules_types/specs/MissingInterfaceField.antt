@@ -1,6 +1,6 @@
 -- A type has each field of an interface that it lists: sections 3.6 and 3.7 of GraphQL October 2021, "IsValidImplementation".
 -- `field_faults` of InterfaceRules.antt says where it is broken.
-use Rattle.std.specs.Prelude.{ℕ, not, List, [], ◌∷◌, None, is_some}
+use Rattle.std.specs.Prelude.{[], ◌∷◌, None}
 use Rattle.gql_ast_base.specs.Names.{Named}
 use Rattle.gql_ast_definitions.specs.declared.field_definition.FieldDefinition.{FieldDefinition}
 use Rattle.gql_diag_messages.specs.declared.rule.Rule.TheVariants.{MissingInterfaceField}

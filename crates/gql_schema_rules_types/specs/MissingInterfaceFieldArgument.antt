@@ -1,6 +1,6 @@
 -- A field has each argument of the field of an interface: sections 3.6 and 3.7 of GraphQL October 2021, "IsValidImplementation".
 -- `wanted_argument_faults` of InterfaceRules.antt says where it is broken.
-use Rattle.std.specs.Prelude.{ℕ, List, [], ◌∷◌, None}
+use Rattle.std.specs.Prelude.{[], ◌∷◌, None}
 use Rattle.gql_ast_base.specs.Names.{Named}
 use Rattle.gql_ast_definitions.specs.declared.field_definition.FieldDefinition.{FieldDefinition}
 use Rattle.gql_ast_definitions.specs.declared.field_definition.InputValueDefinition.{InputValueDefinition}

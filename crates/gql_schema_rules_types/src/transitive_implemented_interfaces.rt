@@ -1,7 +1,7 @@
 //! A type lists each interface that an interface which it lists does (GraphQL October 2021, sections 3.6 and 3.7,
 //! "IsValidImplementation").
 
-ghost use Rattle.std.specs.Prelude.{◌≡◌, ◌++◌, ◌∷◌, [], OnOk};
+ghost use Rattle.std.specs.Prelude.{◌≡◌, ◌++◌, [], OnOk};
 ghost use Rattle.gql_rules_base.specs.Faults.{only_if};
 ghost use Rattle.gql_schema_rules_types.specs.TransitiveImplementedInterfaces as spec;
 

@@ -16,11 +16,6 @@ module _ {X : Type 0} (own : X → Named) where
   pub put_new-found : (x first : X) (xs : List X) → entry own (own x).text xs ≡ Some first → put_new own xs x ≡ xs
   put_new-found x first xs is = ap (λ o. if is_some o then xs else xs ++ x ∷ []) is
 
-  -- nothing is lost where the items come in two lists
-  pub joined-append : (seen xs ys : List X) → joined own seen (xs ++ ys) ≡ joined own (joined own seen xs) ys
-  joined-append seen [] ys = refl
-  joined-append seen (x ∷ xs) ys = joined-append (put_new own seen x) xs ys
-
   -- ---- distinct names
   none-any : (name : List ℕ) (xs : List X) → entry own name xs ≡ None → list_any (bytes_eq name) (texts own xs) ≡ false
   none-any name [] none = refl

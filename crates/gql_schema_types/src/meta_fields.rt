@@ -1,6 +1,6 @@
 //! Fields that types have besides their own.
 
-ghost use Rattle.std.specs.Prelude.{◌≡◌, [], ◌∷◌, IfOk, true, None, codes};
+ghost use Rattle.std.specs.Prelude.{◌≡◌, [], IfOk, true, None, codes};
 ghost use Rattle.std.specs.Option.{option_copied};
 ghost use Rattle.gql_ast_base.specs.Names.{is_name};
 ghost use Rattle.gql_schema_types.specs.MetaFields as spec;

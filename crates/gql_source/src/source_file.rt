@@ -1,6 +1,6 @@
 //! A source file, and the lines of its text.
 
-ghost use Rattle.std.specs.Prelude.{◌≡◌, ◌+◌, ◌-◌, ◌/◌, ◌<◌, ◌≤◌, IfOk, IfSome, length, slice_index, slice_range, option_map, Some, None, Option};
+ghost use Rattle.std.specs.Prelude.{◌≡◌, ◌+◌, ◌-◌, ◌/◌, ◌<◌, ◌≤◌, IfOk, length, slice_index, Some, None, Option};
 ghost use Rattle.gql_source.specs.Characters.{counts_at_marks as counts_at_marks_of, step};
 ghost use Rattle.gql_source.specs.Lines as lines;
 

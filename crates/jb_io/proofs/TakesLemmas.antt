@@ -1,10 +1,6 @@
 -- Writes one after another.
-use Rattle.std.proofs.Common.{◌≡◌, ℕ, ◌+◌, ◌-◌, List, [], ◌++◌, Option, None, Some, length, take, drop, sym, ap, ◌∙◌, subst, arith, append-nil, append_assoc, length-append, take-add, take_all, length-drop}
+use Rattle.std.proofs.Common.{◌≡◌, ℕ, ◌+◌, ◌-◌, List, ◌++◌, Option, None, Some, length, take, drop, sym, ap, ◌∙◌, subst, arith, append_assoc, length-append, take-add, take_all, length-drop}
 use Rattle.jb_io.specs.Sink.{Takes, Told}
-
-pub Takes-nil : (a : Option Told) → Takes a a []
-Takes-nil None = tt
-Takes-nil (Some told) = (sym (append-nil told.bytes), omega arith)
 
 pub Takes-trans : (a b c : Option Told) (xs ys : List ℕ) → Takes a b xs → Takes b c ys → Takes a c (xs ++ ys)
 Takes-trans None None None xs ys first second = tt

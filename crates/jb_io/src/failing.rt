@@ -1,6 +1,6 @@
 //! The calls of a stream in memory that are to fail.
 
-ghost use Rattle.std.specs.Prelude.{◌≡◌, ◌≤◌, [], IsTrue};
+ghost use Rattle.std.specs.Prelude.{◌≡◌, ◌≤◌, IsTrue};
 ghost use Rattle.jb_io.specs.Memory.{fails_next, next_call};
 ghost use Rattle.jb_io.specs.Stream.{HasFailed};
 

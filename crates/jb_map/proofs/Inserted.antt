@@ -1,5 +1,5 @@
 -- Pairs that are taken from the front of a list, one after another.
-use Rattle.std.proofs.Common.{◌≡◌, ℕ, zero, suc, ◌<◌, List, [], ◌∷◌, ◌++◌, length, take, drop, reverse, Result, Ok, Err, OnOk, OnErr, refl, sym, ap, ◌∙◌, subst, arith}
+use Rattle.std.proofs.Common.{◌≡◌, ℕ, zero, suc, ◌<◌, List, [], ◌∷◌, ◌++◌, length, take, drop, reverse, Result, Ok, Err, OnOk, OnErr, sym, ap, ◌∙◌, subst, arith}
 use Rattle.std.specs.Str.{bytes_eq}
 use Rattle.indexmap.specs.IndexMap.{insert_entry, insert_all}
 use Rattle.std.specs.List.{IsDistinct}
@@ -29,12 +29,6 @@ module _ {X : Type 0} where
   drop_first zero (z ∷ xs) x ys h = let same : xs ≡ ys = cc in same
   drop_first (suc n) [] x ys h = cc
   drop_first (suc n) (z ∷ xs) x ys h = drop_first n xs x ys h
-
-  -- where none are left, all were taken
-  pub take_whole : (n : ℕ) (xs : List X) → drop n xs ≡ [] → take n xs ≡ xs
-  take_whole zero xs h = sym h
-  take_whole (suc n) [] h = refl
-  take_whole (suc n) (z ∷ xs) h = ap (λ l. z ∷ l) (take_whole n xs h)
 
 module _ {V : Type 0} where
   -- one more pair inserted

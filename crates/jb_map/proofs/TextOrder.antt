@@ -35,9 +35,6 @@ less_is_not_equal o h = ap is_eq h
 pub below_differs : (a b : List ℕ) → is_below a b ≡ true → bytes_eq a b ≡ false
 below_differs a b h = texts_ties a b ∙ less_is_not_equal (order a b) (less_from_below a b h)
 
-pub below_differs_back : (a b : List ℕ) → is_below a b ≡ true → bytes_eq b a ≡ false
-below_differs_back a b h = nat_list_eq_equiv.symm b a ∙ below_differs a b h
-
 -- a text that is neither equal to another nor above it is below it
 below_from_order : (o p : Ordering) → o ≡ ordering_reverse p → is_eq o ≡ false → is_lt p ≡ false → is_lt o ≡ true
 below_from_order Less p e n b = refl

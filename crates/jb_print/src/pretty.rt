@@ -1,6 +1,6 @@
 //! The text of a value over several lines, appended to a text.
 
-ghost use Rattle.std.specs.Prelude.{◌≡◌, ◌++◌, ◌∷◌, [], false, codes, map, IfOk, OnOk, string_bytes};
+ghost use Rattle.std.specs.Prelude.{◌≡◌, ◌++◌, [], false, codes, map, IfOk, OnOk, string_bytes};
 ghost use Rattle.jb_print.specs.Quoted.{quoted};
 ghost use Rattle.jb_print.specs.Pretty.{pretty_at, deeper};
 ghost use Rattle.jb_print.specs.Pieces.{pieces_text, item_line, member_line, pretty_list, pretty_object};

@@ -14,9 +14,6 @@ use Rattle.jb_read.proofs.Steps.{chosen, byte_sound}
 use Rattle.jb_read.proofs.Escapes.{digit_sound, digit_complete, unit_sound, unit_complete, front_unit, escape_of_u}
 use Rattle.jb_read.proofs.Stopped.{same_stop, bind_err, byte_breaks, byte_refused}
 
-abbrev told : {A : Type 0} → A → List ℕ → Result (A × List ℕ) Broken
-told x rest = Ok (x, rest)
-
 -- ---- hexadecimal digits
 
 digit_breaks : (at : List ℕ) (e : Broken) → hex_digit_at at ≡ Err e → (begins is_hex at ≡ false) × (e ≡ broken Syntax at)

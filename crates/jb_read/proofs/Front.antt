@@ -1,19 +1,11 @@
 -- The front of what is left, by its first byte.
-use Rattle.std.proofs.Common.{◌≡◌, ℕ, true, false, List, [], ◌∷◌, drop, Some, None, refl}
+use Rattle.std.proofs.Common.{◌≡◌, ℕ, false, List, [], ◌∷◌, Some, None, refl}
 use Rattle.jb_read.specs.Bytes.{first, is_white, is_digit, skip_white}
 use Rattle.jb_read.specs.Numbers.{digits_from}
-
--- a list that has a first byte is that byte and the rest
-pub first_parts : (at : List ℕ) (b : ℕ) → first at ≡ Some b → at ≡ b ∷ drop 1 at
-first_parts [] b e = absurd cc
-first_parts (c ∷ at) b e = cc
 
 pub first_none : (at : List ℕ) → first at ≡ None → at ≡ []
 first_none [] e = refl
 first_none (c ∷ at) e = absurd cc
-
-pub skip_white_step : (at : List ℕ) (b : ℕ) → first at ≡ Some b → is_white b ≡ true → skip_white (drop 1 at) ≡ skip_white at
-skip_white_step at b e w = rw (first_parts at b e) (rw w refl)
 
 pub skip_white_stop : (at : List ℕ) (b : ℕ) → first at ≡ Some b → is_white b ≡ false → skip_white at ≡ at
 skip_white_stop [] b e w = refl

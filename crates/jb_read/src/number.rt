@@ -1,9 +1,9 @@
 //! Numbers (RFC 8259, section 6), whole ones alone.
 
-ghost use Rattle.std.specs.Prelude.{◌≡◌, drop, ◌+◌, ◌-◌, ◌*◌, ◌≤◌, ◌<◌, ◌^◌, ℕ, true, false, length, IsTrue, OnOk};
+ghost use Rattle.std.specs.Prelude.{◌≡◌, drop, ◌+◌, ◌-◌, ◌*◌, ◌≤◌, ◌<◌, ◌^◌, ℕ, length, IsTrue, OnOk};
 ghost use Rattle.jb_read.specs.Bytes.{is_digit, begins};
 ghost use Rattle.jb_read.specs.Reading.{Tells};
-ghost use Rattle.jb_read.specs.Numbers.{digits_from, bounded_whole_at, within, number_of, is_mark, is_minus, number_at};
+ghost use Rattle.jb_read.specs.Numbers.{digits_from, bounded_whole_at, within, number_of, is_mark, number_at};
 
 use crate::cursor::Cursor;
 use crate::fault::{Broken, FaultKind};

@@ -1,6 +1,6 @@
 //! Strings (RFC 8259, section 7).
 
-ghost use Rattle.std.specs.Prelude.{◌≡◌, ◌<◌, ◌≤◌, [], length, IfOk, OnOk, OnSome, Ok, MatchOption, is_none, ◌&&◌, ◌==◌};
+ghost use Rattle.std.specs.Prelude.{◌≡◌, ◌<◌, ◌≤◌, length, IfOk, OnOk, OnSome, Ok, MatchOption, is_none, ◌&&◌, ◌==◌};
 ghost use Rattle.std.specs.Str.{error_len};
 ghost use Rattle.std.specs.String.{string_bytes};
 ghost use Rattle.jb_read.specs.Reading.{Tells, Gives, GivesTurn, told_text};

@@ -1,7 +1,7 @@
 //! White space, words, and what stands between values (RFC 8259, section 2).
 
-ghost use Rattle.std.specs.Prelude.{◌≡◌, ◌<◌, ◌≤◌, ◌+◌, length, drop, IsTrue, OnOk, if◌then◌else◌};
-ghost use Rattle.jb_read.specs.Bytes.{is_white, is_digit, skip_white};
+ghost use Rattle.std.specs.Prelude.{◌≡◌, ◌<◌, ◌≤◌, ◌+◌, length, drop, OnOk, if◌then◌else◌};
+ghost use Rattle.jb_read.specs.Bytes.{is_white, skip_white};
 ghost use Rattle.std.specs.Bool.{OnTrue};
 ghost use Rattle.jb_read.specs.Reading.{Tells, byte_at, word_at};
 ghost use Rattle.jb_read.specs.Values.{begins_with, next_at};

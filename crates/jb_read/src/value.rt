@@ -1,9 +1,9 @@
 //! Values, arrays and objects (RFC 8259, sections 3 to 5).
 
-ghost use Rattle.std.specs.Prelude.{◌≡◌, ◌<◌, ◌+◌, ℕ, suc, length, drop, IfOk, OnOk, MatchResult};
+ghost use Rattle.std.specs.Prelude.{◌≡◌, ◌<◌, suc, length, drop, OnOk, MatchResult};
 ghost use Rattle.std.specs.Str.{bytes_eq};
 ghost use Rattle.indexmap.specs.IndexMap.{insert_entry};
-ghost use Rattle.jb_read.specs.Reading.{broken, Tells, Gives, GivesTurn};
+ghost use Rattle.jb_read.specs.Reading.{broken, Gives, GivesTurn};
 ghost use Rattle.jb_read.specs.Values.{scalar_at, key_at, item_at, member_at, array_at, object_at, value_at};
 ghost use Rattle.jb_read.specs.declared.fault.FaultKind.TheVariants.{Depth};
 

@@ -1,7 +1,6 @@
 -- A test of every name, as far as a loop has come.
-use Rattle.std.proofs.Common.{◌≡◌, ◌≤◌, ◌+◌, ℕ, zero, suc, List, [], ◌∷◌, length, slice_get, take, Some, Bool, true, false, ◌&&◌, refl, add-one, arith}
+use Rattle.std.proofs.Common.{◌≡◌, ◌+◌, ℕ, zero, suc, List, [], ◌∷◌, slice_get, take, Some, Bool, true, false, ◌&&◌, refl, add-one}
 use Rattle.std.specs.List.{list_all}
-use Rattle.std.specs.Map.{keys_of}
 
 and_step : (a b c : Bool) → (a && b) ≡ true → (b ≡ true → c ≡ true) → (a && c) ≡ true
 and_step true b c h next = next h
@@ -27,9 +26,3 @@ module _ {X : Type 0} (p : X → Bool) where
   -- one more that passes
   pub all_more : (xs : List X) (i : ℕ) (x : X) → slice_get xs i ≡ Some x → list_all p (take i xs) ≡ true → p x ≡ true → list_all p (take (i + 1) xs) ≡ true
   all_more xs i x at before passes = rw add-one (all_step xs i x at before passes)
-
--- all keys, at the end
-pub all_keys : {K V : Type 0} (p : K → Bool) (es : List (K × V)) (i : ℕ) → length es ≤ i → list_all p (take i (keys_of es)) ≡ true → list_all p (keys_of es) ≡ true
-all_keys p [] i end before = refl
-all_keys p (e ∷ es) zero end before = absurd (omega arith)
-all_keys p (e ∷ es) (suc i) end before = and_step (p e.0) (list_all p (take i (keys_of es))) (list_all p (keys_of es)) before (λ h. all_keys p es i (omega arith) h)

@@ -67,11 +67,6 @@ pub decoded_tilde : (xs : List ℕ) → decoded (126 ∷ 48 ∷ xs) ≡ 126 ∷ 
 unfolding replaced
 decoded_tilde xs = ap (λ l. replaced 48 126 (126 ∷ l)) (replaced_other 49 47 48 xs (λ e. omega (arith, e)))
 
--- a `~` that no such digit follows
-pub decoded_alone : decoded (126 ∷ []) ≡ 126 ∷ []
-unfolding replaced
-decoded_alone = refl
-
 first_kept : (y : ℕ) (ys : List ℕ) → y ≢ 48 → replaced 48 126 (126 ∷ replaced 49 47 (y ∷ ys)) ≡ 126 ∷ decoded (y ∷ ys)
 unfolding replaced
 first_kept y [] ne = rw (ne_eqb y 48 ne)

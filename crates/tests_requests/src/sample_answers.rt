@@ -2,7 +2,6 @@
 
 ghost use Rattle.std.specs.Prelude.{◌≡◌, IfOk, codes};
 ghost use Rattle.gql_exec_resolve.specs.Meaning.{meaning_by, itself};
-ghost use Rattle.gql_exec_resolve.specs.declared.resolved_value.ResolvedValue.TheVariants as resolved;
 ghost use Rattle.tests_requests.specs.Samples as spec;
 
 use crate::sample::{Kind, Sample};

@@ -1,6 +1,6 @@
 //! Documents of the tests, and what they are expanded to.
 
-ghost use Rattle.std.specs.Prelude.{◌≡◌, ℕ, OnOk};
+ghost use Rattle.std.specs.Prelude.{ℕ, OnOk};
 ghost use Rattle.gql_document_types.specs.Spreads.{spread_graph};
 ghost use Rattle.gql_rules_graph.specs.Cycles.{IsOnCycle};
 

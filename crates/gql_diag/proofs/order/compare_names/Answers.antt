@@ -1,4 +1,4 @@
-use Rattle.std.proofs.Common.{◌≡◌, min, length, sym, ◌∙◌, arith}
+use Rattle.std.proofs.Common.{◌≡◌, min, length, arith}
 use Rattle.std.specs.Ordering.{nat_cmp}
 use Rattle.std.specs.Cmp.Lexicographic.{slice_cmp}
 use Rattle.gql_diag.proofs.Names.{slice_cmp-ended}

@@ -1,6 +1,6 @@
-use Rattle.std.proofs.Common.{rules, ◌≡◌, Some, ap, sym, ◌∙◌}
+use Rattle.std.proofs.Common.{rules, ◌≡◌, Some}
 use Rattle.std.specs.Option.{option_copied}
-use Rattle.gql_exec_resolve.specs.Fit.{wrong, unless, implementing_misfit}
+use Rattle.gql_exec_resolve.specs.Fit.{wrong, implementing_misfit}
 use Rattle.gql_exec_resolve.specs.Messages as message
 use Rattle.gql_exec_resolve.proofs.Refusing.{refused}
 use Rattle.gql_exec_resolve.proofs.fitting.implementing.Goals as goal

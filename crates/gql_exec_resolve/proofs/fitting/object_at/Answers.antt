@@ -1,4 +1,4 @@
-use Rattle.std.proofs.Common.{rules, ◌≡◌, Some, ap, sym, ◌∙◌}
+use Rattle.std.proofs.Common.{rules, ◌≡◌, Some}
 use Rattle.gql_schema_types.specs.Schemas.{object_of}
 use Rattle.gql_exec_resolve.specs.Fit.{wrong, bug, object_at}
 use Rattle.gql_exec_resolve.specs.Messages as message

@@ -1,4 +1,3 @@
-use Rattle.std.proofs.Common.{length, arith}
 use Rattle.gql_rules.proofs.Steps.{flat-step}
 use Rattle.gql_rules.proofs.value_uses.add_directives.Goals as goal
 use Rattle.gql_rules.specs.Uses.{directive_uses, directives_uses}

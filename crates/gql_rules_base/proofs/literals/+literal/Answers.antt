@@ -1,10 +1,8 @@
-use Rattle.std.proofs.Common.{◌≡◌, ◌++◌, ℕ, Some, None, [], sym, ap, ◌∙◌}
+use Rattle.std.proofs.Common.{◌++◌, Some, None, sym, ap, ◌∙◌}
 use Rattle.std.specs.List.{flat_map}
-use Rattle.std.proofs.lemmas.List.{append-nil}
 use Rattle.std.proofs.lemmas.Result.{on_ok_weaker}
 use Rattle.gql_rules_base.specs.Literals.{node_faults, literal_faults}
 use Rattle.gql_rules_base.specs.Typed.{member_type}
-use Rattle.gql_rules_base.specs.UniqueInputValue.{unique_keys}
 use Rattle.gql_rules_base.proofs.Nodes.{joined, alone_listed, at-List, at-Object, at-Null, at-Variable, at-Int, at-Float, at-String, at-Boolean, at-Enum}
 use Rattle.gql_rules_base.proofs.literals.+literal.Goals as goal
 

@@ -1,5 +1,4 @@
 use Rattle.std.proofs.Common.{◌≡◌, ◌++◌, map, drop}
-use Rattle.std.specs.List.{flat_map}
 use Rattle.gql_schema.specs.RecursiveDirectiveDefinition.{directive_edges}
 use Rattle.gql_schema.proofs.recursive_directive_definition.definition_rows.Given as goal
 

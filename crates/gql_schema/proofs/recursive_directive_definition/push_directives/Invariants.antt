@@ -1,5 +1,4 @@
-use Rattle.std.proofs.Common.{◌≡◌, ◌++◌, map, drop}
-use Rattle.std.specs.List.{flat_map}
+use Rattle.std.proofs.Common.{◌≡◌, ◌++◌, drop}
 use Rattle.gql_schema.specs.RecursiveDirectiveDefinition.{directive_nodes}
 use Rattle.gql_schema.proofs.recursive_directive_definition.push_directives.Given as goal
 

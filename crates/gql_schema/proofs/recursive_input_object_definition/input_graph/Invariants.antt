@@ -1,5 +1,4 @@
 use Rattle.std.proofs.Common.{◌≡◌, ◌++◌, map, drop}
-use Rattle.std.specs.List.{flat_map}
 use Rattle.gql_schema.specs.RecursiveInputObjectDefinition.{input_edges, input_graph}
 use Rattle.gql_schema.proofs.recursive_input_object_definition.input_graph.Given as goal
 

@@ -1,5 +1,4 @@
 use Rattle.std.proofs.Common.{◌≡◌, ◌++◌, map, drop}
-use Rattle.std.specs.List.{flat_map}
 use Rattle.gql_schema.specs.RecursiveInterfaceDefinition.{interface_edges, interface_graph}
 use Rattle.gql_schema.proofs.recursive_interface_definition.interface_graph.Given as goal
 

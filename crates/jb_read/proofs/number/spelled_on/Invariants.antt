@@ -1,4 +1,4 @@
-use Rattle.std.proofs.Common.{◌≡◌, ◌≤◌, length, drop, ℕ}
+use Rattle.std.proofs.Common.{◌≡◌, drop, ℕ}
 use Rattle.jb_read.specs.Numbers.{digits_from, within}
 use Rattle.jb_read.proofs.number.spelled_on.Given as goal
 

@@ -1,4 +1,4 @@
-use Rattle.std.proofs.Common.{◌≡◌, ◌≤◌, ◌<◌, ◌^◌, length, drop}
+use Rattle.std.proofs.Common.{◌≡◌, drop}
 use Rattle.jb_read.specs.Numbers.{digits_from}
 use Rattle.jb_read.proofs.number.spelled_safely.Given as goal
 

@@ -1,7 +1,4 @@
-use Rattle.std.proofs.Common.{pos, codes}
-use Rattle.jb_tree.specs.declared.value.Value.{Number}
 use Rattle.jb_print.specs.Compact.{compact}
-use Rattle.jb_print.specs.Quoted.{quoted}
 use Rattle.jb_print.proofs.Compacts.{compact-Object}
 use Rattle.gql_response.proofs.Texts.{two_members}
 use Rattle.gql_response.proofs.location.LineColumnPrinted.append.Goals as goal

@@ -2,7 +2,7 @@
 use Rattle.std.proofs.Common.{◌≡◌, sym, subst, ◌∙◌}
 use Rattle.std.specs.Str.{IsUtf8}
 use Rattle.gql_cst.specs.Parses.{IsParse}
-use Rattle.gql_syntax_tool.specs.Reply.{limits, Accepts, Refuses, no_text, broken}
+use Rattle.gql_syntax_tool.specs.Reply.{limits, Refuses, no_text, broken}
 use Rattle.gql_syntax_tool.specs.Start.{rule_of}
 use Rattle.gql_syntax_tool.proofs.reply.StartCommand.reply.Goals as goal
 
