@@ -72,6 +72,7 @@ pub enum DirectiveLocation {
 impl DirectiveLocation {
     /// The word that names the place in texts and in introspection: `FIELD_DEFINITION`, for example.
     #[must_use]
+    #[tactic(auto, unfolding(crate::specs::Schemas::location_word))]
     pub fn name(self) -> &'static str
         ensures name { result.now ≡ spec.location_name self }
         ensures back { spec.location_word result.now ≡ Some self }

@@ -25,7 +25,8 @@ use Rattle.gql_schema_types.specs.Types.{type_called, is_composite}
 use Rattle.gql_schema_types.specs.declared.schema.Schema.{Schema}
 use Rattle.gql_schema_types.specs.declared.types.ExtendedType.{ExtendedType}
 use Rattle.gql_coerce_laws.specs.Inputs.{is_input, is_input_type}
-use Rattle.gql_coerce_laws.proofs.Empty.{front_empty, back_empty, not_told, not_false, each_empty}
+use Rattle.gql_parser.proofs.Kept.{back_empty, front_empty}
+use Rattle.gql_coerce_laws.proofs.Empty.{not_told, not_false, each_empty}
 
 -- ---- the rules on single nodes find nothing
 

@@ -1,17 +1,10 @@
 -- Lists of faults that are empty.
-use Rattle.std.proofs.Common.{◌≡◌, ℕ, Bool, true, false, not, cond, Some, List, [], ◌∷◌, ◌++◌, flat_map, zero, suc, refl, subst, arith, All}
+use Rattle.std.proofs.Common.{◌≡◌, ℕ, Bool, true, false, not, cond, Some, List, [], ◌∷◌, flat_map, zero, suc, refl, subst, arith, All}
 use Rattle.gql_ast_base.specs.Names.{Named}
 use Rattle.gql_diag_messages.specs.declared.diagnostic_data.DiagnosticData.{DiagnosticData}
 use Rattle.gql_rules_base.specs.Faults.{only_if}
 use Rattle.gql_schema_types.specs.Entries.{is_called, entry}
-
-pub front_empty : {X : Type 0} (xs ys : List X) → xs ++ ys ≡ [] → xs ≡ []
-front_empty [] ys none = refl
-front_empty (x ∷ xs) ys none = absurd cc
-
-pub back_empty : {X : Type 0} (xs ys : List X) → xs ++ ys ≡ [] → ys ≡ []
-back_empty [] ys none = none
-back_empty (x ∷ xs) ys none = absurd cc
+use Rattle.gql_parser.proofs.Kept.{back_empty, front_empty}
 
 pub not_told : (b : Bool) (told : DiagnosticData) → only_if b told ≡ [] → b ≡ false
 not_told true told none = absurd cc

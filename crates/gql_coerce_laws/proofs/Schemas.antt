@@ -50,7 +50,8 @@ use Rattle.gql_parser.specs.SchemaText.{SchemaText, AreDefinitions, all_of, its_
 use Rattle.gql_parser.proofs.Scalars.{scalar-scalar}
 use Rattle.gql_coerce.specs.InputTypes.{as_input_object}
 use Rattle.gql_coerce_laws.specs.Inputs.{is_input, IsInputField, AreInputFields}
-use Rattle.gql_coerce_laws.proofs.Empty.{front_empty, back_empty, not_told, not_false, each_empty, of_entry}
+use Rattle.gql_parser.proofs.Kept.{back_empty, front_empty}
+use Rattle.gql_coerce_laws.proofs.Empty.{not_told, not_false, each_empty, of_entry}
 use Rattle.gql_coerce_laws.proofs.Fields.{IsUsers, OfType, OfSystem, of-types, of-definitions, of-built_in}
 use Rattle.gql_coerce_laws.proofs.Settled.{AreThere, any-at, settled-there, before-settled}
 

@@ -49,7 +49,11 @@ module _ (fragments : List Fragment) where
 abbrev pub spread_graph : List Fragment → Graph
 spread_graph fragments = map (spreads_in fragments) fragments
 
+-- no fragment leads back to itself: section 5.5.2.2
+abbrev pub AreAcyclic : List Fragment → Type 0
+AreAcyclic fragments = (v : ℕ) → IsOnCycle (spread_graph fragments) v → ⊥
+
 -- exactly where no fragment leads back to itself
 pub record TellsAcyclic (fragments : List Fragment) (acyclic : Bool) : Type 0 where
-  pub none : acyclic ≡ true → (v : ℕ) → IsOnCycle (spread_graph fragments) v → ⊥
+  pub none : acyclic ≡ true → AreAcyclic fragments
   pub some : acyclic ≡ false → (v : ℕ) × IsOnCycle (spread_graph fragments) v

@@ -1,12 +1,11 @@
 //! An operation that names no fragments.
 
-ghost use Rattle.std.specs.Prelude.{◌≡◌, ◌≤◌, ℕ, IfErr, IfOk, OnOk};
+ghost use Rattle.std.specs.Prelude.{◌≡◌, ◌≤◌, IfErr, IfOk, OnOk};
 ghost use Rattle.gql_document_types.specs.Contents.{HaveContents};
 ghost use Rattle.gql_document_types.specs.Count.{count};
 ghost use Rattle.gql_document_types.specs.Expanded.{expanded, expanded_operation};
 ghost use Rattle.gql_document_types.specs.Refusal.{IsTooLarge};
-ghost use Rattle.gql_document_types.specs.Spreads.{spread_graph};
-ghost use Rattle.gql_rules_graph.specs.Cycles.{IsOnCycle};
+ghost use Rattle.gql_document_types.specs.Spreads.{AreAcyclic};
 
 use crate::counting::fits;
 use crate::document::ExecutableDocument;
@@ -42,7 +41,7 @@ pub fn expand_fragments(
     operation: &Operation,
     limit: usize,
 ) -> Result<Operation, Refused<ExpandFault>>
-    requires acyclic { (v : ℕ) → IsOnCycle (spread_graph document.now.fragments) v → ⊥ }
+    requires acyclic { AreAcyclic document.now.fragments }
     ensures made { IfOk result (λ made. made ≡ expanded_operation document.now.fragments operation.now) }
     ensures within { OnOk result (count (expanded document.now.fragments operation.now.selection_set.selections) ≤ limit) }
     ensures refused { IfErr result (IsTooLarge document.now.fragments operation.now.selection_set.selections limit) }

@@ -1,23 +1,22 @@
 //! Laws of expansion.
 
-ghost use Rattle.std.specs.Prelude.{◌≡◌, ℕ, List, [], ◌∷◌};
+ghost use Rattle.std.specs.Prelude.{◌≡◌, List, [], ◌∷◌};
 ghost use Rattle.gql_document_types.specs.Contents.{HaveContents};
 ghost use Rattle.gql_document_types.specs.Count.{count};
 ghost use Rattle.gql_document_types.specs.Expanded.{expanded, in_place};
 ghost use Rattle.gql_document_types.specs.OneSpread.{IsOneSpread};
-ghost use Rattle.gql_document_types.specs.Spreads.{spread_graph};
+ghost use Rattle.gql_document_types.specs.Spreads.{AreAcyclic};
 ghost use Rattle.gql_document_types.specs.declared.fragment.Fragment.{Fragment};
 ghost use Rattle.gql_document_types.specs.declared.selection.Field.{Field};
 ghost use Rattle.gql_document_types.specs.declared.selection.FragmentSpread.{FragmentSpread};
 ghost use Rattle.gql_document_types.specs.declared.selection.Selection.TheVariants as selection;
-ghost use Rattle.gql_rules_graph.specs.Cycles.{IsOnCycle};
 
 use gql_rules_graph::laws as graph_laws;
 
 /// Where no fragment leads back to itself, what stands for a fragment is what its own selections are expanded to: no spread in
 /// it is left out for want of room (GraphQL October 2021, section 5.5.2.2).
 pub fn acyclic_fragments_have_contents()
-    ensures { (fragments : List Fragment) → ((v : ℕ) → IsOnCycle (spread_graph fragments) v → ⊥) → HaveContents fragments }
+    ensures { (fragments : List Fragment) → AreAcyclic fragments → HaveContents fragments }
 {
     graph_laws::acyclic_graphs_have_ranks();
 }

@@ -2,7 +2,7 @@
 
 ghost use Rattle.std.specs.Prelude.{◌≡◌, [], ◌∷◌, ◌↔◌, ℕ, List};
 ghost use Rattle.gql_document_types.specs.Expanded.{expanded};
-ghost use Rattle.gql_document_types.specs.Spreads.{spread_graph};
+ghost use Rattle.gql_document_types.specs.Spreads.{AreAcyclic};
 ghost use Rattle.gql_document_types.specs.declared.fragment.Fragment.{Fragment};
 ghost use Rattle.gql_document_types.specs.declared.selection.Selection.{Selection};
 ghost use Rattle.gql_exec_fields.specs.Request.{Request};
@@ -18,7 +18,6 @@ ghost use Rattle.gql_exec_resolve.specs.Trail.{Trail};
 ghost use Rattle.gql_exec_plan.specs.Sizes.{outer_size, size};
 ghost use Rattle.gql_exec_plan.specs.Standing.{fields_in};
 ghost use Rattle.gql_response.specs.declared.execution_response.ExecutionResponse.{ExecutionResponse};
-ghost use Rattle.gql_rules_graph.specs.Cycles.{IsOnCycle};
 ghost use Rattle.gql_schema_types.specs.declared.types.ObjectType.{ObjectType};
 
 use gql_document_types::laws as expansion_laws;
@@ -29,12 +28,12 @@ use gql_rules_graph::laws as graph_laws;
 /// or in one of other fragments or of none. No fragment may lead back to itself.
 pub fn expansion_changes_nothing<X>()
     ensures made { (r : Request X) (others : List Fragment)
-        → ((v : ℕ) → IsOnCycle (spread_graph r.fragments) v → ⊥) → ((v : ℕ) → IsOnCycle (spread_graph others) v → ⊥)
+        → AreAcyclic r.fragments → AreAcyclic others
         → (depth : ℕ) (U : ObjectType) (x : X) (outer : Trail) (selections : List Selection)
         → execute (plain_world (among others r)) depth U x outer (expanded r.fragments selections ∷ [])
         ≡ execute (plain_world r) depth U x outer (selections ∷ []) }
     ensures response { (r : Request X) (others : List Fragment)
-        → ((v : ℕ) → IsOnCycle (spread_graph r.fragments) v → ⊥) → ((v : ℕ) → IsOnCycle (spread_graph others) v → ⊥)
+        → AreAcyclic r.fragments → AreAcyclic others
         → (root : ObjectType) (initial : X) (selections : List Selection) (response : ExecutionResponse)
         → IsExecuted (among others r) root initial (expanded r.fragments selections) response ↔ IsExecuted r root initial selections response }
 {

@@ -1,12 +1,11 @@
 //! The check of an operation's depth.
 
-ghost use Rattle.std.specs.Prelude.{◌<◌, ◌≤◌, ◌+◌, ℕ, IfErr, IfOk, MatchOption, OnOk};
-ghost use Rattle.gql_document_types.specs.Spreads.{spread_graph};
+ghost use Rattle.std.specs.Prelude.{◌<◌, ◌≤◌, ◌+◌, IfErr, IfOk, MatchOption, OnOk};
+ghost use Rattle.gql_document_types.specs.Spreads.{AreAcyclic};
 ghost use Rattle.gql_exec_plan.specs.Check.{total, total_fragments};
 ghost use Rattle.gql_exec_plan.specs.Expanded.{expanded_depth};
 ghost use Rattle.gql_exec_plan.specs.Refusal.{IsFoundDeep, IsTooDeep};
 ghost use Rattle.gql_exec_plan.specs.View.{fragments_nested, nested};
-ghost use Rattle.gql_rules_graph.specs.Cycles.{IsOnCycle};
 
 use crate::depth::DepthCheck;
 use crate::steps::Steps;
@@ -38,7 +37,7 @@ pub fn check_max_depth<L: Ledger>(
     operation: &Operation,
     steps: &mut Steps<L>,
 ) -> Result<(), Refused<RequestError>>
-    requires acyclic { (v : ℕ) → IsOnCycle (spread_graph document.now.fragments) v → ⊥ }
+    requires acyclic { AreAcyclic document.now.fragments }
     ensures accepted { OnOk result (expanded_depth (fragments_nested document.now.fragments) (nested document.now.fragments operation.now.selection_set.selections) < 3) }
     ensures refused { IfErr result (IsTooDeep document.now.fragments operation.now.selection_set.selections) }
     ensures looks { steps.new ≤ steps.old +
@@ -63,7 +62,7 @@ fn found_deep<L: Ledger>(
     selections: &Listed<Selection>,
     steps: &mut Steps<L>,
 ) -> Result<Option<Option<SourceSpan>>, Memory>
-    requires acyclic { (v : ℕ) → IsOnCycle (spread_graph fragments.now) v → ⊥ }
+    requires acyclic { AreAcyclic fragments.now }
     ensures found { IfOk result (λ found. MatchOption found
         (expanded_depth (fragments_nested fragments.now) (nested fragments.now selections.now) < 3)
         (IsFoundDeep fragments.now selections.now)) }

@@ -1,12 +1,11 @@
 //! Executions, and how they are told what they are of.
 
-ghost use Rattle.std.specs.Prelude.{◌≡◌, ◌<◌, ℕ};
+ghost use Rattle.std.specs.Prelude.{◌≡◌, ◌<◌};
 ghost use Rattle.gql_document_types.specs.ChosenOperation.{text_of};
-ghost use Rattle.gql_document_types.specs.Spreads.{spread_graph};
+ghost use Rattle.gql_document_types.specs.Spreads.{AreAcyclic};
 ghost use Rattle.gql_exec_request.specs.Execution as spec;
 ghost use Rattle.gql_exec_request.specs.Running.{AnswersWritten};
 ghost use Rattle.gql_exec_request.specs.declared.execution.Given.TheVariants as given;
-ghost use Rattle.gql_rules_graph.specs.Cycles.{IsOnCycle};
 
 use crate::written_response::{WrittenResponse, written};
 use gql_document_types::{ExecutableDocument, Operation};
@@ -152,7 +151,7 @@ impl<'a> Execution<'a> {
         alloc: Global,
         initial: &O,
     ) -> Result<ExecutionResponse, Refused<RequestError>>
-        requires acyclic { (v : ℕ) → IsOnCycle (spread_graph self.now.document.now.fragments) v → ⊥ }
+        requires acyclic { AreAcyclic self.now.document.now.fragments }
         ensures { spec.Answers self.now O.type_of O.resolves (O.seen initial.now) result }
     {
         self.execute_alone::<O, Brand>(alloc, initial, Blank::new(1))
@@ -165,7 +164,7 @@ impl<'a> Execution<'a> {
         initial: &O,
         blank: Blank,
     ) -> Result<ExecutionResponse, Refused<RequestError>>
-        requires acyclic { (v : ℕ) → IsOnCycle (spread_graph self.now.document.now.fragments) v → ⊥ }
+        requires acyclic { AreAcyclic self.now.document.now.fragments }
         requires name { blank.name ≡ L.name }
         requires parts { blank.parts ≡ L.parts }
         requires some { 0 < blank.parts }
@@ -189,7 +188,7 @@ impl<'a> Execution<'a> {
         initial: &O,
         steps: &mut Steps<L>,
     ) -> Result<ExecutionResponse, Refused<RequestError>>
-        requires acyclic { (v : ℕ) → IsOnCycle (spread_graph self.now.document.now.fragments) v → ⊥ }
+        requires acyclic { AreAcyclic self.now.document.now.fragments }
         ensures answer { spec.Answers self.now O.type_of O.resolves (O.seen initial.now) result }
         ensures looks { spec.Counts self.now O.type_of O.resolves (O.seen initial.now) steps.old steps.new result }
     {
@@ -214,7 +213,7 @@ impl<'a> Execution<'a> {
         initial: &O,
         steps: &mut Steps<L>,
     ) -> Result<WrittenResponse, Refused<RequestError>>
-        requires acyclic { (v : ℕ) → IsOnCycle (spread_graph self.now.document.now.fragments) v → ⊥ }
+        requires acyclic { AreAcyclic self.now.document.now.fragments }
         ensures { AnswersWritten self.now O.type_of O.resolves (O.seen initial.now) steps.old steps.new result }
     {
         let mut out = TextOutput::new(alloc)?;

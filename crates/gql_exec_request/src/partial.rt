@@ -1,9 +1,7 @@
 //! The part of an operation that tells of the schema alone.
 
-ghost use Rattle.std.specs.Prelude.{ℕ};
-ghost use Rattle.gql_document_types.specs.Spreads.{spread_graph};
+ghost use Rattle.gql_document_types.specs.Spreads.{AreAcyclic};
 ghost use Rattle.gql_exec_request.specs.Partial as spec;
-ghost use Rattle.gql_rules_graph.specs.Cycles.{IsOnCycle};
 
 use crate::execution::Execution;
 use gql_document_types::{ExecutableDocument, Operation};
@@ -57,7 +55,7 @@ pub fn partial_execute(
     operation: &Operation,
     variable_values: &Valid<JsonMap>,
 ) -> Result<ExecutionResponse, Refused<RequestError>>
-    requires acyclic { (v : ℕ) → IsOnCycle (spread_graph document.now.fragments) v → ⊥ }
+    requires acyclic { AreAcyclic document.now.fragments }
     ensures { spec.IsPartial schema.now document.now operation.now variable_values.now result }
 {
     Execution::new(schema, document)

@@ -1,9 +1,9 @@
 //! How executions run: what refuses them, and else the cycle from the root.
 
-ghost use Rattle.std.specs.Prelude.{ℕ, Err, Ok, IfOk};
+ghost use Rattle.std.specs.Prelude.{Err, Ok, IfOk};
 ghost use Rattle.gql_coerce.specs.Outcome.{told_as};
 ghost use Rattle.gql_coerce.specs.Variables.{coerced_variables};
-ghost use Rattle.gql_document_types.specs.Spreads.{spread_graph};
+ghost use Rattle.gql_document_types.specs.Spreads.{AreAcyclic};
 ghost use Rattle.gql_exec_request.specs.Thing.{of_user, type_of_thing};
 ghost use Rattle.gql_exec_request.specs.ThingMeaning.{thing_meaning};
 ghost use Rattle.gql_exec_request.specs.Execution as spec;
@@ -12,7 +12,6 @@ ghost use Rattle.gql_exec_fields.specs.Output.{AreWritten, Finds};
 ghost use Rattle.gql_exec_request.specs.Running.{IsRun, Runs, RunsOver, response_of};
 ghost use Rattle.gql_exec_plan.specs.RequestErrors.{request_error};
 ghost use Rattle.gql_exec_fields.specs.Response.{IsExecuted, IsExplained};
-ghost use Rattle.gql_rules_graph.specs.Cycles.{IsOnCycle};
 
 use crate::executed::Executed;
 use crate::execution::{Execution, Given};
@@ -37,7 +36,7 @@ impl<'a> Execution<'a> {
         steps: &mut Steps<L>,
         out: &mut M,
     ) -> Result<Executed<M::Members>, Refused<RequestError>>
-        requires { (v : ℕ) → IsOnCycle (spread_graph self.now.document.now.fragments) v → ⊥ }
+        requires { AreAcyclic self.now.document.now.fragments }
         ensures { Runs (AreWritten M.are_members out.old out.new) self.now O.type_of O.resolves (O.seen initial.now) steps.old steps.new result }
     {
         if self.introspection {
@@ -55,7 +54,7 @@ impl<'a> Execution<'a> {
         steps: &mut Steps<L>,
         out: &mut M,
     ) -> Result<Executed<M::Members>, Refused<RequestError>>
-        requires { (v : ℕ) → IsOnCycle (spread_graph self.now.document.now.fragments) v → ⊥ }
+        requires { AreAcyclic self.now.document.now.fragments }
         ensures { RunsOver (AreWritten M.are_members out.old out.new) self.now (type_of_thing O.type_of) (thing_meaning O.resolves) (of_user self.now.schema.now (O.seen initial.now)) steps.old steps.new result }
     {
         let root = Introspected::root(self.schema, initial);
@@ -70,7 +69,7 @@ impl<'a> Execution<'a> {
         steps: &mut Steps<L>,
         out: &mut M,
     ) -> Result<Executed<M::Members>, Refused<RequestError>>
-        requires { (v : ℕ) → IsOnCycle (spread_graph self.now.document.now.fragments) v → ⊥ }
+        requires { AreAcyclic self.now.document.now.fragments }
         ensures { RunsOver (AreWritten M.are_members out.old out.new) self.now O.type_of O.resolves (O.seen initial.now) steps.old steps.new result }
     {
         match self.operation {
@@ -91,7 +90,7 @@ impl<'a> Execution<'a> {
         steps: &mut Steps<L>,
         out: &mut M,
     ) -> Result<Executed<M::Members>, Refused<RequestError>>
-        requires { (v : ℕ) → IsOnCycle (spread_graph self.now.document.now.fragments) v → ⊥ }
+        requires { AreAcyclic self.now.document.now.fragments }
         ensures { IsRun (AreWritten M.are_members out.old out.new) self.now O.type_of O.resolves (O.seen initial.now) steps.old steps.new
             (spec.of_operation self.now.schema.now self.now.given operation.now) result }
     {
@@ -112,7 +111,7 @@ impl<'a> Execution<'a> {
         steps: &mut Steps<L>,
         out: &mut M,
     ) -> Result<Executed<M::Members>, Refused<RequestError>>
-        requires { (v : ℕ) → IsOnCycle (spread_graph self.now.document.now.fragments) v → ⊥ }
+        requires { AreAcyclic self.now.document.now.fragments }
         ensures { IsRun (AreWritten M.are_members out.old out.new) self.now O.type_of O.resolves (O.seen initial.now) steps.old steps.new
             (spec.with_variables operation.now root.now (spec.variables_of self.now.schema.now operation.now self.now.given)) result }
     {
@@ -141,7 +140,7 @@ impl<'a> Execution<'a> {
         steps: &mut Steps<L>,
         out: &mut M,
     ) -> Result<Executed<M::Members>, Refused<RequestError>>
-        requires { (v : ℕ) → IsOnCycle (spread_graph self.now.document.now.fragments) v → ⊥ }
+        requires { AreAcyclic self.now.document.now.fragments }
         ensures { IsRun (AreWritten M.are_members out.old out.new) self.now O.type_of O.resolves (O.seen initial.now) steps.old steps.new
             (spec.with_variables operation.now root.now (told_as request_error (coerced_variables self.now.schema.now.types operation.now.variables values.now))) result }
     {
@@ -162,7 +161,7 @@ impl<'a> Execution<'a> {
         steps: &mut Steps<L>,
         out: &mut M,
     ) -> Result<Executed<M::Members>, Refused<RequestError>>
-        requires { (v : ℕ) → IsOnCycle (spread_graph self.now.document.now.fragments) v → ⊥ }
+        requires { AreAcyclic self.now.document.now.fragments }
         ensures { IsRun (AreWritten M.are_members out.old out.new) self.now O.type_of O.resolves (O.seen initial.now) steps.old steps.new
             (spec.with_variables operation.now root.now (Ok values.now)) result }
     {
@@ -187,7 +186,7 @@ impl<'a> Execution<'a> {
         steps: &mut Steps<L>,
         out: &mut M,
     ) -> Result<Executed<M::Members>, Memory>
-        requires { (v : ℕ) → IsOnCycle (spread_graph self.now.document.now.fragments) v → ⊥ }
+        requires { AreAcyclic self.now.document.now.fragments }
         ensures { IfOk result (λ executed. Finds (AreWritten M.are_members out.old out.new executed.members) (λ found.
             let r = spec.request_in self.now variables.now O.type_of O.resolves in
             let response = response_of executed found in

@@ -6,7 +6,6 @@ mod Shallow
 mod BuiltInText
 mod Marks
 mod One
-mod SchemaOneError
 mod SchemaPhases
 pub mod SchemaKept
 pub mod Scalars
@@ -23,7 +22,7 @@ mod Found
 mod SelectedSets
 mod Definitions
 pub mod Made
-mod Kept
+pub mod Kept
 mod Operations
 mod Documents
 mod Mixed

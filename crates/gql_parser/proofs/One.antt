@@ -17,10 +17,11 @@ use Rattle.gql_schema.specs.Scalars.{validated}
 use Rattle.gql_schema.specs.SchemaFaults.{AreSchemaFaults}
 use Rattle.gql_schema_types.specs.declared.schema.Schema.{Schema}
 use Rattle.gql_source.specs.declared.file_id.FileId.{FileId}
-use Rattle.gql_parser.specs.SchemaFaults.{SchemaFaults, no_sentence, no_build, broken, all_files, IsListOf, StopsAt}
+use Rattle.gql_parser.specs.SchemaFaults.{SchemaFaults, no_sentence, no_build, broken, all_files, IsListOf}
+use Rattle.gql_parser.specs.Sentences.{StopsAt}
 use Rattle.gql_parser.specs.SchemaText.{AreDefinitions, SchemaText, all_of, its_given}
 use Rattle.gql_parser.proofs.Marks.{one_list}
-use Rattle.gql_parser.proofs.SchemaOneError.{OneStands, WordsLaw, one_error}
+use Rattle.gql_parser.proofs.OneError.{OneStands, WordsLaw, one_error}
 
 abbrev pub OneDocument : Type 0
 OneDocument = (text : List ℕ) (file : FileId) (one other : List Definition) → IsDocumentOf text file one → IsDocumentOf text file other → one ≡ other
@@ -64,7 +65,7 @@ one_sorted law text faults found one other same h k =
     let items : one.items ≡ other.items = law found one.items other.items (subst (λ (l : List DiagnosticData). IsStableSort list_order l one.items) same h.items) k.items in
     λ i. record { sources = sources i; items = items i }
 
-one_stop : OneStands → WordsLaw → (text : List ℕ) (one other : CstError) → StopsAt text one → StopsAt text other → one ≡ other
+pub one_stop : OneStands → WordsLaw → (text : List ℕ) (one other : CstError) → StopsAt text one → StopsAt text other → one ≡ other
 one_stop stands words text one other h k =
     let e : Some one ≡ Some other = sym h.stands ∙ one_error stands words rule.Document text 500 h.parsed k.parsed h.parse k.parse ∙ k.stands in cc
 

@@ -1,5 +1,5 @@
 -- A text means one document at most against a schema, and none where something is wrong with it.
-use Rattle.std.proofs.Common.{◌≡◌, ℕ, List, [], ◌∷◌, Some, refl, sym, ◌∙◌, ap, subst, arith}
+use Rattle.std.proofs.Common.{◌≡◌, ℕ, List, [], ◌∷◌, refl, sym, ◌∙◌, ap, subst, arith}
 use Rattle.std.specs.List.Sorted.{IsPermutation, IsSorted}
 use Rattle.std.proofs.lemmas.List.Sorted.{IsPermutation-refl, IsPermutation-sym, IsPermutation-trans}
 use Rattle.gql_ast.specs.declared.definition.Definition.{Definition}
@@ -16,10 +16,12 @@ use Rattle.gql_parser.specs.Parsers.{its_file}
 use Rattle.gql_rules.specs.DocumentFaults.{AreDocumentFaults}
 use Rattle.gql_schema_types.specs.declared.schema.Schema.{Schema}
 use Rattle.gql_source.specs.declared.file_id.FileId.{FileId}
-use Rattle.gql_parser.specs.DocumentFaults.{DocumentFaults, no_sentence, no_build, broken, IsListOf, StopsAt}
+use Rattle.gql_parser.specs.DocumentFaults.{DocumentFaults, no_sentence, no_build, broken, IsListOf}
+use Rattle.gql_parser.specs.Sentences.{StopsAt}
 use Rattle.gql_parser.specs.DocumentText.{AreDefinitions, DocumentText, all_of, its_given}
 use Rattle.gql_parser.specs.SameFaults.{TellTheSame}
-use Rattle.gql_parser.proofs.OneError.{OneStands, WordsLaw, one_error}
+use Rattle.gql_parser.proofs.One.{one_stop}
+use Rattle.gql_parser.proofs.OneError.{OneStands, WordsLaw}
 use Rattle.gql_parser.proofs.OneTelling.{faults_once}
 use Rattle.gql_parser.proofs.Phases.{empty_back}
 use Rattle.gql_parser.proofs.Tied.{same_listing}
@@ -63,10 +65,6 @@ told_alike text faults found one other same h k =
 itself_alike : (list : Diagnostics) → IsSorted list_order list.items → TellTheSame list list
 itself_alike list sorted =
     record { sources = refl; items = IsPermutation-refl list.items; places = same_listing list.items list.items (IsPermutation-refl list.items) sorted sorted }
-
-one_stop : OneStands → WordsLaw → (text : List ℕ) (one other : CstError) → StopsAt text one → StopsAt text other → one ≡ other
-one_stop stands words text one other h k =
-    let e : Some one ≡ Some other = sym h.stands ∙ one_error stands words rule.Document text 500 h.parsed k.parsed h.parse k.parse ∙ k.stands in cc
 
 stopped_alike : OneStands → WordsLaw → (text : List ℕ) (one other : CstError) → StopsAt text one → StopsAt text other → TellTheSame (list_of (its_given text) one) (list_of (its_given text) other)
 stopped_alike stands words text one other h k =

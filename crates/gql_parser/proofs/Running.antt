@@ -11,7 +11,7 @@ use Rattle.gql_document_build.specs.Build.{built_operation, built_operations, op
 use Rattle.gql_document_build.specs.Builders.{Taken}
 use Rattle.gql_document_build.specs.OperationNameCollision.{first_operations}
 use Rattle.gql_document_build.specs.UndefinedRootOperation.{root_type}
-use Rattle.gql_document_types.specs.Spreads.{spread_graph, spreads_in}
+use Rattle.gql_document_types.specs.Spreads.{spread_graph, spreads_in, AreAcyclic}
 use Rattle.gql_document_types.specs.declared.document.ExecutableDocument.{ExecutableDocument}
 use Rattle.gql_document_types.specs.declared.fragment.Fragment.{Fragment}
 use Rattle.gql_exec_plan.specs.Ranks.{AreRanked}
@@ -66,7 +66,7 @@ none_marked fragments recursive nexts v (x ∷ xs) none u (suc k) is inside =
     (back_none (only_if (is_marked recursive v) (recursive_fault fragments nexts v x)) (recursive_from fragments recursive nexts (v + 1) xs) none)
     u k (omega (arith, is)) (omega (arith, inside))
 
-no_cycle : (fragments : List Fragment) → AreRecursive fragments [] → (v : ℕ) → IsOnCycle (spread_graph fragments) v → ⊥
+no_cycle : (fragments : List Fragment) → AreRecursive fragments [] → AreAcyclic fragments
 no_cycle fragments are v cycle =
     let nexts = first_recursive (spread_graph fragments) are.recursive in
     let none : recursive_from fragments are.recursive nexts 0 fragments ≡ [] =
@@ -77,7 +77,7 @@ no_cycle fragments are v cycle =
     none_marked fragments are.recursive nexts 0 fragments none v v (omega arith) (omega (arith, inside, length-map fragments (spreads_in fragments))) in
     let e : true ≡ false = sym marked ∙ unmarked in absurd cc
 
-pub acyclic : (schema : Schema) (text : List ℕ) (document : ExecutableDocument) → DocumentText schema text document → (v : ℕ) → IsOnCycle (spread_graph document.fragments) v → ⊥
+pub acyclic : (schema : Schema) (text : List ℕ) (document : ExecutableDocument) → DocumentText schema text document → AreAcyclic document.fragments
 acyclic schema text document means = no_cycle document.fragments (none_recursive schema document means.holds)
 
 abbrev pub RanksLaw : Type 0

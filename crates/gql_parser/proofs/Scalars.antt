@@ -18,18 +18,10 @@ use Rattle.gql_schema_types.specs.Entries.{is_called, entry}
 use Rattle.gql_schema_types.specs.Types.{type_name, type_called, as_object}
 use Rattle.gql_schema_types.specs.declared.types.ExtendedType.TheVariants as made
 use Rattle.gql_schema_types.specs.declared.types.ScalarType.{ScalarType}
+use Rattle.gql_schema_build.proofs.Whole.{built_name, extended_name}
 use Rattle.gql_schema_types.proofs.Entries.{entry-front, joined-first}
 
--- ---- extensions keep the name and the kind
-
-kept_name : (d : TypeDefinition) (e : TypeExtension) → definition_name (extended d e) ≡ definition_name d
-kept_name (type.Scalar d) (extension.Scalar e) = refl
-kept_name (type.Object d) (extension.Object e) = refl
-kept_name (type.Interface d) (extension.Interface e) = refl
-kept_name (type.Union d) (extension.Union e) = refl
-kept_name (type.Enum d) (extension.Enum e) = refl
-kept_name (type.InputObject d) (extension.InputObject e) = refl
-kept_name d e = refl
+-- ---- extensions keep the kind
 
 kept_kind : (d : TypeDefinition) (e : TypeExtension) → is_scalar (extended d e) ≡ is_scalar d
 kept_kind (type.Scalar d) (extension.Scalar e) = refl
@@ -40,21 +32,9 @@ kept_kind (type.Enum d) (extension.Enum e) = refl
 kept_kind (type.InputObject d) (extension.InputObject e) = refl
 kept_kind d e = refl
 
-all_names : (es : List TypeExtension) (d : TypeDefinition) → definition_name (fold extended d es) ≡ definition_name d
-all_names [] d = refl
-all_names (e ∷ es) d = all_names es (extended d e) ∙ kept_name d e
-
 all_kinds : (es : List TypeExtension) (d : TypeDefinition) → is_scalar (fold extended d es) ≡ is_scalar d
 all_kinds [] d = refl
 all_kinds (e ∷ es) d = all_kinds es (extended d e) ∙ kept_kind d e
-
-built_name : (d : TypeDefinition) → type_name (built d) ≡ definition_name d
-built_name (type.Scalar d) = refl
-built_name (type.Object d) = refl
-built_name (type.Interface d) = refl
-built_name (type.Union d) = refl
-built_name (type.Enum d) = refl
-built_name (type.InputObject d) = refl
 
 as_scalar : (d : TypeDefinition) → is_scalar d ≡ true → (it : ScalarType) × (built d ≡ made.Scalar it)
 as_scalar (type.Scalar d) scalar = (_, refl)
@@ -68,7 +48,7 @@ as_scalar (type.InputObject d) scalar = absurd cc
 
 module _ (es : List TypeExtension) (name : List ℕ) where
   whole_name : (d : TypeDefinition) → type_name (built (all_extended es d)) ≡ definition_name d
-  whole_name d = built_name (all_extended es d) ∙ all_names (filter (is_called extension_name (definition_name d).text) es) d
+  whole_name d = built_name (all_extended es d) ∙ extended_name (filter (is_called extension_name (definition_name d).text) es) d
 
   built-entry : (d : TypeDefinition) (fs : List TypeDefinition) → entry definition_name name fs ≡ Some d
       → type_called name (map (λ f. built (all_extended es f)) fs) ≡ Some (built (all_extended es d))

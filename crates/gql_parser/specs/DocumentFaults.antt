@@ -1,31 +1,22 @@
 -- What is wrong with the text of a document against a schema, phase by phase: the first phase that finds something is told.
-use Rattle.std.specs.Prelude.{◌≡◌, ◌≢◌, ℕ, List, [], Some}
-use Rattle.gql_cst.specs.Parses.{IsParse}
-use Rattle.gql_cst.specs.declared.limits.Parsed.{Parsed}
-use Rattle.gql_cst_grammar.specs.declared.rule.Rule.TheVariants.{Document}
+use Rattle.std.specs.Prelude.{◌≡◌, ◌≢◌, ℕ, List, []}
 use Rattle.gql_cst_lexer.specs.declared.error.CstError.{CstError}
 use Rattle.gql_diag.specs.List.{Diagnostics, IsStableSort}
 use Rattle.gql_diag.specs.Order.{list_order}
 use Rattle.gql_diag_messages.specs.declared.diagnostic_data.DiagnosticData.{DiagnosticData}
 use Rattle.gql_document_build.specs.Builders.{Taken, built, all_faults}
 use Rattle.gql_parser.specs.Diagnosed.{list_of}
-use Rattle.gql_parser.specs.Parsers.{fresh, its_file}
+use Rattle.gql_parser.specs.Parsers.{its_file}
+use Rattle.gql_parser.specs.Sentences.{StopsAt}
 use Rattle.gql_rules.specs.DocumentFaults.{AreDocumentFaults}
 use Rattle.gql_schema_types.specs.declared.schema.Schema.{Schema}
-use Rattle.gql_parser.specs.DocumentText.{AreDefinitions, IsSentence, its_given}
+use Rattle.gql_parser.specs.DocumentText.{AreDefinitions, its_given}
 
 -- these diagnostics in the order of lists, with the text's file
 pub record IsListOf (text : List ℕ) (faults : List DiagnosticData) (list : Diagnostics) : Type 0 where
   pub some : faults ≢ []
   pub items : IsStableSort list_order faults list.items
   pub sources : list.sources ≡ its_file (its_given text)
-
--- the text is no sentence, and reading it ends by this error
-pub record StopsAt (text : List ℕ) (error : CstError) : Type 0 where
-  pub none : IsSentence text → ⊥
-  pub parsed : Parsed
-  pub parse : IsParse Document text fresh.limits parsed
-  pub stands : parsed.error ≡ Some error
 
 -- The error that ends the reading, alone; or every fault of the build, where there are some; or else every fault that a rule finds.
 pub data DocumentFaults (schema : Schema) (text : List ℕ) : Diagnostics → Type 0 where

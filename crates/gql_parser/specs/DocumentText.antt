@@ -3,22 +3,17 @@ use Rattle.std.specs.Prelude.{◌≡◌, true, ℕ, List, [], codes}
 use Rattle.gql_ast.specs.declared.definition.Definition.{Definition}
 use Rattle.gql_ast.specs.declared.document.Document.{Document}
 use Rattle.gql_ast_laws.specs.Meant.{IsDocumentOf}
-use Rattle.gql_cst_grammar.specs.declared.rule.Rule.TheVariants as rule
 use Rattle.gql_document_build.specs.Builders.{Taken, with_document, nothing_taken, built, all_faults}
 use Rattle.gql_document_types.specs.declared.document.ExecutableDocument.{ExecutableDocument}
 use Rattle.gql_parser.specs.FileRead.{no_faults}
-use Rattle.gql_parser.specs.Parsers.{Given, fresh, given_next, its_file}
-use Rattle.gql_parser.specs.Readings.{IsSentenceWithin}
+use Rattle.gql_parser.specs.Parsers.{Given, given_next, its_file}
+use Rattle.gql_parser.specs.Sentences.{IsSentence}
 use Rattle.gql_rules.specs.DocumentFaults.{AreDocumentFaults}
 use Rattle.gql_schema_types.specs.declared.schema.Schema.{Schema}
 
 -- the text as the file of number 4
 abbrev pub its_given : List ℕ → Given
 its_given text = given_next 4 (codes "query.graphql") text
-
--- a sentence of the grammar, in which selection sets, values and types are nested at most 500 deep
-abbrev pub IsSentence : List ℕ → Type 0
-IsSentence text = IsSentenceWithin fresh.limits rule.Document text
 
 -- the operations and fragments of a document against a schema, with its file; definitions of a type system are faults
 abbrev pub all_of : Schema → Document → Taken

@@ -21,3 +21,4 @@ pub mod Selecting
 pub mod DocumentAnswers
 pub mod MixedRead
 pub mod MixedBuilt
+pub mod Sentences

@@ -16,8 +16,9 @@ use Rattle.gql_schema_build.specs.declared.built_in.BuiltIn.{BuiltIn}
 use Rattle.gql_schema.specs.Scalars.{validated}
 use Rattle.gql_schema.specs.SchemaFaults.{AreSchemaFaults}
 use Rattle.gql_schema_types.specs.declared.schema.Schema.{Schema}
-use Rattle.gql_parser.specs.SchemaText.{AreDefinitions, IsSentence, SchemaText, all_of, its_given}
-use Rattle.gql_parser.specs.SchemaFaults.{SchemaFaults, StopsAt}
+use Rattle.gql_parser.specs.SchemaText.{AreDefinitions, SchemaText, all_of, its_given}
+use Rattle.gql_parser.specs.SchemaFaults.{SchemaFaults}
+use Rattle.gql_parser.specs.Sentences.{IsSentence, StopsAt}
 
 -- the schema that the text means, or what is wrong with it
 abbrev pub IsSchemaRead : List ℕ → Result Schema (Refused Diagnostics) → Type 0

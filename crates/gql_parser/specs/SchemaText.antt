@@ -1,12 +1,11 @@
 -- What the text of a schema means: sections 2 and 3 of GraphQL October 2021.
 use Rattle.std.specs.Prelude.{◌≡◌, true, ℕ, List, [], codes}
-use Rattle.gql_cst_grammar.specs.declared.rule.Rule.TheVariants as rule
 use Rattle.gql_ast.specs.declared.definition.Definition.{Definition}
 use Rattle.gql_ast.specs.declared.document.Document.{Document}
 use Rattle.gql_ast_laws.specs.Meant.{IsDocumentOf}
 use Rattle.gql_parser.specs.FileRead.{no_faults}
-use Rattle.gql_parser.specs.Parsers.{Given, fresh, given_next, its_file}
-use Rattle.gql_parser.specs.Readings.{IsSentenceWithin}
+use Rattle.gql_parser.specs.Parsers.{Given, given_next, its_file}
+use Rattle.gql_parser.specs.Sentences.{IsSentence}
 use Rattle.gql_schema.specs.BuiltInSchema.{IsBuiltIn, built_in_sources}
 use Rattle.gql_schema.specs.Builders.{Taken, with_document, nothing_taken, built, all_faults}
 use Rattle.gql_schema_build.specs.declared.built_in.BuiltIn.{BuiltIn}
@@ -17,10 +16,6 @@ use Rattle.gql_schema_types.specs.declared.schema.Schema.{Schema}
 -- the text as the file of number 3
 abbrev pub its_given : List ℕ → Given
 its_given text = given_next 3 (codes "schema.graphql") text
-
--- a sentence of the grammar, in which selection sets, values and types are nested at most 500 deep
-abbrev pub IsSentence : List ℕ → Type 0
-IsSentence text = IsSentenceWithin fresh.limits rule.Document text
 
 -- the built-in definitions and those of a document, with their files
 abbrev pub all_of : BuiltIn → Document → Taken

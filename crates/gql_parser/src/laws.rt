@@ -14,10 +14,9 @@ ghost use Rattle.gql_parser.specs.SameFaults.{TellTheSame};
 ghost use Rattle.gql_parser.specs.SchemaFaults.{SchemaFaults};
 ghost use Rattle.gql_parser.specs.SchemaText.{SchemaText};
 ghost use Rattle.gql_parser.specs.Selecting.{SelectSomething};
-ghost use Rattle.gql_document_types.specs.Spreads.{spread_graph};
+ghost use Rattle.gql_document_types.specs.Spreads.{AreAcyclic};
 ghost use Rattle.gql_document_types.specs.declared.document.ExecutableDocument.{ExecutableDocument as DocumentOf};
 ghost use Rattle.gql_exec_plan.specs.Ranks.{AreRanked};
-ghost use Rattle.gql_rules_graph.specs.Cycles.{IsOnCycle};
 ghost use Rattle.gql_schema.specs.BuiltInSchema.{IsBuiltIn, built_in_file};
 ghost use Rattle.gql_schema_build.specs.declared.built_in.BuiltIn.{BuiltIn};
 ghost use Rattle.gql_schema.specs.Scalars.{built_in_scalars};
@@ -79,7 +78,7 @@ pub fn texts_have_one_document_each()
 pub fn valid_documents_run()
     ensures defined { (schema : SchemaOf) (text : List ℕ) (document : DocumentOf) → DocumentText schema text document → AreSpreadsDefined document }
     ensures acyclic { (schema : SchemaOf) (text : List ℕ) (document : DocumentOf) → DocumentText schema text document
-        → (v : ℕ) → IsOnCycle (spread_graph document.fragments) v → ⊥ }
+        → AreAcyclic document.fragments }
     ensures ranked { (schema : SchemaOf) (text : List ℕ) (document : DocumentOf) → DocumentText schema text document
         → (rank : ℕ → ℕ) × AreRanked document.fragments rank }
     ensures roots { (schema : SchemaOf) (text : List ℕ) (document : DocumentOf) → DocumentText schema text document → AreOnRoots schema document }

@@ -17,7 +17,7 @@ beq-true true false is = absurd cc
 beq-true false true is = absurd cc
 beq-true false false is = refl
 
-abbrev made : ℕ × ℕ × Bool → Pair
+abbrev pub made : ℕ × ℕ × Bool → Pair
 made p = record { first = p.0; second = p.1; in_full = p.2 }
 
 pub is_pair-true : (p q : Pair) → is_pair p q ≡ true → p ≡ q
@@ -32,7 +32,7 @@ is_pair-true p q is = by_tests (p.first == q.first) refl (p.second == q.second) 
         let full = beq-true p.in_full q.in_full is in
         λ i. made (first i, second i, full i)
 
-found_by : (p : Pair) (seen : List Pair) → list_any (is_pair p) seen ≡ true → Contains seen p
+pub found_by : (p : Pair) (seen : List Pair) → list_any (is_pair p) seen ≡ true → Contains seen p
 found_by p [] is = absurd cc
 found_by p (q ∷ qs) is = by_test (λ later. found_by p qs later) (is_pair p q) refl is
   where

@@ -1,5 +1,5 @@
 mod Growing
-mod Inserted
+pub mod Inserted
 mod Meetings
 mod SetFields
 pub mod Heights

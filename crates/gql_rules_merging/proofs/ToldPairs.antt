@@ -19,7 +19,8 @@ use Rattle.gql_rules_merging.specs.Numbering.{Selected, Numbered}
 use Rattle.gql_rules_merging.specs.Classes.{AreClasses, is_sound}
 use Rattle.gql_rules_merging.specs.ResponseKeys.{key_numbers}
 use Rattle.gql_rules_merging.specs.Telling.{in_full, is_told, told_of, AreConflictsOf, NoneBreaks}
-use Rattle.gql_rules_merging.proofs.Pairing.{pair_of-low, is_pair-true}
+use Rattle.gql_rules_graph.proofs.Inserted.{found_by}
+use Rattle.gql_rules_merging.proofs.Pairing.{pair_of-low}
 use Rattle.gql_rules_merging.proofs.Screened.{none_breaks}
 
 -- ---- lists
@@ -71,14 +72,6 @@ any_among test (y ∷ ys) x c holds = by_test (λ later. any_among test ys x lat
     by_test further true is c = refl
     by_test further false is (inl e) = absurd (let h : true ≡ false = sym holds ∙ ap test (sym e) ∙ is in cc)
     by_test further false is (inr later) = further later
-
-found_by : (p : Pair) (seen : List Pair) → list_any (is_pair p) seen ≡ true → Contains seen p
-found_by p [] is = absurd cc
-found_by p (q ∷ qs) is = by_test (λ later. found_by p qs later) (is_pair p q) refl is
-  where
-    by_test : (list_any (is_pair p) qs ≡ true → Contains qs p) → (t : Bool) → is_pair p q ≡ t → (t || list_any (is_pair p) qs) ≡ true → Contains (q ∷ qs) p
-    by_test further true test is = subst (Contains (q ∷ qs)) (sym (is_pair-true p q test)) (0, omega arith, refl)
-    by_test further false test is = Contains-append_right (q ∷ []) qs p (further is)
 
 none_distinct : (e : Pair → Pair → Bool) → IsDistinct e []
 unfolding IsDistinct

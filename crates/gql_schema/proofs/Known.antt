@@ -64,19 +64,19 @@ trees_computed = tt
 
 -- ---- the tokens of the text, and its tree
 
-ascii : IsAscii built_in_text
+pub ascii : IsAscii built_in_text
 ascii =
     IsAscii-from_all built_in_text
     (λ k d within. ltb-true (get_or built_in_text k d) 128 (AllPass-from_list_all (λ b. nat_lt b 128) built_in_text refl k d within))
 
-abbrev tiled : TilesFrom built_in_text 0
+abbrev pub tiled : TilesFrom built_in_text 0
 unfolding tokens_computed
 tiled = the (tokens 2000 built_in_text ascii 0 built_in_text refl) refl
 
 abbrev its_words : List Word
 its_words = words built_in_text tiled.0
 
-abbrev reading : ReadAs (One Document ∷ []) nothing its_words
+abbrev pub reading : ReadAs (One Document ∷ []) nothing its_words
 unfolding tokens_computed
 reading = the (read 1000 (One Document ∷ []) nothing its_words) refl
 

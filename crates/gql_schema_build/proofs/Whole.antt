@@ -21,7 +21,7 @@ use Rattle.gql_diag_messages.specs.declared.diagnostic_data.DiagnosticData.{Diag
 use Rattle.gql_schema_types.proofs.Joins.{joined-distinct, none-distinct, put-all}
 use Rattle.gql_schema_build.proofs.Merging.{kept_name, map-map, merged}
 
-built_name : (d : TypeDefinition) → type_name (built d) ≡ definition_name d
+pub built_name : (d : TypeDefinition) → type_name (built d) ≡ definition_name d
 built_name (type.Scalar d) = refl
 built_name (type.Object d) = refl
 built_name (type.Interface d) = refl
@@ -29,7 +29,7 @@ built_name (type.Union d) = refl
 built_name (type.Enum d) = refl
 built_name (type.InputObject d) = refl
 
-extended_name : (es : List TypeExtension) (d : TypeDefinition) → definition_name (fold extended d es) ≡ definition_name d
+pub extended_name : (es : List TypeExtension) (d : TypeDefinition) → definition_name (fold extended d es) ≡ definition_name d
 extended_name [] d = refl
 extended_name (e ∷ es) d = extended_name es (extended d e) ∙ kept_name d e
 

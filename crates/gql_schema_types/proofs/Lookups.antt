@@ -1,6 +1,6 @@
 -- Lists of things with names, and the places in them.
 use Rattle.std.proofs.Common.{◌≡◌, ℕ, zero, suc, ◌+◌, ◌<◌, Bool, true, false, cond, not, if◌then◌else◌, nat_lt, Some, None, Option, List, [], ◌∷◌, ◌++◌, length, map, set, get_or, take, slice_get, position, remove, refl, sym, ap, ◌∙◌, subst, arith}
-use Rattle.std.specs.List.{IsDistinct, AllByRecursion, find, position_or_len, prefix_len}
+use Rattle.std.specs.List.{IsDistinct, AllByRecursion, find, position_or_len}
 use Rattle.std.specs.Str.{bytes_eq}
 use Rattle.std.specs.Cmp.Lexicographic.{nat_list_eq_equiv}
 use Rattle.std.proofs.lemmas.Bool.{ltb-false}
@@ -12,19 +12,9 @@ use Rattle.std.proofs.lemmas.Map.Keys.{IsDistinct-tail, IsDistinct-IsPermutation
 use Rattle.std.proofs.lemmas.Option.{slice_get_past, cond_some}
 use Rattle.std.proofs.lemmas.Slice.Eq.{bytes_eq-Decides}
 use Rattle.indexmap.proofs.SetLemmas.{map-remove}
+use Rattle.jb_map.proofs.Positions.{position-map}
 use Rattle.gql_ast_base.specs.Names.{Named}
 use Rattle.gql_schema_types.specs.Entries.{texts, is_called, put, without}
-
-module _ {X Y : Type 0} (f : X → Y) where
-  prefix_len-map : (p : Y → Bool) (xs : List X) → prefix_len p (map f xs) ≡ prefix_len (λ x. p (f x)) xs
-  prefix_len-map p [] = refl
-  prefix_len-map p (x ∷ xs) = ap (λ n. cond (p (f x)) (1 + n) 0) (prefix_len-map p xs)
-
-  pub position-map : (t : Y → Bool) (xs : List X) → position t (map f xs) ≡ position (λ x. t (f x)) xs
-  position-map t xs =
-      let at = prefix_len-map (λ y. not (t y)) xs in
-      let len = length-map xs f in
-      λ i. cond (nat_lt (at i) (len i)) (Some (at i)) None
 
 none_within : {X : Type 0} (xs : List X) (i : ℕ) → i < length xs → None ≡ slice_get xs i → ⊥
 none_within [] i h e = omega arith

@@ -1,8 +1,7 @@
 //! Schemas, documents and objects of the tests, and answers as texts.
 
-ghost use Rattle.std.specs.Prelude.{◌≡◌, ℕ, ◌+◌, ◌^◌, ◌<◌, OnOk};
-ghost use Rattle.gql_document_types.specs.Spreads.{spread_graph};
-ghost use Rattle.gql_rules_graph.specs.Cycles.{IsOnCycle};
+ghost use Rattle.std.specs.Prelude.{◌≡◌, ◌+◌, ◌^◌, ◌<◌, OnOk};
+ghost use Rattle.gql_document_types.specs.Spreads.{AreAcyclic};
 
 use bytes::Bytes;
 use gql_diag::{ExecutionResponse, JsonMap, JsonValue, RequestError, refusal_of_request};
@@ -95,7 +94,7 @@ fn executed<O: ObjectValue>(
 
 /// Fails where a fragment leads back to itself.
 pub(crate) fn acyclic(alloc: Global, document: &Valid<ExecutableDocument>) -> Result<(), Fail>
-    ensures { OnOk result ((v : ℕ) → IsOnCycle (spread_graph document.now.fragments) v → ⊥) }
+    ensures { OnOk result (AreAcyclic document.now.fragments) }
 {
     if document.as_ref().fragments_acyclic(alloc)? {
         return Ok(());

@@ -1,10 +1,8 @@
 //! Executions that are told their operation, their variables, the implementers of interfaces, and whether introspection is on
 //! (GraphQL October 2021, sections 4 and 6.1).
 
-ghost use Rattle.std.specs.Prelude.{ℕ};
-ghost use Rattle.gql_document_types.specs.Spreads.{spread_graph};
+ghost use Rattle.gql_document_types.specs.Spreads.{AreAcyclic};
 ghost use Rattle.gql_exec_request.specs.Execution as spec;
-ghost use Rattle.gql_rules_graph.specs.Cycles.{IsOnCycle};
 
 use crate::fixtures::{acyclic, document_of, object_of, printed, schema_of};
 use crate::sample::Sample;
@@ -96,7 +94,7 @@ fn told_on(
     document: &Valid<ExecutableDocument>,
     setting: Setting,
 ) -> Result<Bytes, Fail>
-    requires { (v : ℕ) → IsOnCycle (spread_graph document.now.fragments) v → ⊥ }
+    requires { AreAcyclic document.now.fragments }
 {
     match setting {
         Setting::Nothing => with_nothing(alloc, schema, document),
@@ -115,7 +113,7 @@ fn with_nothing(
     schema: &Valid<Schema>,
     document: &Valid<ExecutableDocument>,
 ) -> Result<Bytes, Fail>
-    requires { (v : ℕ) → IsOnCycle (spread_graph document.now.fragments) v → ⊥ }
+    requires { AreAcyclic document.now.fragments }
 {
     let execution = Execution::new(schema, document);
     let answer = execution.execute_sync(alloc, &Sample::Number(7));
@@ -128,7 +126,7 @@ fn by_operation(
     schema: &Valid<Schema>,
     document: &Valid<ExecutableDocument>,
 ) -> Result<Bytes, Fail>
-    requires { (v : ℕ) → IsOnCycle (spread_graph document.now.fragments) v → ⊥ }
+    requires { AreAcyclic document.now.fragments }
 {
     let Ok(operation) = document.as_ref().operations_get(alloc, Some("B")) else {
         return Err("no operation")?;
@@ -145,7 +143,7 @@ fn with_coerced(
     document: &Valid<ExecutableDocument>,
     values: &str,
 ) -> Result<Bytes, Fail>
-    requires { (v : ℕ) → IsOnCycle (spread_graph document.now.fragments) v → ⊥ }
+    requires { AreAcyclic document.now.fragments }
 {
     let values = Valid::assume_valid(object_of(alloc, values)?);
     let implementers = schema.as_ref().implementers_map(alloc)?;
@@ -162,7 +160,7 @@ fn with_raw(
     document: &Valid<ExecutableDocument>,
     values: &str,
 ) -> Result<Bytes, Fail>
-    requires { (v : ℕ) → IsOnCycle (spread_graph document.now.fragments) v → ⊥ }
+    requires { AreAcyclic document.now.fragments }
 {
     let values = object_of(alloc, values)?;
     let execution = Execution::new(schema, document).raw_variable_values(&values);
@@ -176,7 +174,7 @@ fn introspected(
     document: &Valid<ExecutableDocument>,
     name: &str,
 ) -> Result<Bytes, Fail>
-    requires { (v : ℕ) → IsOnCycle (spread_graph document.now.fragments) v → ⊥ }
+    requires { AreAcyclic document.now.fragments }
 {
     let execution = Execution::new(schema, document).enable_schema_introspection(true);
     named(alloc, execution, document, name)
@@ -189,7 +187,7 @@ fn by_name(
     document: &Valid<ExecutableDocument>,
     name: &str,
 ) -> Result<Bytes, Fail>
-    requires { (v : ℕ) → IsOnCycle (spread_graph document.now.fragments) v → ⊥ }
+    requires { AreAcyclic document.now.fragments }
 {
     let execution = Execution::new(schema, document);
     named(alloc, execution, document, name)
@@ -203,7 +201,7 @@ fn named(
     name: &str,
 ) -> Result<Bytes, Fail>
     requires no_operation { spec.HasNoOperation execution }
-    requires acyclic { (v : ℕ) → IsOnCycle (spread_graph execution.document.now.fragments) v → ⊥ }
+    requires acyclic { AreAcyclic execution.document.now.fragments }
 {
     let sources = &document.as_ref().sources;
     match execution.operation_name(alloc, Some(name)) {
@@ -222,7 +220,7 @@ fn partial(
     schema: &Valid<Schema>,
     document: &Valid<ExecutableDocument>,
 ) -> Result<Bytes, Fail>
-    requires { (v : ℕ) → IsOnCycle (spread_graph document.now.fragments) v → ⊥ }
+    requires { AreAcyclic document.now.fragments }
 {
     let Ok(operation) = document.as_ref().operations_get(alloc, Some("C")) else {
         return Err("no operation")?;

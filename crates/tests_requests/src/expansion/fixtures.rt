@@ -1,8 +1,7 @@
 //! Documents of the tests, and what they are expanded to.
 
-ghost use Rattle.std.specs.Prelude.{ℕ, OnOk};
-ghost use Rattle.gql_document_types.specs.Spreads.{spread_graph};
-ghost use Rattle.gql_rules_graph.specs.Cycles.{IsOnCycle};
+ghost use Rattle.std.specs.Prelude.{OnOk};
+ghost use Rattle.gql_document_types.specs.Spreads.{AreAcyclic};
 
 use crate::expansion::written::operation_text;
 use gql_document_types::{ExecutableDocument, expand_fragments};
@@ -70,7 +69,7 @@ fn of_operation(
 
 /// Fails where a fragment leads back to itself.
 fn acyclic(alloc: Global, document: &ExecutableDocument) -> Result<(), Fail>
-    ensures { OnOk result ((v : ℕ) → IsOnCycle (spread_graph document.now.fragments) v → ⊥) }
+    ensures { OnOk result (AreAcyclic document.now.fragments) }
 {
     if document.fragments_acyclic(alloc)? {
         return Ok(());

@@ -1,12 +1,11 @@
 use Rattle.std.proofs.Common.{◌<◌, ℕ, List, false, MatchOption, sym, ap, subst}
 use Rattle.gql_response.specs.declared.request_error.RequestError.{RequestError}
-use Rattle.gql_document_types.specs.Spreads.{spread_graph}
+use Rattle.gql_document_types.specs.Spreads.{AreAcyclic}
 use Rattle.gql_document_types.specs.declared.document.ExecutableDocument.{ExecutableDocument}
 use Rattle.gql_exec_plan.specs.Expanded.{expanded_depth}
 use Rattle.gql_exec_plan.specs.Nested.{Place}
 use Rattle.gql_exec_plan.specs.Refusal.{IsFoundDeep}
 use Rattle.gql_exec_plan.specs.View.{fragments_nested, nested}
-use Rattle.gql_rules_graph.specs.Cycles.{IsOnCycle}
 use Rattle.gql_exec_plan.proofs.max_depth.check_max_depth.Goals as goal
 
 abbrev telling : Place → List ℕ → RequestError
@@ -14,7 +13,7 @@ telling place message = record { message = message; location = place; is_suspect
 
 pub found_deep-requires : goal.found_deep-requires
 found_deep-requires g c = record {
-  acyclic = subst (λ (d : ExecutableDocument). (v : ℕ) → IsOnCycle (spread_graph d.fragments) v → ⊥) (sym c.as_ref.ensures) c.requires.acyclic;
+  acyclic = subst (λ (d : ExecutableDocument). AreAcyclic d.fragments) (sym c.as_ref.ensures) c.requires.acyclic;
 }
 
 pub returns-in_ok-from_str-in-Some-clause-refused : goal.returns-in_ok-from_str-in-Some-clause-refused

@@ -1,10 +1,9 @@
-use Rattle.std.proofs.Common.{◌≡◌, ℕ, true, ap, sym, subst, ◌∙◌}
-use Rattle.gql_document_types.specs.Spreads.{spread_graph}
+use Rattle.std.proofs.Common.{◌≡◌, true, ap, sym, subst, ◌∙◌}
+use Rattle.gql_document_types.specs.Spreads.{AreAcyclic}
 use Rattle.gql_exec_request.specs.Execution.{with_operation, with_implementers, with_values, with_introspection}
 use Rattle.gql_exec_request.specs.declared.execution.Execution.{Execution}
 use Rattle.gql_exec_request.specs.declared.execution.Given.TheVariants.{Coerced}
 use Rattle.gql_exec_request.proofs.PartialAnswers.{asked, partial-answer}
-use Rattle.gql_rules_graph.specs.Cycles.{IsOnCycle}
 use Rattle.gql_exec_request.proofs.partial.partial_execute.Goals as goal
 
 pub returns : goal.returns
@@ -31,4 +30,4 @@ execute_sync-requires c =
     ∙ ap (λ (e : Execution). with_values e (Coerced values)) (c.implementers_map.ensures
     ∙ ap (λ (e : Execution). with_implementers e implementers) (c.operation.ensures
     ∙ ap (λ (e : Execution). with_operation e operation) c.new.ensures))) in
-    record { acyclic = subst (λ (e : Execution). (v : ℕ) → IsOnCycle (spread_graph e.document.now.fragments) v → ⊥) (sym is) c.requires.acyclic }
+    record { acyclic = subst (λ (e : Execution). AreAcyclic e.document.now.fragments) (sym is) c.requires.acyclic }
