@@ -1,7 +1,7 @@
 -- Definitions of types are blind to ignored tokens.
 use Rattle.std.proofs.Common.{◌≡◌, refl}
 use Rattle.gql_source.specs.declared.file_id.FileId.{FileId}
-use Rattle.gql_cst_grammar.specs.declared.syntax_kind.SyntaxKind.TheVariants as kind
+use Rattle.gql_grammar.specs.declared.syntax_kind.SyntaxKind.TheVariants as kind
 use Rattle.gql_cst.specs.Forest.{Forest}
 use Rattle.gql_cst.specs.Bare.{bare, TokensEnd}
 use Rattle.gql_ast_definitions.specs.Definitions.{interfaces, members, scalar_of, object_of, interface_of, union_of, enum_of, input_object_of}

@@ -3,10 +3,10 @@ use Rattle.std.proofs.Common.{◌≡◌, Bool, true, false, if◌then◌else◌,
 use Rattle.std.specs.Prelude.{◌||◌, nat_le, codes}
 use Rattle.std.specs.Str.{bytes_eq}
 use Rattle.std.proofs.lemmas.Bool.{eqb-true}
-use Rattle.gql_cst_grammar.specs.declared.word.Word.{Word}
-use Rattle.gql_cst_grammar.specs.declared.word.Word.TheVariants.{OtherName, OperationWord, BooleanWord, LocationWord, FragmentWord, OnWord, NullWord, SchemaWord, ScalarWord, TypeWord, InterfaceWord, ImplementsWord, UnionWord, EnumWord, InputWord, DirectiveWord, RepeatableWord, ExtendWord}
-use Rattle.gql_cst_grammar.specs.Word.{number, is_same, is_name as names}
-use Rattle.gql_cst_grammar.specs.Spelling.{is_executable_location, is_type_system_location, keyword, word_of_name}
+use Rattle.gql_grammar.specs.declared.word.Word.{Word}
+use Rattle.gql_grammar.specs.declared.word.Word.TheVariants.{OtherName, OperationWord, BooleanWord, LocationWord, FragmentWord, OnWord, NullWord, SchemaWord, ScalarWord, TypeWord, InterfaceWord, ImplementsWord, UnionWord, EnumWord, InputWord, DirectiveWord, RepeatableWord, ExtendWord}
+use Rattle.gql_grammar.specs.Word.{number, is_same, is_name as names}
+use Rattle.gql_grammar.specs.Spelling.{is_executable_location, is_type_system_location, keyword, word_of_name}
 use Rattle.gql_cst.specs.Words.{word_of}
 use Rattle.gql_ast_base.specs.Parts.{Text}
 use Rattle.gql_ast_laws.proofs.Spelled.{name-word}

@@ -3,16 +3,16 @@ use Rattle.std.proofs.Common.{◌≡◌, ℕ, ◌+◌, ◌≤◌, arith, true, L
 use Rattle.std.specs.Prelude.{map, slice_get, codes}
 use Rattle.std.specs.Str.{bytes_eq}
 use Rattle.gql_source.specs.declared.file_id.FileId.{FileId}
-use Rattle.gql_cst_grammar.specs.declared.word.Word.{Word}
-use Rattle.gql_cst_grammar.specs.declared.word.Word.TheVariants.{SchemaWord, ScalarWord, TypeWord, InterfaceWord, UnionWord, EnumWord, InputWord}
-use Rattle.gql_cst_grammar.specs.declared.symbol.Symbol.{Symbol}
-use Rattle.gql_cst_grammar.specs.declared.rule.Rule.TheVariants as rule
-use Rattle.gql_cst_grammar.specs.declared.syntax_kind.SyntaxKind.TheVariants as kind
-use Rattle.gql_cst_grammar.specs.Grammar.{declared}
-use Rattle.gql_cst_grammar.specs.Word.{is_same, is_name as names}
-use Rattle.gql_cst_grammar.specs.Nodes.{IsAllowed, AllAllowed}
-use Rattle.gql_cst_grammar.specs.Row.{Row, leaf}
-use Rattle.gql_cst_grammar.specs.Sentence.{Fits, token, tree, group, IsOneOf, here, there}
+use Rattle.gql_grammar.specs.declared.word.Word.{Word}
+use Rattle.gql_grammar.specs.declared.word.Word.TheVariants.{SchemaWord, ScalarWord, TypeWord, InterfaceWord, UnionWord, EnumWord, InputWord}
+use Rattle.gql_grammar.specs.declared.symbol.Symbol.{Symbol}
+use Rattle.gql_grammar.specs.declared.rule.Rule.TheVariants as rule
+use Rattle.gql_grammar.specs.declared.syntax_kind.SyntaxKind.TheVariants as kind
+use Rattle.gql_grammar.specs.Grammar.{declared}
+use Rattle.gql_grammar.specs.Word.{is_same, is_name as names}
+use Rattle.gql_grammar.specs.Nodes.{IsAllowed, AllAllowed}
+use Rattle.gql_grammar.specs.Row.{Row, leaf}
+use Rattle.gql_grammar.specs.Sentence.{Fits, token, tree, group, IsOneOf, here, there}
 use Rattle.gql_cst.specs.Forest.{Forest, Plain}
 use Rattle.gql_cst.specs.Leaves.{leaves}
 use Rattle.gql_cst.specs.Sentences.{shown}

@@ -1,7 +1,7 @@
 -- Definitions of fields, arguments and enum values are blind to ignored tokens.
 use Rattle.std.proofs.Common.{◌≡◌, refl}
 use Rattle.gql_source.specs.declared.file_id.FileId.{FileId}
-use Rattle.gql_cst_grammar.specs.declared.syntax_kind.SyntaxKind.TheVariants as kind
+use Rattle.gql_grammar.specs.declared.syntax_kind.SyntaxKind.TheVariants as kind
 use Rattle.gql_cst.specs.Forest.{Forest}
 use Rattle.gql_cst.specs.Bare.{bare, TokensEnd}
 use Rattle.gql_ast_definitions.specs.Fields.{input_value_of, argument_definitions, input_fields, field_of, fields, enum_value_of, enum_values}

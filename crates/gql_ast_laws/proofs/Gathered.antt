@@ -1,6 +1,6 @@
 -- What the trees of a row stand for, one after the other, ignored tokens left out.
 use Rattle.std.proofs.Common.{◌≡◌, ℕ, ◌++◌, option_to_list, Option, None, refl, ◌∙◌, sym, ap}
-use Rattle.gql_cst_grammar.specs.declared.syntax_kind.SyntaxKind.{SyntaxKind}
+use Rattle.gql_grammar.specs.declared.syntax_kind.SyntaxKind.{SyntaxKind}
 use Rattle.gql_cst.specs.Forest.{Forest, Plain, nothing, tree_then}
 use Rattle.gql_cst.specs.Leaves.{Part, word, ignored, node, part_of}
 use Rattle.gql_cst.specs.Bare.{bare_then, bare, TokensEnd}

@@ -3,10 +3,10 @@ use Rattle.std.proofs.Common.{◌≡◌, Bool, true, false, ◌&&◌, if◌then�
 use Rattle.std.specs.Prelude.{option_and_then, slice_range}
 use Rattle.std.specs.Option.{option_map}
 use Rattle.std.proofs.lemmas.List.Elements.{All-cons, All-nil}
-use Rattle.gql_cst_grammar.specs.declared.word.Word.{Word}
-use Rattle.gql_cst_grammar.specs.declared.syntax_kind.SyntaxKind.{SyntaxKind}
-use Rattle.gql_cst_grammar.specs.Nodes.{AllAllowed}
-use Rattle.gql_cst_grammar.specs.Row.{Row}
+use Rattle.gql_grammar.specs.declared.word.Word.{Word}
+use Rattle.gql_grammar.specs.declared.syntax_kind.SyntaxKind.{SyntaxKind}
+use Rattle.gql_grammar.specs.Nodes.{AllAllowed}
+use Rattle.gql_grammar.specs.Row.{Row}
 use Rattle.gql_cst.specs.Forest.{Forest, Plain, nothing, tree_then}
 use Rattle.gql_cst.specs.Leaves.{Part, word, node, part_of}
 use Rattle.gql_cst.specs.Sentences.{row_then, shown}

@@ -2,8 +2,8 @@
 use Rattle.std.proofs.Common.{◌≡◌, ℕ, suc, ◌+◌, ◌<◌, true, List, [], ◌∷◌, ◌++◌, length, refl, sym, ap, ◌∙◌, subst, arith, rules, append_assoc, length-append}
 use Rattle.std.specs.Prelude.{slice_index}
 use Rattle.gql_source.specs.declared.file_id.FileId.{FileId}
-use Rattle.gql_cst_grammar.specs.declared.word.Word.TheVariants.{Bang, BracketOpen, BracketClose}
-use Rattle.gql_cst_grammar.specs.Word.{is_same}
+use Rattle.gql_grammar.specs.declared.word.Word.TheVariants.{Bang, BracketOpen, BracketClose}
+use Rattle.gql_grammar.specs.Word.{is_same}
 use Rattle.gql_cst.specs.Words.{word_of}
 use Rattle.gql_ast_base.specs.Names.{Named, is_name}
 use Rattle.gql_ast_base.specs.Parts.{Text}

@@ -1,17 +1,17 @@
 -- Words read by the factored grammar, where the next word decides.
 use Rattle.std.proofs.Common.{◌≡◌, ℕ, zero, suc, inl, inr, ◌⊎◌, Bool, true, false, cond, Option, Some, None, List, [], ◌∷◌, refl}
-use Rattle.gql_cst_grammar.specs.declared.word.Word.{Word}
-use Rattle.gql_cst_grammar.specs.declared.symbol.Symbol.{Symbol}
-use Rattle.gql_cst_grammar.specs.declared.symbol.Symbol.TheVariants.{Token, One, Optional, Repeated, Eager, Wrap, Close}
-use Rattle.gql_cst_grammar.specs.declared.rule.Rule.{Rule}
-use Rattle.gql_cst_grammar.specs.declared.rule.Rule.TheVariants.{Document}
-use Rattle.gql_cst_grammar.specs.declared.syntax_kind.SyntaxKind.{SyntaxKind}
-use Rattle.gql_cst_grammar.specs.Word.{takes}
-use Rattle.gql_cst_grammar.specs.Rule.{kind_of}
-use Rattle.gql_cst_grammar.specs.Factored.{factored}
-use Rattle.gql_cst_grammar.specs.Row.{Row, nothing, node, with_leaf, with_node}
-use Rattle.gql_cst_grammar.specs.Reads.{Reads, done, token, tree, group, skip, take, stop, again, leave, enter, wrap, is_brace_next, IsOneOf, here, there}
-use Rattle.gql_cst_grammar.specs.Starts.{starts, begins, chosen, chosen_way}
+use Rattle.gql_grammar.specs.declared.word.Word.{Word}
+use Rattle.gql_grammar.specs.declared.symbol.Symbol.{Symbol}
+use Rattle.gql_grammar.specs.declared.symbol.Symbol.TheVariants.{Token, One, Optional, Repeated, Eager, Wrap, Close}
+use Rattle.gql_grammar.specs.declared.rule.Rule.{Rule}
+use Rattle.gql_grammar.specs.declared.rule.Rule.TheVariants.{Document}
+use Rattle.gql_grammar.specs.declared.syntax_kind.SyntaxKind.{SyntaxKind}
+use Rattle.gql_grammar.specs.Word.{takes}
+use Rattle.gql_grammar.specs.Rule.{kind_of}
+use Rattle.gql_grammar.specs.Factored.{factored}
+use Rattle.gql_grammar.specs.Row.{Row, nothing, node, with_leaf, with_node}
+use Rattle.gql_grammar.specs.Reads.{Reads, done, token, tree, group, skip, take, stop, again, leave, enter, wrap, is_brace_next, IsOneOf, here, there}
+use Rattle.gql_grammar.specs.Starts.{starts, begins, chosen, chosen_way}
 use Rattle.gql_ast_laws.proofs.Found.{and_then, holds, fails}
 
 -- ---- the way that a word chooses is one of the rule's

@@ -4,8 +4,8 @@ use Rattle.std.proofs.Math.Seq.{drop-append_seam, take-append_seam}
 use Rattle.std.specs.Prelude.{◌&&◌, ◌||◌, nat_le, slice_index, slice_range}
 use Rattle.std.specs.List.{list_all, prefix_len}
 use Rattle.std.specs.Str.{IsCharBoundary}
-use Rattle.gql_cst_lexer.specs.Class.{is_name_start, is_name_continue, class_of}
-use Rattle.gql_cst_lexer.specs.declared.token.TokenKind.TheVariants as token
+use Rattle.gql_lexer.specs.Class.{is_name_start, is_name_continue, class_of}
+use Rattle.gql_lexer.specs.declared.token.TokenKind.TheVariants as token
 use Rattle.gql_cst.specs.Leaves.{word, Leaf, IsLeaf}
 use Rattle.gql_ast_base.specs.Names.{is_name}
 use Rattle.gql_ast_base.specs.Parts.{Text, is_boundary}

@@ -3,15 +3,15 @@ use Rattle.std.proofs.Common.{◌≡◌, inl, inr, ℕ, zero, suc, ◌+◌, ◌-
 use Rattle.std.specs.Prelude.{◌==◌, codes, ◌&&◌, ◌||◌, cond, nat_le, slice_index, slice_range}
 use Rattle.std.specs.List.{list_all, prefix_len}
 use Rattle.std.specs.Str.{IsCharBoundary, bytes_eq}
-use Rattle.gql_cst_lexer.specs.Class.{is_name_start, is_name_continue, is_digit}
-use Rattle.gql_cst_lexer.specs.Lexical.{IsToken}
-use Rattle.gql_cst_lexer.specs.declared.token.TokenKind.{TokenKind}
-use Rattle.gql_cst_lexer.specs.declared.token.TokenKind.TheVariants as token
-use Rattle.gql_cst_grammar.specs.declared.word.Word.{Word}
-use Rattle.gql_cst_grammar.specs.declared.word.Word.TheVariants.{Bang, Dollar, Ampersand, ParenOpen, ParenClose, Colon, Equals, At, BracketOpen, BracketClose, BraceOpen, Bar, BraceClose, Spread, IntLiteral, FloatLiteral, StringLiteral, OperationWord, BooleanWord, LocationWord, OtherName, FragmentWord, OnWord, NullWord, SchemaWord, ScalarWord, TypeWord, InterfaceWord, ImplementsWord, UnionWord, EnumWord, InputWord, DirectiveWord, RepeatableWord, ExtendWord}
-use Rattle.gql_cst_grammar.specs.Word.{is_name as names}
-use Rattle.gql_cst_grammar.specs.Spelling.{is_executable_location, is_type_system_location, keyword, word_of_name, word_of_punctuator}
-use Rattle.gql_cst_grammar.specs.declared.syntax_kind.SyntaxKind.TheVariants.{Token}
+use Rattle.gql_lexer.specs.Class.{is_name_start, is_name_continue, is_digit}
+use Rattle.gql_lexer.specs.Lexical.{IsToken}
+use Rattle.gql_lexer.specs.declared.token.TokenKind.{TokenKind}
+use Rattle.gql_lexer.specs.declared.token.TokenKind.TheVariants as token
+use Rattle.gql_grammar.specs.declared.word.Word.{Word}
+use Rattle.gql_grammar.specs.declared.word.Word.TheVariants.{Bang, Dollar, Ampersand, ParenOpen, ParenClose, Colon, Equals, At, BracketOpen, BracketClose, BraceOpen, Bar, BraceClose, Spread, IntLiteral, FloatLiteral, StringLiteral, OperationWord, BooleanWord, LocationWord, OtherName, FragmentWord, OnWord, NullWord, SchemaWord, ScalarWord, TypeWord, InterfaceWord, ImplementsWord, UnionWord, EnumWord, InputWord, DirectiveWord, RepeatableWord, ExtendWord}
+use Rattle.gql_grammar.specs.Word.{is_name as names}
+use Rattle.gql_grammar.specs.Spelling.{is_executable_location, is_type_system_location, keyword, word_of_name, word_of_punctuator}
+use Rattle.gql_grammar.specs.declared.syntax_kind.SyntaxKind.TheVariants.{Token}
 use Rattle.gql_cst.specs.Forest.{Forest}
 use Rattle.gql_cst.specs.Leaves.{word, part_of_token, Leaf, IsLeaf}
 use Rattle.gql_cst.specs.Words.{has_byte, number_word, word_of}

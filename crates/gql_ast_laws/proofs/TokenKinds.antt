@@ -1,9 +1,9 @@
 -- Which kinds are those of tokens, and which those of nodes.
 use Rattle.std.proofs.Common.{◌≡◌, Bool, true, false, refl, ◌∙◌, ap, rules}
 use denote.Enum.Bare.{same_true, true_same}
-use Rattle.gql_cst_grammar.specs.declared.syntax_kind.SyntaxKind.{SyntaxKind}
-use Rattle.gql_cst_grammar.specs.declared.syntax_kind.SyntaxKind.TheVariants.{Token}
-use Rattle.gql_cst_grammar.specs.contracts.syntax_kind.SyntaxKind.{the_type}
+use Rattle.gql_grammar.specs.declared.syntax_kind.SyntaxKind.{SyntaxKind}
+use Rattle.gql_grammar.specs.declared.syntax_kind.SyntaxKind.TheVariants.{Token}
+use Rattle.gql_grammar.specs.contracts.syntax_kind.SyntaxKind.{the_type}
 use Rattle.gql_cst.specs.Leaves.{Part, word, ignored, node, part_of}
 use Rattle.gql_ast_base.specs.Kinds.{is_kind}
 

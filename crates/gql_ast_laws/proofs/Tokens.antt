@@ -6,11 +6,11 @@ use Rattle.std.specs.Str.{IsAscii}
 use Rattle.std.proofs.lemmas.List.{drop-drop}
 use Rattle.std.proofs.lemmas.Bool.{eqb-true, ltb-true, leb-true}
 use Rattle.std.proofs.lemmas.Str.{IsCharBoundary-from_ascii}
-use Rattle.gql_cst_lexer.specs.Class.{Text, is_name_start, is_name_continue, is_digit, is_blank, is_punctuator}
-use Rattle.gql_cst_lexer.specs.Lex.{run_len, blank_len, is_block_quote}
-use Rattle.gql_cst_lexer.specs.Lexical.{IsToken, string_end}
-use Rattle.gql_cst_lexer.specs.declared.token.TokenKind.{TokenKind}
-use Rattle.gql_cst_lexer.specs.declared.token.TokenKind.TheVariants.{Punctuator, Name, StringValue, Ignored}
+use Rattle.gql_lexer.specs.Class.{Text, is_name_start, is_name_continue, is_digit, is_blank, is_punctuator}
+use Rattle.gql_lexer.specs.Lex.{run_len, blank_len, is_block_quote}
+use Rattle.gql_lexer.specs.Lexical.{IsToken, string_end}
+use Rattle.gql_lexer.specs.declared.token.TokenKind.{TokenKind}
+use Rattle.gql_lexer.specs.declared.token.TokenKind.TheVariants.{Punctuator, Name, StringValue, Ignored}
 use Rattle.gql_cst.specs.Leaves.{Leaf, IsLeaf, Tiles, part_of_token}
 use Rattle.gql_ast_laws.proofs.Found.{and_then, holds, fails, choose}
 

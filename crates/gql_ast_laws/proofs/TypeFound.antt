@@ -2,15 +2,15 @@
 use Rattle.std.proofs.Common.{◌≡◌, ℕ, Bool, true, false, List, ◌++◌, is_some, option_to_list, Option, Some, None, refl, sym, ap, ◌∙◌, subst}
 use Rattle.std.specs.Option.{option_map}
 use Rattle.gql_source.specs.declared.file_id.FileId.{FileId}
-use Rattle.gql_cst_grammar.specs.declared.word.Word.{Word}
-use Rattle.gql_cst_grammar.specs.declared.symbol.Symbol.{Symbol}
-use Rattle.gql_cst_grammar.specs.declared.rule.Rule.TheVariants as rule
-use Rattle.gql_cst_grammar.specs.declared.syntax_kind.SyntaxKind.{SyntaxKind}
-use Rattle.gql_cst_grammar.specs.declared.syntax_kind.SyntaxKind.TheVariants as kind
-use Rattle.gql_cst_grammar.specs.Grammar.{declared}
-use Rattle.gql_cst_grammar.specs.Nodes.{IsAllowed, AllAllowed}
-use Rattle.gql_cst_grammar.specs.Row.{Row}
-use Rattle.gql_cst_grammar.specs.Sentence.{Fits, tree, group, IsOneOf, here, there}
+use Rattle.gql_grammar.specs.declared.word.Word.{Word}
+use Rattle.gql_grammar.specs.declared.symbol.Symbol.{Symbol}
+use Rattle.gql_grammar.specs.declared.rule.Rule.TheVariants as rule
+use Rattle.gql_grammar.specs.declared.syntax_kind.SyntaxKind.{SyntaxKind}
+use Rattle.gql_grammar.specs.declared.syntax_kind.SyntaxKind.TheVariants as kind
+use Rattle.gql_grammar.specs.Grammar.{declared}
+use Rattle.gql_grammar.specs.Nodes.{IsAllowed, AllAllowed}
+use Rattle.gql_grammar.specs.Row.{Row}
+use Rattle.gql_grammar.specs.Sentence.{Fits, tree, group, IsOneOf, here, there}
 use Rattle.gql_cst.specs.Forest.{Forest, nothing, tree_then}
 use Rattle.gql_cst.specs.Leaves.{node, part_of, leaves}
 use Rattle.gql_cst.specs.Sentences.{shown}

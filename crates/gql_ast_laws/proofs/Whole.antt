@@ -1,6 +1,6 @@
 -- What is blind to ignored tokens says one thing of trees that are equal without them.
 use Rattle.std.proofs.Common.{◌≡◌, Option, ◌∙◌, sym, ap, subst}
-use Rattle.gql_cst_grammar.specs.declared.syntax_kind.SyntaxKind.{SyntaxKind}
+use Rattle.gql_grammar.specs.declared.syntax_kind.SyntaxKind.{SyntaxKind}
 use Rattle.gql_cst.specs.Forest.{Forest, Plain}
 use Rattle.gql_cst.specs.Leaves.{node, part_of}
 use Rattle.gql_cst.specs.Bare.{bare, Ends, TokensEnd}

@@ -19,12 +19,12 @@ ghost use Rattle.gql_cst.specs.Parses.{IsParse};
 ghost use Rattle.gql_cst.specs.TreeOf.{IsTreeOf};
 ghost use Rattle.gql_cst.specs.declared.limits.Limits.{Limits};
 ghost use Rattle.gql_cst.specs.declared.limits.Parsed.{Parsed};
-ghost use Rattle.gql_cst_grammar.specs.declared.rule.Rule.TheVariants.{Document, FieldSet, TypeReference};
-ghost use Rattle.gql_cst_grammar.specs.declared.syntax_kind.SyntaxKind.TheVariants as kind;
+ghost use Rattle.gql_grammar.specs.declared.rule.Rule.TheVariants.{Document, FieldSet, TypeReference};
+ghost use Rattle.gql_grammar.specs.declared.syntax_kind.SyntaxKind.TheVariants as kind;
 ghost use Rattle.gql_source.specs.declared.file_id.FileId.{FileId};
 
 use gql_cst::laws as tree_laws;
-use gql_cst_grammar::laws as grammar_laws;
+use gql_grammar::laws as grammar_laws;
 
 /// A text is one document at most: all its trees have the same definitions, locations included (section 2.2 of GraphQL
 /// October 2021).

@@ -9,18 +9,18 @@ use Rattle.gql_diag_messages.specs.declared.rule.Rule.TheVariants.{UndefinedDefi
 use Rattle.gql_document_types.specs.declared.document.ExecutableDocument.{ExecutableDocument}
 use Rattle.gql_document_types.specs.declared.operation.Operation.{Operation}
 use Rattle.gql_rules.specs.DocumentFaults.{AreDocumentFaults, AreFirstOrAll, AreOtherFaults}
-use Rattle.gql_rules_base.specs.Faults.{name_fault}
-use Rattle.gql_rules_base.specs.Known.{is_defined}
+use Rattle.gql_rules_values.specs.Faults.{name_fault}
+use Rattle.gql_rules_values.specs.Known.{is_defined}
 use Rattle.gql_ast_base.specs.TypeParts.{named_type}
-use Rattle.gql_rules_base.specs.declared.known.Defined.TheVariants.{Types}
-use Rattle.gql_rules_selections.specs.Composite.{is_composite_name}
-use Rattle.gql_rules_selections.specs.DocumentNodes.{operation_location, directives_at, node_faults, document_nodes_faults}
-use Rattle.gql_rules_selections.specs.UniqueVariable.{unique_variable}
-use Rattle.gql_rules_selections.specs.VariableInputType.{output_type, variable_input_type}
-use Rattle.gql_rules_selections.specs.VariableType.{undefined_variable_type}
-use Rattle.gql_rules_selections.specs.Variables.{default_faults, type_faults, variable_faults, variables_faults}
-use Rattle.gql_rules_selections.specs.Nodes.{Node, operation_at, operation_nodes, fragment_nodes, set_nodes}
-use Rattle.gql_rules_base.specs.Directives.{directive_faults}
+use Rattle.gql_rules_values.specs.declared.known.Defined.TheVariants.{Types}
+use Rattle.gql_rules_nodes.specs.Composite.{is_composite_name}
+use Rattle.gql_rules_nodes.specs.DocumentNodes.{operation_location, directives_at, node_faults, document_nodes_faults}
+use Rattle.gql_rules_nodes.specs.UniqueVariable.{unique_variable}
+use Rattle.gql_rules_nodes.specs.VariableInputType.{output_type, variable_input_type}
+use Rattle.gql_rules_nodes.specs.VariableType.{undefined_variable_type}
+use Rattle.gql_rules_nodes.specs.Variables.{default_faults, type_faults, variable_faults, variables_faults}
+use Rattle.gql_rules_nodes.specs.Nodes.{Node, operation_at, operation_nodes, fragment_nodes, set_nodes}
+use Rattle.gql_rules_values.specs.Directives.{directive_faults}
 use Rattle.gql_schema_types.specs.Types.{type_called, is_composite}
 use Rattle.gql_schema_types.specs.declared.schema.Schema.{Schema}
 use Rattle.gql_schema_types.specs.declared.types.ExtendedType.{ExtendedType}

@@ -2,7 +2,7 @@
 use Rattle.std.proofs.Common.{◌≡◌, ℕ, Bool, true, false, not, cond, Some, List, [], ◌∷◌, flat_map, zero, suc, refl, subst, arith, All}
 use Rattle.gql_ast_base.specs.Names.{Named}
 use Rattle.gql_diag_messages.specs.declared.diagnostic_data.DiagnosticData.{DiagnosticData}
-use Rattle.gql_rules_base.specs.Faults.{only_if}
+use Rattle.gql_rules_values.specs.Faults.{only_if}
 use Rattle.gql_schema_types.specs.Entries.{is_called, entry}
 use Rattle.gql_parser.proofs.Kept.{back_empty, front_empty}
 

@@ -11,7 +11,7 @@ use Rattle.gql_ast_laws.specs.Constants.{is_constant_default}
 use Rattle.gql_ast_laws.specs.Defaults.{IsIn, IsConstantField, HasConstantDefaults}
 use Rattle.gql_coerce_laws.proofs.Each.{Each, each-of}
 use Rattle.gql_ast_definitions.specs.declared.field_definition.InputValueDefinition.{InputValueDefinition}
-use Rattle.gql_rules_base.specs.Written.{is_written}
+use Rattle.gql_rules_values.specs.Written.{is_written}
 use Rattle.gql_schema_build.specs.Built.{built}
 use Rattle.gql_schema_build.specs.BuiltInScalarTypeRedefinition.{redefines, other, without_redefinitions}
 use Rattle.gql_schema_build.specs.TypeSystems.{with_definition, with_definitions}

@@ -16,12 +16,12 @@ use Rattle.gql_ast_definitions.specs.declared.schema_definition.DirectiveLocatio
 use Rattle.gql_ast_laws.specs.Meant.{IsDocumentOf}
 use Rattle.gql_diag_messages.specs.declared.rule.Rule.TheVariants.{UndefinedDefinition, InputType}
 use Rattle.gql_parser.specs.Parsers.{its_file}
-use Rattle.gql_rules_base.specs.Faults.{fault, name_fault}
-use Rattle.gql_rules_base.specs.Known.{is_built_in_scalar, is_known}
+use Rattle.gql_rules_values.specs.Faults.{fault, name_fault}
+use Rattle.gql_rules_values.specs.Known.{is_built_in_scalar, is_known}
 use Rattle.gql_ast_base.specs.TypeParts.{named_type}
-use Rattle.gql_rules_base.specs.Written.{is_written}
-use Rattle.gql_rules_base.specs.declared.known.Defined.TheVariants.{TypesAndScalars}
-use Rattle.gql_rules_base.specs.Directives.{directive_faults}
+use Rattle.gql_rules_values.specs.Written.{is_written}
+use Rattle.gql_rules_values.specs.declared.known.Defined.TheVariants.{TypesAndScalars}
+use Rattle.gql_rules_values.specs.Directives.{directive_faults}
 use Rattle.gql_schema.specs.BuiltInSchema.{IsBuiltIn}
 use Rattle.gql_schema.specs.Builders.{Taken, built}
 use Rattle.gql_schema_build.specs.BuiltInScalarTypeRedefinition.{without_redefinitions}

@@ -8,13 +8,13 @@ use Rattle.gql_ast.specs.declared.definition.Definition.TheVariants as definitio
 use Rattle.gql_ast_base.specs.Names.{Named}
 use Rattle.gql_ast_laws.specs.Defaults.{IsConstantVariable, HasConstantDefaults}
 use Rattle.gql_ast_definitions.specs.declared.operation.OperationDefinition.{OperationDefinition}
-use Rattle.gql_document_build.specs.AmbiguousAnonymousOperation.{are_several, is_ambiguous}
-use Rattle.gql_document_build.specs.Build.{built_operation, operation_on}
-use Rattle.gql_document_build.specs.Builders.{Taken}
-use Rattle.gql_document_build.specs.Definitions.{with_definition, with_definitions, no_definitions}
-use Rattle.gql_document_build.specs.OperationNameCollision.{with_option, is_first, first_or_none, first_after, first_operations}
-use Rattle.gql_document_build.specs.UndefinedRootOperation.{root_type}
-use Rattle.gql_document_build.specs.declared.executable_definitions.ExecutableDefinitions.{ExecutableDefinitions}
+use Rattle.gql_document.specs.AmbiguousAnonymousOperation.{are_several, is_ambiguous}
+use Rattle.gql_document.specs.Build.{built_operation, operation_on}
+use Rattle.gql_document.specs.Builders.{Taken}
+use Rattle.gql_document.specs.Definitions.{with_definition, with_definitions, no_definitions}
+use Rattle.gql_document.specs.OperationNameCollision.{with_option, is_first, first_or_none, first_after, first_operations}
+use Rattle.gql_document.specs.UndefinedRootOperation.{root_type}
+use Rattle.gql_document.specs.declared.executable_definitions.ExecutableDefinitions.{ExecutableDefinitions}
 use Rattle.gql_parser.specs.DocumentText.{DocumentText, its_given}
 use Rattle.gql_document_types.specs.declared.document.ExecutableDocument.{ExecutableDocument}
 use Rattle.gql_document_types.specs.declared.operation.Operation.{Operation}

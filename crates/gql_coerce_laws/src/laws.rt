@@ -15,7 +15,7 @@ ghost use Rattle.gql_schema_types.specs.declared.schema.Schema.{Schema as Schema
 ghost use Rattle.gql_schema_types.specs.declared.types.ExtendedType.{ExtendedType};
 
 use gql_ast_laws::laws as tree_laws;
-use gql_cst_grammar::laws as grammar_laws;
+use gql_grammar::laws as grammar_laws;
 use gql_parser::laws as text_laws;
 
 /// Where each input field and each variable is of an input type and has a constant default, if it has one, no fault that comes of

@@ -1,19 +1,19 @@
 -- Once a rule is entered for a word, the word is taken. So a word that is refused opens no level.
 use Rattle.std.proofs.Common.{◌≡◌, ◌⊎◌, inl, inr, ℕ, Bool, true, false, ◌||◌, List, [], ◌∷◌, ◌++◌, Option, Some, None, refl, sym, subst}
 use Rattle.std.specs.Prelude.{if◌then◌else◌}
-use Rattle.gql_cst_grammar.specs.declared.word.Word.{Word}
-use Rattle.gql_cst_grammar.specs.declared.rule.Rule.{Rule}
-use Rattle.gql_cst_grammar.specs.declared.rule.Rule.TheVariants.{Document}
-use Rattle.gql_cst_grammar.specs.declared.symbol.Symbol.{Symbol}
-use Rattle.gql_cst_grammar.specs.declared.symbol.Symbol.TheVariants.{Token, One, Optional, Repeated, Eager, Wrap, Close}
-use Rattle.gql_cst_grammar.specs.declared.syntax_kind.SyntaxKind.{SyntaxKind}
-use Rattle.gql_cst_grammar.specs.Word.{takes}
-use Rattle.gql_cst_grammar.specs.Rule.{kind_of}
-use Rattle.gql_cst_grammar.specs.Starts.{starts, begins, chosen_way, way}
-use Rattle.gql_cst_grammar.specs.Stands.{way_at}
-use Rattle.gql_cst_grammar.proofs.Words.{every, implies}
-use Rattle.gql_cst_grammar.proofs.Ways.{implied}
-use Rattle.gql_cst_grammar.proofs.Ways.{way-some}
+use Rattle.gql_grammar.specs.declared.word.Word.{Word}
+use Rattle.gql_grammar.specs.declared.rule.Rule.{Rule}
+use Rattle.gql_grammar.specs.declared.rule.Rule.TheVariants.{Document}
+use Rattle.gql_grammar.specs.declared.symbol.Symbol.{Symbol}
+use Rattle.gql_grammar.specs.declared.symbol.Symbol.TheVariants.{Token, One, Optional, Repeated, Eager, Wrap, Close}
+use Rattle.gql_grammar.specs.declared.syntax_kind.SyntaxKind.{SyntaxKind}
+use Rattle.gql_grammar.specs.Word.{takes}
+use Rattle.gql_grammar.specs.Rule.{kind_of}
+use Rattle.gql_grammar.specs.Starts.{starts, begins, chosen_way, way}
+use Rattle.gql_grammar.specs.Stands.{way_at}
+use Rattle.gql_grammar.proofs.Words.{every, implies}
+use Rattle.gql_grammar.proofs.Ways.{implied}
+use Rattle.gql_grammar.proofs.Ways.{way-some}
 use Rattle.gql_cst.specs.Forest.{Plain}
 use Rattle.gql_cst.specs.Machine.{State, Turned, again, taken, refused, finished, pushed, entered, closed_in, enter, turned_at, Settles, takes_it, refuses_it, finishes, later, Begins, Judges}
 

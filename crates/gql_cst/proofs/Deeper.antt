@@ -1,19 +1,19 @@
 -- A sentence that goes on from somewhere is nested at least as deep as what was read until there.
 use Rattle.std.proofs.Common.{◌≡◌, ℕ, ◌+◌, ◌≤◌, max, Bool, true, false, length, List, [], ◌∷◌, ◌++◌, map, ◌∙◌, ap, subst, arith}
 use Rattle.std.specs.List.{list_all}
-use Rattle.gql_cst_grammar.specs.declared.word.Word.{Word}
-use Rattle.gql_cst_grammar.specs.declared.rule.Rule.{Rule}
-use Rattle.gql_cst_grammar.specs.declared.symbol.Symbol.{Symbol}
-use Rattle.gql_cst_grammar.specs.declared.symbol.Symbol.TheVariants.{Token, One, Optional, Repeated, Eager, Wrap, Close}
-use Rattle.gql_cst_grammar.specs.declared.syntax_kind.SyntaxKind.{SyntaxKind}
-use Rattle.gql_cst_grammar.specs.Ends.{Ends, end, symbol, close, closes}
-use Rattle.gql_cst_grammar.specs.Factored.{factored}
-use Rattle.gql_cst_grammar.specs.Grammar.{Grammar}
-use Rattle.gql_cst_grammar.specs.Reads.{Reads, done, token, tree, group, skip, take, stop, again, leave, enter, wrap, Sentence}
-use Rattle.gql_cst_grammar.specs.Row as row
-use Rattle.gql_cst_grammar.specs.Row.{Row, joined, with_node, nesting, level}
-use Rattle.gql_cst_grammar.proofs.Turns.{Sentence-ends}
-use Rattle.gql_cst_grammar.proofs.Rooted.{closes-more}
+use Rattle.gql_grammar.specs.declared.word.Word.{Word}
+use Rattle.gql_grammar.specs.declared.rule.Rule.{Rule}
+use Rattle.gql_grammar.specs.declared.symbol.Symbol.{Symbol}
+use Rattle.gql_grammar.specs.declared.symbol.Symbol.TheVariants.{Token, One, Optional, Repeated, Eager, Wrap, Close}
+use Rattle.gql_grammar.specs.declared.syntax_kind.SyntaxKind.{SyntaxKind}
+use Rattle.gql_grammar.specs.Ends.{Ends, end, symbol, close, closes}
+use Rattle.gql_grammar.specs.Factored.{factored}
+use Rattle.gql_grammar.specs.Grammar.{Grammar}
+use Rattle.gql_grammar.specs.Reads.{Reads, done, token, tree, group, skip, take, stop, again, leave, enter, wrap, Sentence}
+use Rattle.gql_grammar.specs.Row as row
+use Rattle.gql_grammar.specs.Row.{Row, joined, with_node, nesting, level}
+use Rattle.gql_grammar.proofs.Turns.{Sentence-ends}
+use Rattle.gql_grammar.proofs.Rooted.{closes-more}
 use Rattle.gql_cst.specs.Forest.{Forest, nothing, tree_then, Plain, row_of}
 use Rattle.gql_cst.specs.Leaves.{Part, word, ignored, node, part_of}
 use Rattle.gql_cst.specs.Machine.{State, node_of, ended}

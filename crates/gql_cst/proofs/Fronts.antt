@@ -4,19 +4,19 @@ use Rattle.std.specs.Prelude.{◌==◌}
 use Rattle.std.specs.List.{list_all}
 use Rattle.std.proofs.lemmas.Bool.{eqb-true}
 use Rattle.std.proofs.Math.Seq.{take-append_seam}
-use Rattle.gql_cst_grammar.specs.declared.word.Word.{Word}
-use Rattle.gql_cst_grammar.specs.declared.rule.Rule.{Rule}
-use Rattle.gql_cst_grammar.specs.declared.rule.Rule.TheVariants.{Document}
-use Rattle.gql_cst_grammar.specs.declared.symbol.Symbol.{Symbol}
-use Rattle.gql_cst_grammar.specs.declared.symbol.Symbol.TheVariants.{Token, One, Optional, Repeated, Eager, Wrap, Close}
-use Rattle.gql_cst_grammar.specs.declared.syntax_kind.SyntaxKind.{SyntaxKind}
-use Rattle.gql_cst_grammar.specs.Ends.{Ends, end, symbol, close, closes}
-use Rattle.gql_cst_grammar.specs.Factored.{factored}
-use Rattle.gql_cst_grammar.specs.Reads.{Reads, IsOneOf, here, there, done, token, tree, group, skip, take as take_rule, stop, again, leave, enter, wrap}
-use Rattle.gql_cst_grammar.specs.Row as row
-use Rattle.gql_cst_grammar.specs.Row.{Row, joined, with_leaf, with_node, level}
-use Rattle.gql_cst_grammar.proofs.Turns.{Sentence-ends}
-use Rattle.gql_cst_grammar.proofs.Rooted.{closes-more}
+use Rattle.gql_grammar.specs.declared.word.Word.{Word}
+use Rattle.gql_grammar.specs.declared.rule.Rule.{Rule}
+use Rattle.gql_grammar.specs.declared.rule.Rule.TheVariants.{Document}
+use Rattle.gql_grammar.specs.declared.symbol.Symbol.{Symbol}
+use Rattle.gql_grammar.specs.declared.symbol.Symbol.TheVariants.{Token, One, Optional, Repeated, Eager, Wrap, Close}
+use Rattle.gql_grammar.specs.declared.syntax_kind.SyntaxKind.{SyntaxKind}
+use Rattle.gql_grammar.specs.Ends.{Ends, end, symbol, close, closes}
+use Rattle.gql_grammar.specs.Factored.{factored}
+use Rattle.gql_grammar.specs.Reads.{Reads, IsOneOf, here, there, done, token, tree, group, skip, take as take_rule, stop, again, leave, enter, wrap}
+use Rattle.gql_grammar.specs.Row as row
+use Rattle.gql_grammar.specs.Row.{Row, joined, with_leaf, with_node, level}
+use Rattle.gql_grammar.proofs.Turns.{Sentence-ends}
+use Rattle.gql_grammar.proofs.Rooted.{closes-more}
 use Rattle.gql_cst.specs.Forest.{Plain}
 use Rattle.gql_cst.specs.Leaves.{part_of}
 use Rattle.gql_cst.specs.Levels.{raised, levels, AreLevels}

@@ -2,18 +2,18 @@
 use Rattle.std.proofs.Common.{◌≡◌, ◌⊎◌, inl, inr, ℕ, ◌+◌, ◌≤◌, max, Bool, true, false, ◌&&◌, ◌||◌, List, [], ◌∷◌, ◌++◌, Option, Some, None, refl, sym, subst, arith}
 use Rattle.std.specs.Prelude.{◌==◌, if◌then◌else◌}
 use Rattle.std.proofs.lemmas.Bool.{eqb-true}
-use Rattle.gql_cst_grammar.specs.declared.word.Word.{Word}
-use Rattle.gql_cst_grammar.specs.declared.rule.Rule.{Rule}
-use Rattle.gql_cst_grammar.specs.declared.rule.Rule.TheVariants.{Document}
-use Rattle.gql_cst_grammar.specs.declared.symbol.Symbol.{Symbol}
-use Rattle.gql_cst_grammar.specs.declared.symbol.Symbol.TheVariants.{Token, One, Optional, Repeated, Eager, Wrap, Close}
-use Rattle.gql_cst_grammar.specs.declared.syntax_kind.SyntaxKind.{SyntaxKind}
-use Rattle.gql_cst_grammar.specs.Factored.{factored}
-use Rattle.gql_cst_grammar.specs.Row.{level}
-use Rattle.gql_cst_grammar.specs.Rule.{kind_of}
-use Rattle.gql_cst_grammar.specs.Starts.{starts, begins, chosen, way}
-use Rattle.gql_cst_grammar.specs.Stands.{way_at}
-use Rattle.gql_cst_grammar.specs.Word.{takes}
+use Rattle.gql_grammar.specs.declared.word.Word.{Word}
+use Rattle.gql_grammar.specs.declared.rule.Rule.{Rule}
+use Rattle.gql_grammar.specs.declared.rule.Rule.TheVariants.{Document}
+use Rattle.gql_grammar.specs.declared.symbol.Symbol.{Symbol}
+use Rattle.gql_grammar.specs.declared.symbol.Symbol.TheVariants.{Token, One, Optional, Repeated, Eager, Wrap, Close}
+use Rattle.gql_grammar.specs.declared.syntax_kind.SyntaxKind.{SyntaxKind}
+use Rattle.gql_grammar.specs.Factored.{factored}
+use Rattle.gql_grammar.specs.Row.{level}
+use Rattle.gql_grammar.specs.Rule.{kind_of}
+use Rattle.gql_grammar.specs.Starts.{starts, begins, chosen, way}
+use Rattle.gql_grammar.specs.Stands.{way_at}
+use Rattle.gql_grammar.specs.Word.{takes}
 use Rattle.gql_cst.specs.Forest.{Plain}
 use Rattle.gql_cst.specs.Machine.{State, Turned, again, taken, refused, finished, entered, pushed, closed_in, enter, turned_at, Settles, takes_it, refuses_it, finishes, later, Begins, Judges}
 use Rattle.gql_cst.specs.Sound.{IsSound}

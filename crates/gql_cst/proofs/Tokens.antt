@@ -1,6 +1,6 @@
 -- The tokens of a text are one list, since one thing stands at each place.
 use Rattle.std.proofs.Common.{◌≡◌, ℕ, ◌-◌, ◌≤◌, List, [], ◌∷◌, drop, refl, ◌∙◌, sym, ap, subst, arith}
-use Rattle.gql_cst_lexer.specs.Lexical.{IsToken, StandsOne}
+use Rattle.gql_lexer.specs.Lexical.{IsToken, StandsOne}
 use Rattle.gql_cst.specs.Leaves.{Part, Leaf, part_of_token, IsLeaf, Tiles}
 
 made : Part → ℕ → ℕ → Leaf

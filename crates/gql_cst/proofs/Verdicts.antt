@@ -2,20 +2,20 @@
 use Rattle.std.proofs.Common.{◌≡◌, ℕ, Bool, true, false, List, [], ◌∷◌, ◌++◌, map, Option, Some, None, is_some, refl, ◌∙◌, sym, ap, subst}
 use Rattle.std.specs.Prelude.{if◌then◌else◌}
 use Rattle.std.specs.List.{list_all}
-use Rattle.gql_cst_grammar.specs.declared.word.Word.{Word}
-use Rattle.gql_cst_grammar.specs.declared.rule.Rule.{Rule}
-use Rattle.gql_cst_grammar.specs.declared.symbol.Symbol.{Symbol}
-use Rattle.gql_cst_grammar.specs.declared.symbol.Symbol.TheVariants.{Token, One, Optional, Repeated, Eager, Wrap, Close}
-use Rattle.gql_cst_grammar.specs.declared.symbol.Terminal.{Terminal}
-use Rattle.gql_cst_grammar.specs.declared.syntax_kind.SyntaxKind.{SyntaxKind}
-use Rattle.gql_cst_grammar.specs.Word.{takes}
-use Rattle.gql_cst_grammar.specs.Rule.{kind_of}
-use Rattle.gql_cst_grammar.specs.Row as row
-use Rattle.gql_cst_grammar.specs.Row.{Row, with_leaf, with_node, joined}
-use Rattle.gql_cst_grammar.specs.Reads.{Sentence, IsBeginning}
-use Rattle.gql_cst_grammar.specs.Starts.{way}
-use Rattle.gql_cst_grammar.specs.Stands.{way_at, BetweenIn, StandsIn}
-use Rattle.gql_cst_grammar.proofs.Rooted.{none_sentence, first_refused, first_stands, look_in, taken_in, past_optional_in, past_repeated_in, past_eager_in, past_wrap_in, past_close_in, close_has_row_in, enter_tree_in, enter_group_in, into_optional_in, into_repeated_in, into_eager_in, ended_token_in, ended_rule_in, refused_token_in, refused_rule_in, refused_rest_in}
+use Rattle.gql_grammar.specs.declared.word.Word.{Word}
+use Rattle.gql_grammar.specs.declared.rule.Rule.{Rule}
+use Rattle.gql_grammar.specs.declared.symbol.Symbol.{Symbol}
+use Rattle.gql_grammar.specs.declared.symbol.Symbol.TheVariants.{Token, One, Optional, Repeated, Eager, Wrap, Close}
+use Rattle.gql_grammar.specs.declared.symbol.Terminal.{Terminal}
+use Rattle.gql_grammar.specs.declared.syntax_kind.SyntaxKind.{SyntaxKind}
+use Rattle.gql_grammar.specs.Word.{takes}
+use Rattle.gql_grammar.specs.Rule.{kind_of}
+use Rattle.gql_grammar.specs.Row as row
+use Rattle.gql_grammar.specs.Row.{Row, with_leaf, with_node, joined}
+use Rattle.gql_grammar.specs.Reads.{Sentence, IsBeginning}
+use Rattle.gql_grammar.specs.Starts.{way}
+use Rattle.gql_grammar.specs.Stands.{way_at, BetweenIn, StandsIn}
+use Rattle.gql_grammar.proofs.Rooted.{none_sentence, first_refused, first_stands, look_in, taken_in, past_optional_in, past_repeated_in, past_eager_in, past_wrap_in, past_close_in, close_has_row_in, enter_tree_in, enter_group_in, into_optional_in, into_repeated_in, into_eager_in, ended_token_in, ended_rule_in, refused_token_in, refused_rule_in, refused_rest_in}
 use Rattle.gql_cst.specs.Forest.{Plain}
 use Rattle.gql_cst.specs.Leaves.{part_of}
 use Rattle.gql_cst.specs.Machine.{State, Turned, again, taken, refused, finished, node_of, pushed, closed_in, enter, turned_at, Settles, takes_it, refuses_it, finishes, later, Begins, Judges}

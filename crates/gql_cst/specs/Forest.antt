@@ -1,6 +1,6 @@
 -- Trees as contracts see them. A row of trees is its first tree's kind, start, end and children, and the trees behind it.
 use Rattle.std.specs.Prelude.{ℕ, List, [], ◌∷◌, map}
-use Rattle.gql_cst_grammar.specs.declared.syntax_kind.SyntaxKind.{SyntaxKind}
+use Rattle.gql_grammar.specs.declared.syntax_kind.SyntaxKind.{SyntaxKind}
 use Rattle.gql_cst.specs.declared.tree.Tree.{Tree, fold-Tree}
 use Rattle.gql_cst.specs.declared.tree.Tree.TheOpen.{Tree-F}
 

@@ -1,16 +1,16 @@
 -- What an error, or none, tells of the sentences of the grammar.
 use Rattle.std.specs.Prelude.{◌≡◌, ℕ, ◌<◌, true, List, [], ◌∷◌, ◌++◌, map, slice_range, Option, Some, None, is_some}
 use Rattle.std.specs.declared.ops.Range.{Range}
-use Rattle.gql_cst_lexer.specs.declared.error.CstError.{CstError}
-use Rattle.gql_cst_lexer.specs.declared.error.CstError.TheVariants.{Syntax, RecursionLimit, TokenLimit}
-use Rattle.gql_cst_lexer.specs.declared.error.SyntaxFault.{SyntaxFault}
-use Rattle.gql_cst_lexer.specs.declared.error.SyntaxFault.TheVariants.{EndOfText, BadCharacter, OpenString, BadEscape, BadNumber, BadToken}
-use Rattle.gql_cst_grammar.specs.declared.word.Word.{Word}
-use Rattle.gql_cst_grammar.specs.declared.rule.Rule.{Rule}
-use Rattle.gql_cst_grammar.specs.Reads.{Sentence, IsBeginning}
-use Rattle.gql_cst_grammar.specs.Row as row
-use Rattle.gql_cst_grammar.specs.Row.{Row}
-use Rattle.gql_cst_grammar.specs.Rule.{kind_of}
+use Rattle.gql_lexer.specs.declared.error.CstError.{CstError}
+use Rattle.gql_lexer.specs.declared.error.CstError.TheVariants.{Syntax, RecursionLimit, TokenLimit}
+use Rattle.gql_lexer.specs.declared.error.SyntaxFault.{SyntaxFault}
+use Rattle.gql_lexer.specs.declared.error.SyntaxFault.TheVariants.{EndOfText, BadCharacter, OpenString, BadEscape, BadNumber, BadToken}
+use Rattle.gql_grammar.specs.declared.word.Word.{Word}
+use Rattle.gql_grammar.specs.declared.rule.Rule.{Rule}
+use Rattle.gql_grammar.specs.Reads.{Sentence, IsBeginning}
+use Rattle.gql_grammar.specs.Row as row
+use Rattle.gql_grammar.specs.Row.{Row}
+use Rattle.gql_grammar.specs.Rule.{kind_of}
 use Rattle.gql_cst.specs.declared.parser.Parser.{Parser}
 use Rattle.gql_cst.specs.Forest.{plain}
 use Rattle.gql_cst.specs.Held.{state}

@@ -1,12 +1,12 @@
 -- Rules that are open, from inside out, and the trees of all rows in one list: the state that they are.
 use Rattle.std.specs.Prelude.{◌≡◌, ℕ, Bool, true, false, ◌&&◌, ◌==◌, nat_le, List, [], ◌∷◌, ◌++◌, take, drop, Option, Some, None}
 use Rattle.std.specs.List.{list_all}
-use Rattle.gql_cst_grammar.specs.declared.symbol.Symbol.{Symbol}
-use Rattle.gql_cst_grammar.specs.declared.symbol.Symbol.TheVariants.{Token, One, Optional, Repeated, Eager, Wrap, Close}
-use Rattle.gql_cst_grammar.specs.declared.syntax_kind.SyntaxKind.{SyntaxKind}
-use Rattle.gql_cst_grammar.specs.declared.word.Word.{Word}
-use Rattle.gql_cst_grammar.specs.Row.{level}
-use Rattle.gql_cst_grammar.specs.Stands.{way_at}
+use Rattle.gql_grammar.specs.declared.symbol.Symbol.{Symbol}
+use Rattle.gql_grammar.specs.declared.symbol.Symbol.TheVariants.{Token, One, Optional, Repeated, Eager, Wrap, Close}
+use Rattle.gql_grammar.specs.declared.syntax_kind.SyntaxKind.{SyntaxKind}
+use Rattle.gql_grammar.specs.declared.word.Word.{Word}
+use Rattle.gql_grammar.specs.Row.{level}
+use Rattle.gql_grammar.specs.Stands.{way_at}
 use Rattle.gql_cst.specs.declared.frame.Frame.{Frame}
 use Rattle.gql_cst.specs.Forest.{Plain}
 use Rattle.gql_cst.specs.Leaves.{part_of}

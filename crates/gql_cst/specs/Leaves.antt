@@ -1,11 +1,11 @@
 -- The tokens at the leaves of trees, and how they lie in a text.
 use Rattle.std.specs.Prelude.{◌≡◌, ℕ, ◌-◌, ◌<◌, List, [], ◌∷◌, ◌++◌, drop}
 use Rattle.std.specs.Str.{IsCharBoundary}
-use Rattle.gql_cst_lexer.specs.Lexical.{IsToken}
-use Rattle.gql_cst_lexer.specs.declared.token.TokenKind.{TokenKind}
-use Rattle.gql_cst_lexer.specs.declared.token.TokenKind.TheVariants as token
-use Rattle.gql_cst_grammar.specs.declared.syntax_kind.SyntaxKind.{SyntaxKind}
-use Rattle.gql_cst_grammar.specs.declared.syntax_kind.SyntaxKind.TheVariants as kind
+use Rattle.gql_lexer.specs.Lexical.{IsToken}
+use Rattle.gql_lexer.specs.declared.token.TokenKind.{TokenKind}
+use Rattle.gql_lexer.specs.declared.token.TokenKind.TheVariants as token
+use Rattle.gql_grammar.specs.declared.syntax_kind.SyntaxKind.{SyntaxKind}
+use Rattle.gql_grammar.specs.declared.syntax_kind.SyntaxKind.TheVariants as kind
 use Rattle.gql_cst.specs.Forest.{Forest, nothing, tree_then, Plain, row_of}
 
 -- what a tree of a kind is: a token, a token that the grammar ignores, or a node

@@ -1,15 +1,15 @@
 -- Trees of a text, and what is left of them without ignored tokens.
 pub mod Bare
 pub mod TreeOf
-pub use Rattle.gql_cst_grammar.specs.declared.syntax_kind.SyntaxKind
-pub use Rattle.gql_cst_grammar.specs.contracts.syntax_kind.SyntaxKind as SyntaxKindContract
-pub use Rattle.gql_cst_lexer.specs.BlockString
-pub use Rattle.gql_cst_lexer.specs.Class
-pub use Rattle.gql_cst_lexer.specs.Lex
-pub use Rattle.gql_cst_lexer.specs.Lexical
-pub use Rattle.gql_cst_lexer.specs.Message
-pub use Rattle.gql_cst_lexer.specs.Reading
-pub use Rattle.gql_cst_lexer.specs.Value
+pub use Rattle.gql_grammar.specs.declared.syntax_kind.SyntaxKind
+pub use Rattle.gql_grammar.specs.contracts.syntax_kind.SyntaxKind as SyntaxKindContract
+pub use Rattle.gql_lexer.specs.BlockString
+pub use Rattle.gql_lexer.specs.Class
+pub use Rattle.gql_lexer.specs.Lex
+pub use Rattle.gql_lexer.specs.Lexical
+pub use Rattle.gql_lexer.specs.Message
+pub use Rattle.gql_lexer.specs.Reading
+pub use Rattle.gql_lexer.specs.Value
 pub mod Forest
 pub mod Laid
 pub mod Held

@@ -1,7 +1,7 @@
 -- How deep the words are nested that a parser took.
 use Rattle.std.specs.Prelude.{◌≡◌, ℕ, List, length, Option}
-use Rattle.gql_cst_lexer.specs.declared.error.CstError.{CstError}
-use Rattle.gql_cst_grammar.specs.Row.{level}
+use Rattle.gql_lexer.specs.declared.error.CstError.{CstError}
+use Rattle.gql_grammar.specs.Row.{level}
 use Rattle.gql_cst.specs.declared.parser.Parser.{Parser}
 use Rattle.gql_cst.specs.Held.{state}
 use Rattle.gql_cst.specs.Judged.{words_of}

@@ -1,7 +1,7 @@
 -- How deep selection sets, object values, list values and list types are nested.
 use Rattle.std.specs.Prelude.{ℕ, ◌+◌, max, List}
 use Rattle.gql_cst.specs.Leaves.{Part, word, ignored, node, part_of}
-use Rattle.gql_cst_grammar.specs.Row.{level}
+use Rattle.gql_grammar.specs.Row.{level}
 use Rattle.gql_cst.specs.Forest.{Forest, nothing, tree_then, Plain, row_of}
 
 -- a token opens no level

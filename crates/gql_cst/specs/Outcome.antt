@@ -1,11 +1,11 @@
 -- What ends the reading of a text, and when.
 use Rattle.std.specs.Prelude.{◌≡◌, ℕ, ◌+◌, ◌-◌, ◌<◌, ◌≤◌, ◌⊎◌, List, length, drop, Option, Some, None}
 use Rattle.std.specs.declared.ops.Range.{Range}
-use Rattle.gql_cst_lexer.specs.Lexical.{IsFault}
-use Rattle.gql_cst_lexer.specs.declared.error.CstError.{CstError}
-use Rattle.gql_cst_lexer.specs.declared.error.CstError.TheVariants.{Syntax, RecursionLimit, TokenLimit}
-use Rattle.gql_cst_lexer.specs.declared.error.SyntaxFault.{SyntaxFault}
-use Rattle.gql_cst_lexer.specs.declared.error.SyntaxFault.TheVariants.{EndOfText, BadCharacter, OpenString, BadEscape, BadNumber, BadToken}
+use Rattle.gql_lexer.specs.Lexical.{IsFault}
+use Rattle.gql_lexer.specs.declared.error.CstError.{CstError}
+use Rattle.gql_lexer.specs.declared.error.CstError.TheVariants.{Syntax, RecursionLimit, TokenLimit}
+use Rattle.gql_lexer.specs.declared.error.SyntaxFault.{SyntaxFault}
+use Rattle.gql_lexer.specs.declared.error.SyntaxFault.TheVariants.{EndOfText, BadCharacter, OpenString, BadEscape, BadNumber, BadToken}
 use Rattle.gql_cst.specs.declared.limits.Limits.{Limits}
 use Rattle.gql_cst.specs.Leaves.{Part, word, IsLeaf}
 

@@ -1,7 +1,7 @@
 -- What was read of a text, and where the parser stands in it.
 use Rattle.std.specs.Prelude.{◌≡◌, ℕ, ◌+◌, List, ◌++◌, map, length, Option}
-use Rattle.gql_cst_lexer.specs.declared.error.CstError.{CstError}
-use Rattle.gql_cst_lexer.specs.declared.token.Token.{Token}
+use Rattle.gql_lexer.specs.declared.error.CstError.{CstError}
+use Rattle.gql_lexer.specs.declared.token.Token.{Token}
 use Rattle.gql_cst.specs.declared.parser.Parser.{Parser}
 use Rattle.gql_cst.specs.Forest.{Plain, plain}
 use Rattle.std.specs.declared.ops.Range.{Range}

@@ -1,13 +1,13 @@
 -- The words and the row that trees stand for, ignored tokens left out, and where the reading of a sentence stands.
 use Rattle.std.specs.Prelude.{◌≡◌, ℕ, Bool, true, false, List, [], ◌∷◌, ◌++◌, map, slice_range, Option, Some, None}
-use Rattle.gql_cst_grammar.specs.declared.word.Word.{Word}
-use Rattle.gql_cst_grammar.specs.declared.rule.Rule.{Rule}
-use Rattle.gql_cst_grammar.specs.declared.syntax_kind.SyntaxKind.{SyntaxKind}
-use Rattle.gql_cst_grammar.specs.declared.syntax_kind.SyntaxKind.TheVariants.{Document}
-use Rattle.gql_cst_grammar.specs.Row as row
-use Rattle.gql_cst_grammar.specs.Row.{Row}
-use Rattle.gql_cst_grammar.specs.Rule.{kind_of}
-use Rattle.gql_cst_grammar.specs.Stands.{BetweenIn}
+use Rattle.gql_grammar.specs.declared.word.Word.{Word}
+use Rattle.gql_grammar.specs.declared.rule.Rule.{Rule}
+use Rattle.gql_grammar.specs.declared.syntax_kind.SyntaxKind.{SyntaxKind}
+use Rattle.gql_grammar.specs.declared.syntax_kind.SyntaxKind.TheVariants.{Document}
+use Rattle.gql_grammar.specs.Row as row
+use Rattle.gql_grammar.specs.Row.{Row}
+use Rattle.gql_grammar.specs.Rule.{kind_of}
+use Rattle.gql_grammar.specs.Stands.{BetweenIn}
 use Rattle.gql_cst.specs.Forest.{Forest, nothing, tree_then, Plain, row_of}
 use Rattle.gql_cst.specs.Leaves.{Part, word, ignored, node, part_of, Leaf}
 use Rattle.gql_cst.specs.Machine.{State}

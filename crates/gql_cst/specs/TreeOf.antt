@@ -1,8 +1,8 @@
 -- The trees of a whole text.
 use Rattle.std.specs.Prelude.{ℕ, List, length}
-use Rattle.gql_cst_grammar.specs.declared.rule.Rule.{Rule}
-use Rattle.gql_cst_grammar.specs.Reads.{Sentence}
-use Rattle.gql_cst_grammar.specs.Row as row
+use Rattle.gql_grammar.specs.declared.rule.Rule.{Rule}
+use Rattle.gql_grammar.specs.Reads.{Sentence}
+use Rattle.gql_grammar.specs.Row as row
 use Rattle.gql_cst.specs.Forest.{Forest}
 use Rattle.gql_cst.specs.Leaves.{leaves, Tiles}
 use Rattle.gql_cst.specs.Sentences.{root_kind, words, shown}

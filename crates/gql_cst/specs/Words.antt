@@ -1,10 +1,10 @@
 -- The words that tokens are, by their bytes.
 use Rattle.std.specs.Prelude.{ℕ, Bool, ◌||◌, ◌==◌, if◌then◌else◌, List, slice_index}
 use Rattle.std.specs.List.{list_any}
-use Rattle.gql_cst_lexer.specs.Class.{is_name_start, is_digit}
-use Rattle.gql_cst_grammar.specs.declared.word.Word.{Word}
-use Rattle.gql_cst_grammar.specs.declared.word.Word.TheVariants.{IntLiteral, FloatLiteral, StringLiteral}
-use Rattle.gql_cst_grammar.specs.Spelling.{word_of_name, word_of_punctuator}
+use Rattle.gql_lexer.specs.Class.{is_name_start, is_digit}
+use Rattle.gql_grammar.specs.declared.word.Word.{Word}
+use Rattle.gql_grammar.specs.declared.word.Word.TheVariants.{IntLiteral, FloatLiteral, StringLiteral}
+use Rattle.gql_grammar.specs.Spelling.{word_of_name, word_of_punctuator}
 
 abbrev pub has_byte : ℕ → List ℕ → Bool
 has_byte byte token = list_any (λ b. b == byte) token

@@ -1,7 +1,7 @@
 //! The rules that are open.
 
 use crate::SyntaxKind;
-use gql_cst_grammar::Symbol;
+use gql_grammar::Symbol;
 
 /// A rule that is open.
 #[derive(Clone, Copy)]

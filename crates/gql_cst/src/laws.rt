@@ -1,7 +1,7 @@
 //! Laws of the definitions alone: a text has one list of tokens and, ignored tokens aside, one tree.
 
 ghost use Rattle.std.specs.Prelude.{◌≡◌, ℕ, List, None};
-ghost use Rattle.gql_cst_grammar.specs.declared.rule.Rule.{Rule};
+ghost use Rattle.gql_grammar.specs.declared.rule.Rule.{Rule};
 ghost use Rattle.gql_cst.specs.declared.limits.Limits.{Limits};
 ghost use Rattle.gql_cst.specs.declared.limits.Parsed.{Parsed};
 ghost use Rattle.gql_cst.specs.Forest.{Forest, plain};
@@ -11,8 +11,8 @@ ghost use Rattle.gql_cst.specs.Sentences.{root_kind};
 ghost use Rattle.gql_cst.specs.Bare.{bare, TokensEnd};
 ghost use Rattle.gql_cst.specs.TreeOf.{IsTreeOf};
 
-use gql_cst_grammar::laws as grammar_laws;
-use gql_cst_lexer::laws as lexer_laws;
+use gql_grammar::laws as grammar_laws;
+use gql_lexer::laws as lexer_laws;
 
 /// The tokens of a text between two places are one list, those included that the grammar ignores.
 ///

@@ -33,8 +33,8 @@ mod tree;
 mod turn;
 mod word;
 
-pub use gql_cst_grammar::SyntaxKind;
-pub use gql_cst_lexer::{
+pub use gql_grammar::SyntaxKind;
+pub use gql_lexer::{
     CstError, Lexer, SyntaxFault, Token, TokenKind, block_string_value, is_block_string,
     string_value,
 };

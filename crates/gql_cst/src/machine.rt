@@ -4,17 +4,17 @@ ghost use Rattle.std.specs.Prelude.{◌≡◌, ◌≤◌, ◌∷◌, ◌++◌, [
 ghost use Rattle.std.specs.List.{list_all};
 ghost use Rattle.gql_cst.specs.Forest.{plain};
 ghost use Rattle.gql_cst.specs.Laid.{gathered, is_laid, is_loose, left_by, Stays, IsSame};
-ghost use Rattle.gql_cst_grammar.specs.declared.symbol.Symbol.TheVariants.{Repeated};
-ghost use Rattle.gql_cst_grammar.specs.Rule.{kind_of};
-ghost use Rattle.gql_cst_grammar.specs.Row as rows;
-ghost use Rattle.gql_cst_grammar.specs.Stands as stands;
+ghost use Rattle.gql_grammar.specs.declared.symbol.Symbol.TheVariants.{Repeated};
+ghost use Rattle.gql_grammar.specs.Rule.{kind_of};
+ghost use Rattle.gql_grammar.specs.Row as rows;
+ghost use Rattle.gql_grammar.specs.Stands as stands;
 ghost use Rattle.gql_cst.specs.Machine as spec;
 
 use crate::count::raised;
 use crate::frame::Frame;
 use crate::turn::{Turn, token_turn, way_at};
 use crate::{Memory, Nodes, SyntaxKind, Tree};
-use gql_cst_grammar::{Rule, Symbol, Word};
+use gql_grammar::{Rule, Symbol, Word};
 use std::alloc::Global;
 
 /// The symbols that are to come, and the rows of trees that are there.

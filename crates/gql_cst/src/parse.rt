@@ -6,12 +6,12 @@ ghost use Rattle.gql_cst.specs.Judged.{IsStood, IsJudged};
 ghost use Rattle.gql_cst.specs.Nested.{IsNested, EndsNested};
 ghost use Rattle.gql_cst.specs.Parses.{Accepts, Ended, IsParse};
 ghost use Rattle.gql_cst.specs.Sentences.{root_kind};
-ghost use Rattle.gql_cst_grammar.specs.Row as rows;
-ghost use Rattle.gql_cst_grammar.specs.Rule.{kind_of};
+ghost use Rattle.gql_grammar.specs.Row as rows;
+ghost use Rattle.gql_grammar.specs.Rule.{kind_of};
 
 use crate::parser::Parser;
 use crate::{CstError, Lexer, Limits, Memory, Parsed, SyntaxKind};
-use gql_cst_grammar::Rule;
+use gql_grammar::Rule;
 use std::alloc::Global;
 
 /// Reads the text up to its end, or to what ends the reading before.

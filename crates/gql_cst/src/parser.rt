@@ -1,14 +1,14 @@
 //! Reads a text token by token: counts them, and hands their words on.
 
 ghost use Rattle.std.specs.Prelude.{◌≡◌, ◌≢◌, ◌<◌, true, length, MatchBool, IfOk, OnOk, IfNone, IfSome, Some, None, is_some};
-ghost use Rattle.gql_cst_lexer.specs.declared.token.TokenKind.{TokenKind};
+ghost use Rattle.gql_lexer.specs.declared.token.TokenKind.{TokenKind};
 ghost use Rattle.gql_cst.specs.Forest as Forest;
 ghost use Rattle.gql_cst.specs.Forest.{plain};
 ghost use Rattle.gql_cst.specs.Leaves.{IsLeaf};
 ghost use Rattle.gql_cst.specs.Machine as machine;
 ghost use Rattle.gql_cst.specs.Sentences.{root_kind};
-ghost use Rattle.gql_cst_grammar.specs.Row as rows;
-ghost use Rattle.gql_cst_grammar.specs.Rule.{kind_of};
+ghost use Rattle.gql_grammar.specs.Row as rows;
+ghost use Rattle.gql_grammar.specs.Rule.{kind_of};
 ghost use Rattle.gql_cst.specs.Outcome.{Passes, IsWithin};
 
 use crate::count::raised;
@@ -18,7 +18,7 @@ use crate::word::word_of;
 use crate::{
     CstError, Limits, Memory, Nodes, Parsed, SyntaxFault, SyntaxKind, Token, TokenKind, Tree,
 };
-use gql_cst_grammar::{Rule, Word};
+use gql_grammar::{Rule, Word};
 use std::alloc::Global;
 use std::ops::Range;
 

@@ -2,10 +2,10 @@
 
 ghost use Rattle.std.specs.Prelude.{◌≡◌, if◌then◌else◌};
 ghost use Rattle.std.specs.Option.{option_map};
-ghost use Rattle.gql_cst_grammar.specs.Stands as stands;
+ghost use Rattle.gql_grammar.specs.Stands as stands;
 ghost use Rattle.gql_cst.specs.Machine as spec;
 
-use gql_cst_grammar::{Rule, Symbol, Terminal, Word};
+use gql_grammar::{Rule, Symbol, Terminal, Word};
 
 /// What one turn came to.
 #[derive(Clone, Copy)]

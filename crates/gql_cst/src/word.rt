@@ -3,7 +3,7 @@
 ghost use Rattle.std.specs.Prelude.{◌≡◌, ◌<◌, length};
 ghost use Rattle.gql_cst.specs.Words as spec;
 
-use gql_cst_grammar::Word;
+use gql_grammar::Word;
 
 /// A number with a fraction or an exponent is a FloatValue, and any other an IntValue.
 fn number_word(number: &str) -> Word

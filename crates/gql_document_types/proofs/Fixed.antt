@@ -12,8 +12,8 @@ use Rattle.gql_document_types.specs.declared.fragment.Fragment.{Fragment}
 use Rattle.gql_document_types.specs.declared.selection.FragmentSpread.{FragmentSpread}
 use Rattle.gql_document_types.specs.declared.selection.Selection.{Selection}
 use Rattle.gql_document_types.specs.declared.selection.Selection.TheVariants as selection
-use Rattle.gql_rules_graph.specs.Graph.{row}
-use Rattle.gql_rules_graph.specs.Ranks.{IsRanked}
+use Rattle.gql_graph.specs.Graph.{row}
+use Rattle.gql_graph.specs.Ranks.{IsRanked}
 use Rattle.gql_schema_types.specs.Entries.{is_called}
 use Rattle.gql_schema_types.proofs.Lookups.{found, missing}
 use Rattle.gql_document_types.specs.Contents.{HaveContents}

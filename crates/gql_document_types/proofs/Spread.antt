@@ -2,8 +2,8 @@
 use Rattle.std.proofs.Common.{◌≡◌, ℕ, zero, suc, Bool, true, false, not, List, [], ◌∷◌, Some, refl, sym}
 use Rattle.std.specs.Prelude.{slice_get}
 use Rattle.std.specs.List.{list_any}
-use Rattle.gql_rules_graph.specs.Chains.{AreJudged}
-use Rattle.gql_rules_graph.proofs.Walks.{from_node}
+use Rattle.gql_graph.specs.Chains.{AreJudged}
+use Rattle.gql_graph.proofs.Walks.{from_node}
 use Rattle.gql_document_types.specs.Spreads.{TellsAcyclic, spread_graph}
 use Rattle.gql_document_types.specs.declared.fragment.Fragment.{Fragment}
 

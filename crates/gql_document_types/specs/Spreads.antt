@@ -1,8 +1,8 @@
 -- Fragments that spread each other: section 5.5.2.2 of GraphQL October 2021.
 use Rattle.std.specs.Prelude.{◌≡◌, ℕ, Bool, true, false, List, [], ◌∷◌, ◌++◌, map, position, option_to_list}
 use Rattle.gql_ast_base.specs.Names.{Named}
-use Rattle.gql_rules_graph.specs.Cycles.{IsOnCycle}
-use Rattle.gql_rules_graph.specs.Graph.{Graph}
+use Rattle.gql_graph.specs.Cycles.{IsOnCycle}
+use Rattle.gql_graph.specs.Graph.{Graph}
 use Rattle.gql_schema_types.specs.Entries.{is_called}
 use Rattle.gql_document_types.specs.RootFields.{fragment_name}
 use Rattle.gql_document_types.specs.declared.fragment.Fragment.{Fragment}

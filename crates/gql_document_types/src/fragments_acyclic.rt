@@ -6,7 +6,7 @@ ghost use Rattle.gql_document_types.specs.Spreads as spec;
 
 use crate::document::ExecutableDocument;
 use crate::spreads::spread_graph;
-use gql_rules_graph::judge;
+use gql_graph::judge;
 use jb_text::Memory;
 use std::alloc::Global;
 

@@ -11,7 +11,7 @@ ghost use Rattle.gql_document_types.specs.declared.selection.Field.{Field};
 ghost use Rattle.gql_document_types.specs.declared.selection.FragmentSpread.{FragmentSpread};
 ghost use Rattle.gql_document_types.specs.declared.selection.Selection.TheVariants as selection;
 
-use gql_rules_graph::laws as graph_laws;
+use gql_graph::laws as graph_laws;
 
 /// Where no fragment leads back to itself, what stands for a fragment is what its own selections are expanded to: no spread in
 /// it is left out for want of room (GraphQL October 2021, section 5.5.2.2).

@@ -6,7 +6,7 @@ ghost use Rattle.gql_document_types.specs.Spreads as spec;
 use crate::fragment::Fragment;
 use crate::selection::Selection;
 use gql_ast_base::Name;
-use gql_rules_graph::Graph;
+use gql_graph::Graph;
 use gql_schema_types::Table;
 use jb_text::{Listed, Memory};
 use std::alloc::Global;

@@ -15,12 +15,12 @@ use Rattle.gql_parser.specs.SameFaults.{TellTheSame}
 use Rattle.gql_document_types.specs.ChosenOperation.{chosen, refusal, why_none}
 use Rattle.gql_document_types.specs.declared.document.ExecutableDocument.{ExecutableDocument}
 use Rattle.gql_document_types.specs.declared.operation.Operation.{Operation}
-use Rattle.gql_exec_plan.specs.DepthPlace.{depth_place}
-use Rattle.gql_exec_plan.specs.Expanded.{expanded_depth}
-use Rattle.gql_exec_plan.specs.Nested.{Place}
-use Rattle.gql_exec_plan.specs.Refusal.{IsFoundDeep, too_deep}
-use Rattle.gql_exec_plan.specs.View.{fragments_nested, nested}
-use Rattle.gql_exec_plan.specs.RequestErrors.{request_error as fault_told}
+use Rattle.gql_collect.specs.DepthPlace.{depth_place}
+use Rattle.gql_collect.specs.Expanded.{expanded_depth}
+use Rattle.gql_collect.specs.Nested.{Place}
+use Rattle.gql_collect.specs.Refusal.{IsFoundDeep, too_deep}
+use Rattle.gql_collect.specs.View.{fragments_nested, nested}
+use Rattle.gql_collect.specs.RequestErrors.{request_error as fault_told}
 use Rattle.gql_response.specs.declared.graphql_error.GraphQLError.{GraphQLError}
 use Rattle.gql_parser.specs.SchemaFaults.{SchemaFaults}
 use Rattle.gql_parser.specs.SchemaText.{SchemaText}

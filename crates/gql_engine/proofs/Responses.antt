@@ -11,15 +11,15 @@ use Rattle.gql_response.specs.declared.request_error.RequestError.{RequestError}
 use Rattle.gql_document_types.specs.ChosenOperation.{IsChosen as IsChosenAnswer}
 use Rattle.gql_document_types.specs.declared.document.ExecutableDocument.{ExecutableDocument}
 use Rattle.gql_document_types.specs.declared.operation.Operation.{Operation}
-use Rattle.gql_exec_plan.specs.Refusal.{IsTooDeep as IsDepthRefused}
-use Rattle.gql_exec_request.specs.Thing.{of_user, type_of_thing}
-use Rattle.gql_exec_request.specs.ThingMeaning.{Resolving, thing_meaning}
-use Rattle.gql_exec_request.specs.Execution.{Answers as ExecutionAnswers, Counts as ExecutionCounts, IsAnswer as IsExecutionAnswer, Looks as ExecutionLooksOf, Prepared, on_root, request_in, started, undefined_root, with_introspection, with_operation, with_values}
+use Rattle.gql_collect.specs.Refusal.{IsTooDeep as IsDepthRefused}
+use Rattle.gql_exec.specs.Thing.{of_user, type_of_thing}
+use Rattle.gql_exec.specs.ThingMeaning.{Resolving, thing_meaning}
+use Rattle.gql_exec.specs.Execution.{Answers as ExecutionAnswers, Counts as ExecutionCounts, IsAnswer as IsExecutionAnswer, Looks as ExecutionLooksOf, Prepared, on_root, request_in, started, undefined_root, with_introspection, with_operation, with_values}
 use Rattle.gql_exec_fields.specs.Looks.{AreLooks}
-use Rattle.gql_exec_request.specs.declared.execution.Execution.{Execution}
-use Rattle.gql_exec_request.specs.declared.execution.Given.TheVariants.{Coerced}
-use Rattle.gql_exec_plan.specs.RequestErrors.{request_error as fault_told}
-use Rattle.gql_exec_request.specs.Response.{IsExecuted, IsExplained}
+use Rattle.gql_exec.specs.declared.execution.Execution.{Execution}
+use Rattle.gql_exec.specs.declared.execution.Given.TheVariants.{Coerced}
+use Rattle.gql_collect.specs.RequestErrors.{request_error as fault_told}
+use Rattle.gql_exec.specs.Response.{IsExecuted, IsExplained}
 use Rattle.gql_response.specs.declared.execution_response.ExecutionResponse.{ExecutionResponse}
 use Rattle.gql_schema_types.specs.Schemas.{object_of}
 use Rattle.gql_schema_types.specs.declared.schema.Schema.{Schema}

@@ -7,14 +7,14 @@ use Rattle.gql_parser.specs.DocumentText.{DocumentText}
 use Rattle.gql_document_types.specs.ChosenOperation.{chosen}
 use Rattle.gql_document_types.specs.declared.document.ExecutableDocument.{ExecutableDocument}
 use Rattle.gql_document_types.specs.declared.operation.Operation.{Operation}
-use Rattle.gql_exec_request.specs.Thing.{of_user, type_of_thing}
-use Rattle.gql_exec_request.specs.ThingMeaning.{Resolving, thing_meaning}
+use Rattle.gql_exec.specs.Thing.{of_user, type_of_thing}
+use Rattle.gql_exec.specs.ThingMeaning.{Resolving, thing_meaning}
 use Rattle.gql_exec_fields.specs.Executing.{answers_by}
-use Rattle.gql_exec_resolve.specs.Data.{Data}
-use Rattle.gql_exec_resolve.specs.DataMeaning.{data_meaning}
-use Rattle.gql_exec_plan.specs.NotAsked.{IsAsked}
-use Rattle.gql_exec_plan.specs.Request.{Asked}
-use Rattle.gql_exec_plan.specs.SelfTest.{self_test}
+use Rattle.gql_resolvers.specs.Data.{Data}
+use Rattle.gql_resolvers.specs.DataMeaning.{data_meaning}
+use Rattle.gql_collect.specs.NotAsked.{IsAsked}
+use Rattle.gql_collect.specs.Request.{Asked}
+use Rattle.gql_collect.specs.SelfTest.{self_test}
 use Rattle.gql_parser.specs.SchemaText.{SchemaText}
 use Rattle.gql_schema_types.specs.declared.schema.Schema.{Schema}
 use Rattle.gql_schema_types.specs.declared.types.ObjectType.{ObjectType}

@@ -3,11 +3,11 @@ use Rattle.std.specs.Prelude.{◌≡◌, ◌<◌, ◌≤◌, ◌+◌, ℕ, Bool,
 use Rattle.jb_print.specs.Compact.{compact}
 use Rattle.gql_document_types.specs.declared.document.ExecutableDocument.{ExecutableDocument}
 use Rattle.gql_document_types.specs.declared.operation.Operation.{Operation}
-use Rattle.gql_exec_request.specs.Thing.{of_user, type_of_thing}
-use Rattle.gql_exec_request.specs.ThingMeaning.{Resolving, thing_meaning}
+use Rattle.gql_exec.specs.Thing.{of_user, type_of_thing}
+use Rattle.gql_exec.specs.ThingMeaning.{Resolving, thing_meaning}
 use Rattle.gql_exec_fields.specs.Executing.{request_by}
 use Rattle.gql_exec_fields.specs.Looks.{AreLooks}
-use Rattle.gql_exec_request.specs.Response.{IsExecuted, IsExplained}
+use Rattle.gql_exec.specs.Response.{IsExecuted, IsExplained}
 use Rattle.gql_response.specs.Response.{response_value}
 use Rattle.gql_response.specs.declared.execution_response.ExecutionResponse.{ExecutionResponse}
 use Rattle.gql_schema_types.specs.Schemas.{object_of}

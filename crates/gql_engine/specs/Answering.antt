@@ -1,6 +1,6 @@
 -- What a call for an answer gives.
 use Rattle.std.specs.Prelude.{◌≡◌, ◌≢◌, ℕ, List, Result, IfOk, IfErr, IsErrAnd}
-use Rattle.gql_exec_request.specs.ThingMeaning.{Resolving}
+use Rattle.gql_exec.specs.ThingMeaning.{Resolving}
 use Rattle.gql_engine.specs.declared.answer_error.AnswerError.{AnswerError}
 use Rattle.gql_engine.specs.declared.answer_error.AnswerError.TheVariants.{Memory}
 use Rattle.gql_engine.specs.AnswerError.{Asks, Call, ComesFor, HasCause, IsValid}

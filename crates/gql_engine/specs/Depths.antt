@@ -2,9 +2,9 @@
 use Rattle.std.specs.Prelude.{◌≡◌, ◌<◌, ℕ, Bool, true, if◌then◌else◌}
 use Rattle.gql_document_types.specs.declared.document.ExecutableDocument.{ExecutableDocument}
 use Rattle.gql_document_types.specs.declared.operation.Operation.{Operation}
-use Rattle.gql_exec_plan.specs.Expanded.{expanded_depth}
-use Rattle.gql_exec_plan.specs.View.{fragments_nested, nested}
-use Rattle.gql_exec_request.specs.Room.{all_selections as all_selections_of}
+use Rattle.gql_collect.specs.Expanded.{expanded_depth}
+use Rattle.gql_collect.specs.View.{fragments_nested, nested}
+use Rattle.gql_exec.specs.Room.{all_selections as all_selections_of}
 
 -- the greatest number of fields that lead on, on one chain of nested selections, where a spread stands for what its fragment selects
 abbrev pub depth_of : ExecutableDocument → Operation → ℕ

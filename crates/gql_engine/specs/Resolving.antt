@@ -3,12 +3,12 @@ use Rattle.std.specs.Prelude.{ℕ, ℤ, pos, negsuc, Bool, List, Option, Some, N
 use Rattle.std.specs.Map.{lookup}
 use Rattle.std.specs.Str.{bytes_eq}
 use Rattle.jb_tree.specs.Value.{string_text, truth_value, whole_number}
-use Rattle.gql_exec_resolve.specs.Meaning.{Members}
-pub use Rattle.gql_exec_resolve.specs.Resolved.{Meaning, Meanings, gives_leaf, gives_object, gives_list, gives_skip, fails_with, no_answer, answer_then}
-pub use Rattle.gql_exec_resolve.specs.Meaning.{Members, itself, meaning_by}
-pub use Rattle.gql_exec_resolve.specs.Objects.{gives_objects}
-pub use Rattle.gql_exec_resolve.specs.UnknownField.{unknown_field}
-pub use Rattle.gql_exec_resolve.specs.declared.resolved_value.ResolvedValue.{ResolvedValue}
+use Rattle.gql_resolvers.specs.Meaning.{Members}
+pub use Rattle.gql_resolvers.specs.Resolved.{Meaning, Meanings, gives_leaf, gives_object, gives_list, gives_skip, fails_with, no_answer, answer_then}
+pub use Rattle.gql_resolvers.specs.Meaning.{Members, itself, meaning_by}
+pub use Rattle.gql_resolvers.specs.Objects.{gives_objects}
+pub use Rattle.gql_resolvers.specs.UnknownField.{unknown_field}
+pub use Rattle.gql_resolvers.specs.declared.resolved_value.ResolvedValue.{ResolvedValue}
 pub use Rattle.jb_tree.specs.declared.value.Value.TheVariants as json
 
 -- the argument of this name, where it is a text

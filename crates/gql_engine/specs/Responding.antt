@@ -7,7 +7,7 @@ use Rattle.gql_response.specs.RequestFault.{request_error}
 use Rattle.gql_response.specs.declared.request_error.RequestError.{RequestError}
 use Rattle.gql_document_types.specs.declared.document.ExecutableDocument.{ExecutableDocument}
 use Rattle.gql_document_types.specs.declared.operation.Operation.{Operation}
-use Rattle.gql_exec_request.specs.ThingMeaning.{Resolving}
+use Rattle.gql_exec.specs.ThingMeaning.{Resolving}
 use Rattle.gql_diag.specs.Refusal.{errors_of}
 use Rattle.gql_response.specs.declared.graphql_error.GraphQLError.{GraphQLError}
 use Rattle.gql_parser.specs.SchemaFaults.{SchemaFaults}

@@ -6,9 +6,9 @@ use Rattle.gql_diag.specs.List.{Diagnostics}
 use Rattle.gql_response.specs.RequestFault.{request_error}
 use Rattle.gql_document_types.specs.ChosenOperation.{chosen, refusal, why_none}
 use Rattle.gql_document_types.specs.declared.operation.Operation.{Operation}
-use Rattle.gql_exec_plan.specs.Nested.{Place}
-use Rattle.gql_exec_plan.specs.Refusal.{IsFoundDeep, too_deep}
-use Rattle.gql_exec_plan.specs.RequestErrors.{request_error as fault_told}
+use Rattle.gql_collect.specs.Nested.{Place}
+use Rattle.gql_collect.specs.Refusal.{IsFoundDeep, too_deep}
+use Rattle.gql_collect.specs.RequestErrors.{request_error as fault_told}
 use Rattle.gql_diag.specs.Refusal.{errors_of}
 use Rattle.gql_response.specs.declared.graphql_error.GraphQLError.{GraphQLError}
 use Rattle.gql_engine.specs.Meant.{AreFaults}

@@ -25,18 +25,18 @@ mod wanted;
 pub use answer_error::{AnswerError, RequestKind, VariablesFault};
 pub use answering::answer;
 pub use gql_ast::Document;
+pub use gql_collect::Steps;
 pub use gql_diag::{
     DiagnosticList, ExecutionResponse, GraphQLError, RequestError, refusal_of_diagnostics,
     refusal_of_request,
 };
 pub use gql_document_types::ExecutableDocument;
-pub use gql_exec_plan::Steps;
-pub use gql_exec_request::{Execution, WrittenResponse, partial_execute};
-pub use gql_exec_resolve::{
-    DataObject, FieldError, ObjectValue, ResolveError, ResolveInfo, ResolvedValue,
-};
+pub use gql_exec::{Execution, WrittenResponse, partial_execute};
 pub use gql_parser::laws::valid_documents_run;
 pub use gql_parser::{Parser, document_of_text, schema_of_text};
+pub use gql_resolvers::{
+    DataObject, FieldError, ObjectValue, ResolveError, ResolveInfo, ResolvedValue,
+};
 pub use gql_rules::validate_standalone;
 pub use gql_schema_types::{Schema, Valid};
 pub use gql_source::{FileId, FileIds, SourceMap};

@@ -8,7 +8,7 @@ use crate::reply::{Reply, reply_to};
 use crate::response_bytes::Written;
 use crate::task::Wish;
 use bytes::{Bytes, BytesMut};
-use gql_exec_plan::{Steps, self_test_text};
+use gql_collect::{Steps, self_test_text};
 use gql_self_test_laws::laws as request_laws;
 use jb_io::{ANSWERED, REFUSED};
 use jb_tree::Memory;

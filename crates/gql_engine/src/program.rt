@@ -13,7 +13,7 @@ ghost use Rattle.jb_io.specs.Stream.{HasFailed};
 use crate::output::{Output, output_of, self_test};
 use crate::task::{Task, Wish, task_asked};
 use bytes::Bytes;
-use gql_exec_plan::Steps;
+use gql_collect::Steps;
 use gql_parser::laws as text_laws;
 use jb_io::{
     ANSWERED, InputFault, MISUSED, NO_MEMORY, REFUSED, SINK_FAILED, SOURCE_FAILED, Sink, SinkFault,

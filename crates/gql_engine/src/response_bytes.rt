@@ -2,12 +2,12 @@
 
 ghost use Rattle.std.specs.Prelude.{IfOk};
 ghost use Rattle.gql_engine.specs.Answered.{IsPrint};
-ghost use Rattle.gql_exec_request.specs.Running.{IsPrintedIn};
+ghost use Rattle.gql_exec.specs.Running.{IsPrintedIn};
 ghost use Rattle.gql_response.specs.declared.execution_response.ExecutionResponse.{ExecutionResponse as Response};
 
 use bytes::Bytes;
 use gql_diag::ExecutionResponse;
-use gql_exec_request::WrittenResponse;
+use gql_exec::WrittenResponse;
 use jb_tree::Memory;
 use std::alloc::Global;
 

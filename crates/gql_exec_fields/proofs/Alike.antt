@@ -6,19 +6,19 @@ use Rattle.gql_ast_base.specs.declared.type_ref.TypeRef.{TypeRef}
 use Rattle.gql_document_types.specs.declared.selection.Field.{Field}
 use Rattle.gql_document_types.specs.declared.selection.Selection.{Selection}
 use Rattle.gql_schema_types.specs.declared.types.ObjectType.{ObjectType}
-use Rattle.gql_exec_plan.specs.Flat.{flat, flat_sets}
-use Rattle.gql_exec_plan.specs.Groups.{response_name, FieldGroup, SameGroups, none_same, one_same, applying}
-use Rattle.gql_exec_plan.specs.Same.{SameFirst}
-use Rattle.gql_exec_plan.proofs.GroupFacts.{groups-same, defined-same}
-use Rattle.gql_exec_plan.proofs.SameFacts.{same-map, same-flat_map}
-use Rattle.gql_exec_resolve.specs.Resolved.{Meaning, Meanings, gives_leaf, gives_object, gives_list, gives_skip, fails_with, no_answer, answer_then}
-use Rattle.gql_exec_resolve.specs.Resolved.{Outcome, answered, refused}
-use Rattle.gql_exec_resolve.specs.Depth.{AllGroups, Suffices}
-use Rattle.gql_exec_resolve.specs.World.{World, key_of, DistinctKeys}
-use Rattle.gql_exec_resolve.specs.Trail.{Segment, Trail}
-use Rattle.gql_exec_resolve.specs.Spot.{Spot, item_spot, field_spot}
-use Rattle.gql_exec_resolve.specs.Execute.{Made, Member, then_rest, settled, settled_item, unless_misfit}
-use Rattle.gql_exec_resolve.specs.Execute.{one_array, one_object, with_key, Below, object_made, value_made, items_made, field_made, groups_made, execute}
+use Rattle.gql_collect.specs.Flat.{flat, flat_sets}
+use Rattle.gql_collect.specs.Groups.{response_name, FieldGroup, SameGroups, none_same, one_same, applying}
+use Rattle.gql_collect.specs.Same.{SameFirst}
+use Rattle.gql_collect.proofs.GroupFacts.{groups-same, defined-same}
+use Rattle.gql_collect.proofs.SameFacts.{same-map, same-flat_map}
+use Rattle.gql_resolvers.specs.Resolved.{Meaning, Meanings, gives_leaf, gives_object, gives_list, gives_skip, fails_with, no_answer, answer_then}
+use Rattle.gql_resolvers.specs.Resolved.{Outcome, answered, refused}
+use Rattle.gql_resolvers.specs.Depth.{AllGroups, Suffices}
+use Rattle.gql_resolvers.specs.World.{World, key_of, DistinctKeys}
+use Rattle.gql_resolvers.specs.Trail.{Segment, Trail}
+use Rattle.gql_resolvers.specs.Spot.{Spot, item_spot, field_spot}
+use Rattle.gql_resolvers.specs.Execute.{Made, Member, then_rest, settled, settled_item, unless_misfit}
+use Rattle.gql_resolvers.specs.Execute.{one_array, one_object, with_key, Below, object_made, value_made, items_made, field_made, groups_made, execute}
 use Rattle.gql_exec_fields.specs.Group.{Group, piece_of, started, groups_from}
 use Rattle.gql_exec_fields.specs.Request.{Request}
 use Rattle.gql_exec_fields.specs.RequestWorld.{setting_on, plain, plain_world}

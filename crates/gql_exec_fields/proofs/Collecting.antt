@@ -5,13 +5,13 @@ use Rattle.gql_document_types.specs.declared.selection.Selection.{Selection}
 use Rattle.gql_document_types.specs.declared.selection.SelectionSet.{SelectionSet}
 use Rattle.gql_schema_types.specs.Schemas.{field_of}
 use Rattle.gql_schema_types.specs.declared.types.ObjectType.{ObjectType}
-use Rattle.gql_exec_plan.specs.Collected.{sets_of}
-use Rattle.gql_exec_plan.specs.Grouping.{groups_seen}
-use Rattle.gql_exec_plan.specs.Groups.{SameGroups, applying}
-use Rattle.gql_exec_plan.specs.Ranks.{AreRanked}
-use Rattle.gql_exec_plan.specs.declared.group.Group.{Group as FieldsOfKey}
-use Rattle.gql_exec_resolve.specs.Depth.{Suffices}
-use Rattle.gql_exec_resolve.specs.World.{DistinctKeys}
+use Rattle.gql_collect.specs.Collected.{sets_of}
+use Rattle.gql_collect.specs.Grouping.{groups_seen}
+use Rattle.gql_collect.specs.Groups.{SameGroups, applying}
+use Rattle.gql_collect.specs.Ranks.{AreRanked}
+use Rattle.gql_collect.specs.declared.group.Group.{Group as FieldsOfKey}
+use Rattle.gql_resolvers.specs.Depth.{Suffices}
+use Rattle.gql_resolvers.specs.World.{DistinctKeys}
 use Rattle.gql_exec_fields.specs.Nesting.{nesting}
 use Rattle.gql_exec_fields.specs.Request.{Request}
 use Rattle.gql_exec_fields.specs.RequestWorld.{plain_world, setting_on}

@@ -7,13 +7,13 @@ use Rattle.gql_ast_base.specs.Names.{Named}
 use Rattle.gql_ast_base.specs.declared.type_ref.TypeRef.{TypeRef}
 use Rattle.gql_response.specs.declared.graphql_error.GraphQLError.{GraphQLError}
 use Rattle.gql_response.specs.declared.path.ResponseDataPathSegment.TheVariants.{Field}
-use Rattle.gql_exec_resolve.specs.Execute.{Made, Member, Below, null_or_pass, settled_by, settled, unless_misfit, value_made, completed, object_made, one_object, one_array}
-use Rattle.gql_exec_resolve.specs.Fault.{told_at, fault_error}
-use Rattle.gql_exec_resolve.specs.Resolved.{Meaning, gives_object, Misfit}
-use Rattle.gql_exec_resolve.specs.Spot.{Spot, trail, field_spot}
-use Rattle.gql_exec_resolve.specs.Trail.{Trail}
+use Rattle.gql_resolvers.specs.Execute.{Made, Member, Below, null_or_pass, settled_by, settled, unless_misfit, value_made, completed, object_made, one_object, one_array}
+use Rattle.gql_resolvers.specs.Fault.{told_at, fault_error}
+use Rattle.gql_resolvers.specs.Resolved.{Meaning, gives_object, Misfit}
+use Rattle.gql_resolvers.specs.Spot.{Spot, trail, field_spot}
+use Rattle.gql_resolvers.specs.Trail.{Trail}
 use Rattle.gql_ast_base.specs.TypeParts.{is_non_null}
-use Rattle.gql_exec_resolve.specs.World.{World}
+use Rattle.gql_resolvers.specs.World.{World}
 use Rattle.gql_exec_fields.specs.Executed.{IsMade}
 
 pub made-as : {A : Type 0} (found other : Option (List A)) (before after : List GraphQLError) (made whole : Made A) → found ≡ other → made ≡ whole

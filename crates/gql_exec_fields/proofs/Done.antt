@@ -6,17 +6,17 @@ use Rattle.gql_ast_base.specs.declared.type_ref.TypeRef.{TypeRef}
 use Rattle.gql_document_types.specs.declared.selection.Selection.{Selection}
 use Rattle.gql_response.specs.declared.graphql_error.GraphQLError.{GraphQLError}
 use Rattle.gql_schema_types.specs.declared.types.ObjectType.{ObjectType}
-use Rattle.gql_exec_resolve.specs.Fit.{wrong}
-use Rattle.gql_exec_resolve.specs.Messages as message
-use Rattle.gql_exec_resolve.specs.Execute.{Made, Below, settled, settled_item, unless_misfit, value_made, completed, field_made, one_object, execute}
-use Rattle.gql_exec_resolve.specs.Fault.{told_at, fault_error}
-use Rattle.gql_exec_resolve.specs.Resolved.{Meaning, gives_object, Misfit, Fault, answered, refused}
-use Rattle.gql_exec_resolve.specs.Spot.{Spot, trail, field_spot}
-use Rattle.gql_exec_resolve.specs.Trail.{Trail}
-use Rattle.gql_exec_resolve.specs.World.{World}
-use Rattle.gql_exec_resolve.specs.Meaning.{meaning_by, item_by}
-use Rattle.gql_exec_resolve.specs.declared.resolve_error.FieldError.{FieldError}
-use Rattle.gql_exec_resolve.specs.declared.resolved_value.ResolvedValue.{ResolvedValue}
+use Rattle.gql_resolvers.specs.Fit.{wrong}
+use Rattle.gql_resolvers.specs.Messages as message
+use Rattle.gql_resolvers.specs.Execute.{Made, Below, settled, settled_item, unless_misfit, value_made, completed, field_made, one_object, execute}
+use Rattle.gql_resolvers.specs.Fault.{told_at, fault_error}
+use Rattle.gql_resolvers.specs.Resolved.{Meaning, gives_object, Misfit, Fault, answered, refused}
+use Rattle.gql_resolvers.specs.Spot.{Spot, trail, field_spot}
+use Rattle.gql_resolvers.specs.Trail.{Trail}
+use Rattle.gql_resolvers.specs.World.{World}
+use Rattle.gql_resolvers.specs.Meaning.{meaning_by, item_by}
+use Rattle.gql_resolvers.specs.declared.resolve_error.FieldError.{FieldError}
+use Rattle.gql_resolvers.specs.declared.resolved_value.ResolvedValue.{ResolvedValue}
 use Rattle.gql_exec_fields.specs.Group.{Group}
 use Rattle.gql_exec_fields.specs.Request.{Request}
 use Rattle.gql_exec_fields.specs.RequestWorld.{plain_world}

@@ -5,14 +5,14 @@ use Rattle.gql_ast_base.specs.Names.{Named}
 use Rattle.gql_ast_definitions.specs.declared.field_definition.FieldDefinition.{FieldDefinition}
 use Rattle.gql_response.specs.declared.graphql_error.GraphQLError.{GraphQLError}
 use Rattle.gql_schema_types.specs.declared.types.ObjectType.{ObjectType}
-use Rattle.gql_exec_plan.specs.Groups.{response_name}
-use Rattle.gql_exec_resolve.specs.Execute.{completed, field_made}
-use Rattle.gql_exec_resolve.specs.Resolved.{fails_with}
-use Rattle.gql_exec_resolve.specs.Spot.{field_spot}
-use Rattle.gql_exec_resolve.specs.Trail.{Trail}
-use Rattle.gql_exec_resolve.specs.Meaning.{meaning_by}
-use Rattle.gql_exec_resolve.specs.declared.resolve_error.FieldError.{FieldError}
-use Rattle.gql_exec_resolve.specs.declared.resolved_value.ResolvedValue.{ResolvedValue}
+use Rattle.gql_collect.specs.Groups.{response_name}
+use Rattle.gql_resolvers.specs.Execute.{completed, field_made}
+use Rattle.gql_resolvers.specs.Resolved.{fails_with}
+use Rattle.gql_resolvers.specs.Spot.{field_spot}
+use Rattle.gql_resolvers.specs.Trail.{Trail}
+use Rattle.gql_resolvers.specs.Meaning.{meaning_by}
+use Rattle.gql_resolvers.specs.declared.resolve_error.FieldError.{FieldError}
+use Rattle.gql_resolvers.specs.declared.resolved_value.ResolvedValue.{ResolvedValue}
 use Rattle.gql_coerce.specs.declared.told.ArgumentFault.{ArgumentFault}
 use Rattle.gql_exec_fields.specs.Asks as asks
 use Rattle.gql_exec_fields.specs.Group.{Group}

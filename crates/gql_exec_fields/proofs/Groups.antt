@@ -5,11 +5,11 @@ use Rattle.jb_tree.specs.declared.value.Value.{Value}
 use Rattle.gql_document_types.specs.declared.selection.Selection.{Selection}
 use Rattle.gql_response.specs.declared.graphql_error.GraphQLError.{GraphQLError}
 use Rattle.gql_schema_types.specs.declared.types.ObjectType.{ObjectType}
-use Rattle.gql_exec_resolve.specs.Depth.{AllGroups, Suffices}
-use Rattle.gql_exec_resolve.specs.Execute.{Made, Member, keyed, with_key, field_made, groups_made, execute}
-use Rattle.gql_exec_resolve.specs.Spot.{field_spot}
-use Rattle.gql_exec_resolve.specs.Trail.{Trail}
-use Rattle.gql_exec_resolve.specs.World.{World, key_of, DistinctKeys}
+use Rattle.gql_resolvers.specs.Depth.{AllGroups, Suffices}
+use Rattle.gql_resolvers.specs.Execute.{Made, Member, keyed, with_key, field_made, groups_made, execute}
+use Rattle.gql_resolvers.specs.Spot.{field_spot}
+use Rattle.gql_resolvers.specs.Trail.{Trail}
+use Rattle.gql_resolvers.specs.World.{World, key_of, DistinctKeys}
 use Rattle.gql_exec_fields.specs.Group.{Group}
 use Rattle.gql_exec_fields.specs.Runs.{RunsAs}
 use Rattle.gql_exec_fields.specs.Executed.{IsMade, IsEnough, MakesBelow, Executes, ExecutesGroups}

@@ -2,20 +2,20 @@
 use Rattle.std.proofs.Common.{◌≡◌, inl, ℕ, List, [], ◌∷◌, drop, Some, None, Result, Ok, Err, OnOk, slice_get, slice_set, refl, sym, ap, ◌∙◌, subst}
 use Rattle.gql_document_types.specs.declared.selection.Selection.{Selection}
 use Rattle.gql_schema_types.specs.declared.types.ObjectType.{ObjectType}
-use Rattle.gql_exec_plan.specs.Groups.{SameGroups, applying}
-use Rattle.gql_exec_plan.specs.Grouping.{groups_seen}
-use Rattle.gql_exec_plan.specs.declared.group.Group.{Group as FieldsOfKey}
-use Rattle.gql_exec_resolve.specs.Resolved.{Meaning, Meanings, gives_object, gives_list, answer_then, Outcome, answered}
-use Rattle.gql_exec_resolve.specs.Spot.{Spot}
-use Rattle.gql_exec_resolve.specs.Types.{item_type}
-use Rattle.gql_exec_resolve.specs.World.{World, key_of}
-use Rattle.gql_exec_plan.specs.Plan.{Ground, group_in, groups_in, most_looks, nodes_in, parts_in, type_in}
-use Rattle.gql_exec_plan.specs.Ways.{Turn, Way, Grows, TurnsTo, key_in, turns_to, ways_to}
-use Rattle.gql_exec_plan.specs.declared.plan.Node.{Node}
-use Rattle.gql_exec_plan.specs.declared.plan.Part.{Part}
-use Rattle.gql_exec_plan.proofs.Changes.{with_nodes, with_parts}
-use Rattle.gql_exec_plan.proofs.Growing.{grows-none, grows-then, grows-as}
-use Rattle.gql_exec_plan.proofs.Ways.{GoesBy, grows-nodes, grows-parts}
+use Rattle.gql_collect.specs.Groups.{SameGroups, applying}
+use Rattle.gql_collect.specs.Grouping.{groups_seen}
+use Rattle.gql_collect.specs.declared.group.Group.{Group as FieldsOfKey}
+use Rattle.gql_resolvers.specs.Resolved.{Meaning, Meanings, gives_object, gives_list, answer_then, Outcome, answered}
+use Rattle.gql_resolvers.specs.Spot.{Spot}
+use Rattle.gql_resolvers.specs.Types.{item_type}
+use Rattle.gql_resolvers.specs.World.{World, key_of}
+use Rattle.gql_collect.specs.Plan.{Ground, group_in, groups_in, most_looks, nodes_in, parts_in, type_in}
+use Rattle.gql_collect.specs.Ways.{Turn, Way, Grows, TurnsTo, key_in, turns_to, ways_to}
+use Rattle.gql_collect.specs.declared.plan.Node.{Node}
+use Rattle.gql_collect.specs.declared.plan.Part.{Part}
+use Rattle.gql_collect.proofs.Changes.{with_nodes, with_parts}
+use Rattle.gql_collect.proofs.Growing.{grows-none, grows-then, grows-as}
+use Rattle.gql_collect.proofs.Ways.{GoesBy, grows-nodes, grows-parts}
 use Rattle.gql_exec_fields.specs.Group.{Group}
 use Rattle.gql_exec_fields.specs.Request.{Request}
 use Rattle.gql_exec_fields.specs.RequestWorld.{plain_world, setting_on}

@@ -14,7 +14,7 @@ use Rattle.gql_schema_types.specs.Schemas.{is_query_root, meta_field, field_on, 
 use Rattle.gql_schema_types.specs.Types.{type_name, type_called, is_composite, fields_of, field_name}
 use Rattle.gql_schema_types.specs.declared.schema.Schema.{Schema}
 use Rattle.gql_schema_types.specs.declared.types.ExtendedType.{ExtendedType}
-use Rattle.gql_exec_resolve.proofs.Height.{height}
+use Rattle.gql_resolvers.proofs.Height.{height}
 
 module _ {A : Type 0} (f : A → ℕ) where
   abbrev most : List A → ℕ

@@ -5,11 +5,11 @@ use Rattle.jb_tree.specs.declared.value.Value.TheVariants as json
 use Rattle.gql_document_types.specs.declared.selection.Selection.{Selection}
 use Rattle.gql_response.specs.declared.graphql_error.GraphQLError.{GraphQLError}
 use Rattle.gql_schema_types.specs.declared.types.ObjectType.{ObjectType}
-use Rattle.gql_exec_resolve.specs.Execute.{Made, Below, null_or_pass, items_made, one_array, settled, settled_item, unless_misfit, value_made, execute}
-use Rattle.gql_exec_resolve.specs.Resolved.{Meaning, Meanings, no_answer, answer_then}
-use Rattle.gql_exec_resolve.specs.Spot.{Spot, item_spot}
+use Rattle.gql_resolvers.specs.Execute.{Made, Below, null_or_pass, items_made, one_array, settled, settled_item, unless_misfit, value_made, execute}
+use Rattle.gql_resolvers.specs.Resolved.{Meaning, Meanings, no_answer, answer_then}
+use Rattle.gql_resolvers.specs.Spot.{Spot, item_spot}
 use Rattle.gql_ast_base.specs.TypeParts.{is_non_null}
-use Rattle.gql_exec_resolve.specs.World.{World}
+use Rattle.gql_resolvers.specs.World.{World}
 use Rattle.gql_exec_fields.specs.Group.{Group}
 use Rattle.gql_exec_fields.specs.Executed.{IsEnough, MakesBelow}
 use Rattle.gql_exec_fields.proofs.Completing.{made-as, array-some, array-none}

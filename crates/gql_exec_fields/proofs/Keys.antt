@@ -5,8 +5,8 @@ use Rattle.std.specs.Map.{keys_of}
 use Rattle.std.specs.Str.{bytes_eq}
 use Rattle.std.proofs.lemmas.Slice.Eq.{bytes_eq-Decides}
 use Rattle.indexmap.proofs.MapLemmas.{index-absent}
-use Rattle.gql_exec_resolve.specs.Execute.{Member}
-use Rattle.gql_exec_resolve.specs.World.{World, key_of, DistinctKeys}
+use Rattle.gql_resolvers.specs.Execute.{Member}
+use Rattle.gql_resolvers.specs.World.{World, key_of, DistinctKeys}
 
 module _ {X T G S : Type 0} (w : World X T G S) where
   -- no member has its key

@@ -16,15 +16,15 @@ use Rattle.gql_schema_types.specs.declared.schema.Schema.{Schema}
 use Rattle.gql_schema_types.specs.declared.types.ExtendedType.{ExtendedType}
 use Rattle.gql_schema_types.specs.declared.types.ExtendedType.TheVariants as type
 use Rattle.gql_schema_types.specs.declared.types.ObjectType.{ObjectType}
-use Rattle.gql_exec_resolve.specs.Fit.{wrong, unless, null_misfit, leaf_misfit, leaf_at, implementing_misfit, member_misfit, object_at, object_misfit}
-use Rattle.gql_exec_resolve.specs.Lists.{is_list}
-use Rattle.gql_exec_resolve.specs.Messages as message
-use Rattle.gql_exec_plan.specs.Flat.{flat_sets}
-use Rattle.gql_exec_plan.specs.Groups.{response_key, has_key, keys, FieldGroup, group_at, is_defined}
-use Rattle.gql_exec_plan.proofs.Keys.{Text, has, text-same, text-itself, AreDistinct, are-distinct}
-use Rattle.gql_exec_resolve.specs.Resolved.{Misfit}
+use Rattle.gql_resolvers.specs.Fit.{wrong, unless, null_misfit, leaf_misfit, leaf_at, implementing_misfit, member_misfit, object_at, object_misfit}
+use Rattle.gql_resolvers.specs.Lists.{is_list}
+use Rattle.gql_resolvers.specs.Messages as message
+use Rattle.gql_collect.specs.Flat.{flat_sets}
+use Rattle.gql_collect.specs.Groups.{response_key, has_key, keys, FieldGroup, group_at, is_defined}
+use Rattle.gql_collect.proofs.Keys.{Text, has, text-same, text-itself, AreDistinct, are-distinct}
+use Rattle.gql_resolvers.specs.Resolved.{Misfit}
 use Rattle.gql_ast_base.specs.TypeParts.{is_non_null}
-use Rattle.gql_exec_resolve.specs.World.{World, key_of, DistinctKeys, IsLawful}
+use Rattle.gql_resolvers.specs.World.{World, key_of, DistinctKeys, IsLawful}
 use Rattle.gql_exec_fields.specs.Group.{Group, started, groups_from}
 use Rattle.gql_exec_fields.specs.Request.{Request}
 use Rattle.gql_exec_fields.specs.RequestWorld.{setting_on, plain, plain_world}

@@ -9,9 +9,9 @@ use Rattle.gql_document_types.specs.declared.selection.Selection.{Selection}
 use Rattle.gql_schema_types.specs.Schemas.{field_of}
 use Rattle.gql_schema_types.specs.declared.schema.Schema.{Schema}
 use Rattle.gql_schema_types.specs.declared.types.ObjectType.{ObjectType}
-use Rattle.gql_exec_plan.specs.Grouping.{groups_seen, group_seen}
-use Rattle.gql_exec_plan.specs.declared.group.Group.{Group as FieldsOfKey}
-use Rattle.gql_exec_resolve.proofs.Height.{height}
+use Rattle.gql_collect.specs.Grouping.{groups_seen, group_seen}
+use Rattle.gql_collect.specs.declared.group.Group.{Group as FieldsOfKey}
+use Rattle.gql_resolvers.proofs.Height.{height}
 use Rattle.gql_exec_fields.specs.Nesting.{nesting, IsBelow, AllBelow}
 use Rattle.gql_exec_fields.proofs.Heights.{top, field-top}
 use Rattle.gql_exec_fields.specs.Trails.{group_of}

@@ -3,10 +3,10 @@ use Rattle.std.proofs.Common.{◌≡◌, ℕ, Bool, true, false, List, Some, Non
 use Rattle.gql_ast_base.specs.declared.type_ref.TypeRef.{TypeRef}
 use Rattle.gql_schema_types.specs.Schemas.{object_of}
 use Rattle.gql_schema_types.specs.declared.schema.Schema.{Schema}
-use Rattle.gql_exec_resolve.specs.Fit.{list_misfit, object_misfit, unless, wrong}
-use Rattle.gql_exec_resolve.specs.Lists.{is_list}
-use Rattle.gql_exec_resolve.specs.Messages as message
-use Rattle.gql_exec_resolve.specs.Resolved.{Misfit}
+use Rattle.gql_resolvers.specs.Fit.{list_misfit, object_misfit, unless, wrong}
+use Rattle.gql_resolvers.specs.Lists.{is_list}
+use Rattle.gql_resolvers.specs.Messages as message
+use Rattle.gql_resolvers.specs.Resolved.{Misfit}
 
 -- a list fits at lists' types alone
 pub fits-list : (ty : TypeRef) → list_misfit ty ≡ None → is_list ty ≡ true

@@ -10,8 +10,8 @@ use Rattle.gql_schema_types.specs.Types.{type_called}
 use Rattle.gql_schema_types.specs.declared.schema.Schema.{Schema}
 use Rattle.gql_schema_types.specs.Schemas.{type_named}
 use Rattle.gql_ast_base.specs.TypeParts.{item_level}
-use Rattle.gql_exec_resolve.specs.Lists.{is_list}
-use Rattle.gql_exec_resolve.specs.Types as places
+use Rattle.gql_resolvers.specs.Lists.{is_list}
+use Rattle.gql_resolvers.specs.Types as places
 use Rattle.gql_exec_fields.specs.Trails.{IsNamed}
 use Rattle.gql_exec_fields.specs.declared.place.Place.{Place}
 

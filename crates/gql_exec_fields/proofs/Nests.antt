@@ -15,23 +15,23 @@ use Rattle.gql_document_types.specs.declared.selection.Selection.{Selection, out
 use Rattle.gql_document_types.specs.declared.selection.Selection.TheVariants as selection
 use Rattle.gql_schema_types.specs.Schemas.{field_of as field_of_type}
 use Rattle.gql_schema_types.specs.declared.types.ObjectType.{ObjectType}
-use Rattle.gql_exec_plan.specs.Expanded.{most}
-use Rattle.gql_exec_plan.specs.Nested.{Nested, nothing, field_then, spread_then, inline_then, Fragments, Place, body_in, body_of, IsBelow as IsRankedBelow, AreRanked as AreNestedRanked}
-use Rattle.gql_exec_plan.specs.View.{One, one_field, one_spread, one_inline, then_more, spread_of, number_of, one_of, nested, body_nested, fragments_nested}
-use Rattle.gql_exec_plan.proofs.Ranked.{fragments-ranked}
-use Rattle.gql_exec_plan.proofs.Views.{view-field, view-spread, view-inline, view-inside, view-node}
-use Rattle.gql_exec_plan.specs.Applies.{applies, applies_if}
-use Rattle.gql_exec_plan.specs.Flat.{when, contents, body, field_of, opened, flat_within, enough, flat, flat_sets}
-use Rattle.gql_exec_plan.specs.Groups.{has_key, keys, FieldGroup, group_at, has_field, is_defined, applying, SameGroups, none_same, one_same}
-use Rattle.gql_exec_plan.specs.Kept.{is_kept}
-use Rattle.gql_exec_plan.specs.Ranks.{AreRanked}
-use Rattle.gql_exec_plan.specs.Same.{SameFirst}
-use Rattle.gql_exec_plan.specs.Setting.{Setting}
-use Rattle.gql_exec_plan.proofs.Numbers.{body-is, body-none}
+use Rattle.gql_collect.specs.Expanded.{most}
+use Rattle.gql_collect.specs.Nested.{Nested, nothing, field_then, spread_then, inline_then, Fragments, Place, body_in, body_of, IsBelow as IsRankedBelow, AreRanked as AreNestedRanked}
+use Rattle.gql_collect.specs.View.{One, one_field, one_spread, one_inline, then_more, spread_of, number_of, one_of, nested, body_nested, fragments_nested}
+use Rattle.gql_collect.proofs.Ranked.{fragments-ranked}
+use Rattle.gql_collect.proofs.Views.{view-field, view-spread, view-inline, view-inside, view-node}
+use Rattle.gql_collect.specs.Applies.{applies, applies_if}
+use Rattle.gql_collect.specs.Flat.{when, contents, body, field_of, opened, flat_within, enough, flat, flat_sets}
+use Rattle.gql_collect.specs.Groups.{has_key, keys, FieldGroup, group_at, has_field, is_defined, applying, SameGroups, none_same, one_same}
+use Rattle.gql_collect.specs.Kept.{is_kept}
+use Rattle.gql_collect.specs.Ranks.{AreRanked}
+use Rattle.gql_collect.specs.Same.{SameFirst}
+use Rattle.gql_collect.specs.Setting.{Setting}
+use Rattle.gql_collect.proofs.Numbers.{body-is, body-none}
 use Rattle.gql_document_types.proofs.Variants.{out-field, out-spread, out-inline, each}
-use Rattle.gql_rules_graph.specs.Ranks.{IsRanked}
-use Rattle.gql_exec_resolve.specs.Depth.{AllGroups, Suffices}
-use Rattle.gql_exec_resolve.specs.World.{World}
+use Rattle.gql_graph.specs.Ranks.{IsRanked}
+use Rattle.gql_resolvers.specs.Depth.{AllGroups, Suffices}
+use Rattle.gql_resolvers.specs.World.{World}
 use Rattle.gql_exec_fields.specs.Group.{Group, piece_of, pieces_of, started, groups_from}
 use Rattle.gql_exec_fields.specs.Nesting.{nesting_with, fragment_nesting, nesting_in, nesting, AllBelow}
 use Rattle.gql_exec_fields.specs.Request.{Request}

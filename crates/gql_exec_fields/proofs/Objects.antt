@@ -5,15 +5,15 @@ use Rattle.jb_tree.specs.declared.value.Value.TheVariants as json
 use Rattle.gql_document_types.specs.declared.selection.Selection.{Selection}
 use Rattle.gql_response.specs.declared.graphql_error.GraphQLError.{GraphQLError}
 use Rattle.gql_schema_types.specs.declared.types.ObjectType.{ObjectType}
-use Rattle.gql_exec_plan.specs.Ranks.{AreRanked}
-use Rattle.gql_exec_resolve.specs.Execute.{Member, one_object, settled}
-use Rattle.gql_exec_resolve.specs.Spot.{trail}
-use Rattle.gql_exec_plan.specs.Plan.{Ground, AreNodes, ArePartsOf, HaveNodes, IsNodeOf, fields_in, groups_in, most_looks, parts_in, sets_below}
-use Rattle.gql_exec_plan.specs.Ways.{Grows, TurnsTo, turns_to}
-use Rattle.gql_exec_plan.specs.declared.plan.Node.{Node}
-use Rattle.gql_exec_plan.specs.declared.plan.Part.{Part}
-use Rattle.gql_exec_plan.proofs.Changes.{with_parts}
-use Rattle.gql_exec_plan.proofs.Nodes.{node-with}
+use Rattle.gql_collect.specs.Ranks.{AreRanked}
+use Rattle.gql_resolvers.specs.Execute.{Member, one_object, settled}
+use Rattle.gql_resolvers.specs.Spot.{trail}
+use Rattle.gql_collect.specs.Plan.{Ground, AreNodes, ArePartsOf, HaveNodes, IsNodeOf, fields_in, groups_in, most_looks, parts_in, sets_below}
+use Rattle.gql_collect.specs.Ways.{Grows, TurnsTo, turns_to}
+use Rattle.gql_collect.specs.declared.plan.Node.{Node}
+use Rattle.gql_collect.specs.declared.plan.Part.{Part}
+use Rattle.gql_collect.proofs.Changes.{with_parts}
+use Rattle.gql_collect.proofs.Nodes.{node-with}
 use Rattle.gql_exec_fields.specs.Executed.{Executes, ExecutesGroups, MakesBelow}
 use Rattle.gql_exec_fields.specs.declared.executing.Executing.{Executing}
 use Rattle.gql_exec_fields.specs.declared.path.Path.TheVariants.{Below}

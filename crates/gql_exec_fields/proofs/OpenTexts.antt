@@ -7,7 +7,7 @@ use Rattle.jb_print.specs.Compact.{compact}
 use Rattle.jb_print.specs.Pieces.{comma_after, pieces_text, member_piece}
 use Rattle.jb_print.specs.Quoted.{quoted}
 use Rattle.jb_print.proofs.Compacts.{compact-Array, compact-Object}
-use Rattle.gql_exec_resolve.specs.Execute.{Member}
+use Rattle.gql_resolvers.specs.Execute.{Member}
 use Rattle.gql_exec_fields.specs.Written.{with_commas, list_text, object_text, has_some, IsOpenList, IsOpenObject, IsKeyed}
 use Rattle.gql_exec_fields.specs.declared.text_output.OpenList.{OpenList}
 use Rattle.gql_exec_fields.specs.declared.text_output.OpenObject.{OpenObject}

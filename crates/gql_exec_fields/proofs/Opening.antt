@@ -3,14 +3,14 @@ use Rattle.std.proofs.Common.{◌≡◌, inl, inr, ℕ, zero, suc, List, [], ◌
 use Rattle.gql_ast_base.specs.declared.type_ref.TypeRef.{TypeRef}
 use Rattle.gql_document_types.specs.declared.selection.Selection.{Selection}
 use Rattle.gql_schema_types.specs.declared.types.ObjectType.{ObjectType}
-use Rattle.gql_exec_plan.specs.Grouping.{groups_seen}
-use Rattle.gql_exec_plan.specs.Groups.{SameGroups, applying}
-use Rattle.gql_exec_plan.specs.Same.{SameFirst}
-use Rattle.gql_exec_plan.specs.declared.group.Group.{Group as FieldsOfKey}
-use Rattle.gql_exec_resolve.specs.Resolved.{Meaning, Meanings, gives_leaf, gives_object, gives_list, gives_skip, fails_with, no_answer, answer_then}
-use Rattle.gql_exec_resolve.specs.Resolved.{Outcome, answered, refused}
-use Rattle.gql_exec_resolve.specs.Types.{item_type}
-use Rattle.gql_exec_resolve.specs.World.{World, key_of}
+use Rattle.gql_collect.specs.Grouping.{groups_seen}
+use Rattle.gql_collect.specs.Groups.{SameGroups, applying}
+use Rattle.gql_collect.specs.Same.{SameFirst}
+use Rattle.gql_collect.specs.declared.group.Group.{Group as FieldsOfKey}
+use Rattle.gql_resolvers.specs.Resolved.{Meaning, Meanings, gives_leaf, gives_object, gives_list, gives_skip, fails_with, no_answer, answer_then}
+use Rattle.gql_resolvers.specs.Resolved.{Outcome, answered, refused}
+use Rattle.gql_resolvers.specs.Types.{item_type}
+use Rattle.gql_resolvers.specs.World.{World, key_of}
 use Rattle.gql_exec_fields.specs.Group.{Group}
 use Rattle.gql_exec_fields.specs.Request.{Request}
 use Rattle.gql_exec_fields.specs.RequestWorld.{plain_world, setting_on}

@@ -1,7 +1,7 @@
 -- What a place, or an object, has made in an output, case by case.
 use Rattle.std.proofs.Common.{◌≡◌, ℕ, if◌then◌else◌, List, [], ◌∷◌, Option, Some, None, Result, Ok, Err, is_ok, IfOk, OnOk, subst}
 use Rattle.jb_tree.specs.declared.value.Value.{Value}
-use Rattle.gql_exec_resolve.specs.Execute.{Member}
+use Rattle.gql_resolvers.specs.Execute.{Member}
 use Rattle.gql_exec_fields.specs.Output.{AreWritten, Finds, IsWritten}
 use Rattle.gql_exec_fields.specs.declared.completed.Completed.{Completed}
 use Rattle.gql_exec_fields.specs.declared.completed.Completed.TheVariants as completed

@@ -5,17 +5,17 @@ use Rattle.jb_tree.specs.declared.value.Value.TheVariants as json
 use Rattle.gql_document_types.specs.declared.selection.Selection.{Selection}
 use Rattle.gql_response.specs.declared.graphql_error.GraphQLError.{GraphQLError}
 use Rattle.gql_schema_types.specs.declared.types.ObjectType.{ObjectType}
-use Rattle.gql_exec_resolve.specs.Fit.{wrong}
-use Rattle.gql_exec_resolve.specs.Messages as message
-use Rattle.gql_exec_resolve.specs.Execute.{Member, null_or_pass, settled, settled_item, unless_misfit, value_made, completed, field_made, one_object, execute}
-use Rattle.gql_exec_resolve.specs.Fault.{told_at, fault_error}
-use Rattle.gql_exec_resolve.specs.Resolved.{Meaning, gives_object, fails_with, Misfit, Fault, Outcome, answered, refused}
-use Rattle.gql_exec_resolve.specs.Spot.{Spot, trail, field_spot}
-use Rattle.gql_exec_resolve.specs.Trail.{Trail}
+use Rattle.gql_resolvers.specs.Fit.{wrong}
+use Rattle.gql_resolvers.specs.Messages as message
+use Rattle.gql_resolvers.specs.Execute.{Member, null_or_pass, settled, settled_item, unless_misfit, value_made, completed, field_made, one_object, execute}
+use Rattle.gql_resolvers.specs.Fault.{told_at, fault_error}
+use Rattle.gql_resolvers.specs.Resolved.{Meaning, gives_object, fails_with, Misfit, Fault, Outcome, answered, refused}
+use Rattle.gql_resolvers.specs.Spot.{Spot, trail, field_spot}
+use Rattle.gql_resolvers.specs.Trail.{Trail}
 use Rattle.gql_ast_base.specs.TypeParts.{is_non_null}
-use Rattle.gql_exec_resolve.specs.World.{World}
-use Rattle.gql_exec_resolve.specs.declared.resolved_value.ResolvedValue.{ResolvedValue}
-use Rattle.gql_exec_resolve.specs.Meaning.{meaning_by}
+use Rattle.gql_resolvers.specs.World.{World}
+use Rattle.gql_resolvers.specs.declared.resolved_value.ResolvedValue.{ResolvedValue}
+use Rattle.gql_resolvers.specs.Meaning.{meaning_by}
 use Rattle.gql_exec_fields.specs.Group.{Group}
 use Rattle.gql_exec_fields.specs.Request.{Request}
 use Rattle.gql_exec_fields.specs.RequestWorld.{plain_world}

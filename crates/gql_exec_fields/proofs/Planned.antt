@@ -13,16 +13,16 @@ use Rattle.gql_schema_types.specs.declared.schema.Schema.{Schema}
 use Rattle.gql_schema_types.specs.declared.types.ExtendedType.{ExtendedType}
 use Rattle.gql_schema_types.specs.declared.types.ExtendedType.TheVariants.{Scalar, Object, Interface, Union, Enum, InputObject}
 use Rattle.gql_schema_types.specs.declared.types.ObjectType.{ObjectType}
-use Rattle.gql_exec_plan.specs.Grouping.{groups_seen}
-use Rattle.gql_exec_plan.specs.Ranks.{AreRanked}
-use Rattle.gql_exec_plan.specs.declared.group.Group.{Group as FieldsOfKey}
-use Rattle.gql_exec_resolve.specs.Execute.{Member}
-use Rattle.gql_exec_resolve.specs.Trail.{Trail}
-use Rattle.gql_exec_plan.specs.Plan.{Ground, AreNodes, ArePartsOf, HaveNodes, IsNodeOf, IsPlanned, IsTyped, field_in, fields_in, group_in, groups_from, groups_in, nodes_in, parts_in, sets_below, type_in}
-use Rattle.gql_exec_plan.specs.declared.plan.Node.{Node}
-use Rattle.gql_exec_plan.specs.declared.plan.Part.{Part}
-use Rattle.gql_exec_plan.proofs.Fields.{field-at}
-use Rattle.gql_exec_plan.proofs.Nodes.{node-parts, part-nodes}
+use Rattle.gql_collect.specs.Grouping.{groups_seen}
+use Rattle.gql_collect.specs.Ranks.{AreRanked}
+use Rattle.gql_collect.specs.declared.group.Group.{Group as FieldsOfKey}
+use Rattle.gql_resolvers.specs.Execute.{Member}
+use Rattle.gql_resolvers.specs.Trail.{Trail}
+use Rattle.gql_collect.specs.Plan.{Ground, AreNodes, ArePartsOf, HaveNodes, IsNodeOf, IsPlanned, IsTyped, field_in, fields_in, group_in, groups_from, groups_in, nodes_in, parts_in, sets_below, type_in}
+use Rattle.gql_collect.specs.declared.plan.Node.{Node}
+use Rattle.gql_collect.specs.declared.plan.Part.{Part}
+use Rattle.gql_collect.proofs.Fields.{field-at}
+use Rattle.gql_collect.proofs.Nodes.{node-parts, part-nodes}
 use Rattle.gql_exec_fields.specs.Nesting.{nesting}
 use Rattle.gql_exec_fields.specs.Request.{Members}
 use Rattle.gql_exec_fields.specs.RequestWorld.{plain_world, setting_on}

@@ -7,10 +7,10 @@ use Rattle.jb_print.specs.Pieces.{comma_after}
 use Rattle.jb_print.specs.Quoted.{escaped, quoted}
 use Rattle.jb_print.proofs.Escapes.{escaped-plain}
 use Rattle.gql_ast_base.specs.Names.{is_name}
-use Rattle.gql_cst_lexer.specs.Class.{is_digit, is_name_start, is_name_continue}
+use Rattle.gql_lexer.specs.Class.{is_digit, is_name_start, is_name_continue}
 use Rattle.gql_exec_fields.specs.declared.text_output.OpenObject.{OpenObject}
 use Rattle.gql_exec_fields.specs.Written.{has_some, IsOpenObject, IsKeyed}
-use Rattle.gql_exec_resolve.specs.Execute.{Member}
+use Rattle.gql_resolvers.specs.Execute.{Member}
 
 never-special : (byte : ℕ) → is_name_continue byte ≡ true → is_plain byte ≡ false → ⊥
 never-special byte is special = grind (arith, nat_tests)

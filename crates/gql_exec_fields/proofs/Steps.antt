@@ -2,7 +2,7 @@
 use Rattle.std.proofs.Common.{◌≡◌, List, [], ◌++◌, Option, Some, None, refl, sym, ap, ◌∙◌, append_assoc}
 use Rattle.std.proofs.lemmas.List.{append-nil}
 use Rattle.gql_response.specs.declared.graphql_error.GraphQLError.{GraphQLError}
-use Rattle.gql_exec_resolve.specs.Execute.{Made, front_of, then_rest_of, then_rest}
+use Rattle.gql_resolvers.specs.Execute.{Made, front_of, then_rest_of, then_rest}
 use Rattle.gql_exec_fields.specs.Executed.{IsMade}
 
 -- what is found so far and the errors that are listed, with what is left to make, are all that is made

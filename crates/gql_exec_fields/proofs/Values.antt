@@ -1,15 +1,15 @@
 -- What resolved values mean, variant by variant.
 use Rattle.std.proofs.Common.{◌≡◌, refl, ap, sym, ◌∙◌}
 use Rattle.jb_tree.specs.declared.value.Value.{Value}
-use Rattle.gql_exec_resolve.specs.Execute.{Made, settled, settled_item}
-use Rattle.gql_exec_resolve.specs.Resolved.{Meaning, gives_leaf, gives_object, gives_skip}
-use Rattle.gql_exec_resolve.specs.Spot.{Spot}
-use Rattle.gql_exec_resolve.specs.declared.resolved_value.ResolvedValue.{ResolvedValue, fold-roll-ResolvedValue, out-ResolvedValue, fold_out-ResolvedValue}
-use Rattle.gql_exec_resolve.specs.declared.resolved_value.ResolvedValue as value
-use Rattle.gql_exec_resolve.specs.declared.resolved_value.ResolvedValue.TheVariants.{rolls-Leaf, rolls-Object, rolls-SkipForPartialExecution}
-use Rattle.gql_exec_resolve.specs.declared.resolved_value.ResolvedValue.TheOpen as layer
-use Rattle.gql_exec_resolve.specs.declared.resolved_value.ResolvedValue.TheOpen.{ResolvedValue-F}
-use Rattle.gql_exec_resolve.specs.Meaning.{meaning_by, meaning_step}
+use Rattle.gql_resolvers.specs.Execute.{Made, settled, settled_item}
+use Rattle.gql_resolvers.specs.Resolved.{Meaning, gives_leaf, gives_object, gives_skip}
+use Rattle.gql_resolvers.specs.Spot.{Spot}
+use Rattle.gql_resolvers.specs.declared.resolved_value.ResolvedValue.{ResolvedValue, fold-roll-ResolvedValue, out-ResolvedValue, fold_out-ResolvedValue}
+use Rattle.gql_resolvers.specs.declared.resolved_value.ResolvedValue as value
+use Rattle.gql_resolvers.specs.declared.resolved_value.ResolvedValue.TheVariants.{rolls-Leaf, rolls-Object, rolls-SkipForPartialExecution}
+use Rattle.gql_resolvers.specs.declared.resolved_value.ResolvedValue.TheOpen as layer
+use Rattle.gql_resolvers.specs.declared.resolved_value.ResolvedValue.TheOpen.{ResolvedValue-F}
+use Rattle.gql_resolvers.specs.Meaning.{meaning_by, meaning_step}
 
 module _ {O X : Type 0} (see : O → X) where
   pub meaning-leaf : (v : Value) → meaning_by see (value.Leaf v) ≡ gives_leaf v

@@ -1,7 +1,7 @@
 -- Collected groups as execution takes them.
 use Rattle.std.proofs.Common.{◌≡◌, List, [], ◌∷◌, map, refl, ap}
-use Rattle.gql_exec_plan.specs.Grouping.{groups_seen}
-use Rattle.gql_exec_plan.specs.declared.group.Group.{Group as FieldsOfKey}
+use Rattle.gql_collect.specs.Grouping.{groups_seen}
+use Rattle.gql_collect.specs.declared.group.Group.{Group as FieldsOfKey}
 use Rattle.gql_exec_fields.specs.Group.{Group, groups_from}
 use Rattle.gql_exec_fields.specs.Trails.{group_of}
 

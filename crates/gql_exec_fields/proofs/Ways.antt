@@ -2,9 +2,9 @@
 use Rattle.std.proofs.Common.{◌≡◌, ℕ, [], ◌∷◌, Bor, ap, sym, ◌∙◌}
 use Rattle.gql_ast_base.specs.declared.type_ref.TypeRef.{TypeRef}
 use Rattle.gql_response.specs.declared.path.ResponseDataPathSegment.TheVariants.{ListIndex}
-use Rattle.gql_exec_resolve.specs.Spot.{Spot, item_spot, trail}
-use Rattle.gql_exec_resolve.specs.Trail.{Trail}
-use Rattle.gql_exec_resolve.specs.Types.{item_type}
+use Rattle.gql_resolvers.specs.Spot.{Spot, item_spot, trail}
+use Rattle.gql_resolvers.specs.Trail.{Trail}
+use Rattle.gql_resolvers.specs.Types.{item_type}
 use Rattle.gql_exec_fields.specs.Group.{Group}
 use Rattle.gql_exec_fields.specs.Trails.{segment_of, trail_step, trail_of, spot_of, group_of}
 use Rattle.gql_exec_fields.specs.declared.path.Path.{Path, fold-roll-Path}

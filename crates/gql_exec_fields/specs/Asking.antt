@@ -5,9 +5,9 @@ use Rattle.gql_schema_types.specs.Schemas.{field_of}
 use Rattle.gql_schema_types.specs.declared.schema.Schema.{Schema}
 use Rattle.gql_schema_types.specs.declared.types.ObjectType.{ObjectType}
 use Rattle.gql_schema_types.specs.Schemas.{type_named}
-use Rattle.gql_exec_resolve.specs.Resolved.{fails_with, Outcome, answered, refused}
-use Rattle.gql_exec_plan.specs.declared.planned_field.PlannedField.{PlannedField}
-use Rattle.gql_exec_resolve.specs.Meaning.{meaning_by}
+use Rattle.gql_resolvers.specs.Resolved.{fails_with, Outcome, answered, refused}
+use Rattle.gql_collect.specs.declared.planned_field.PlannedField.{PlannedField}
+use Rattle.gql_resolvers.specs.Meaning.{meaning_by}
 use Rattle.gql_exec_fields.specs.Asks.{fault_of}
 use Rattle.gql_exec_fields.specs.declared.asking.Asked.{Asked}
 use Rattle.gql_exec_fields.specs.declared.asking.Asked.TheVariants.{Gave, Failed, Refused}

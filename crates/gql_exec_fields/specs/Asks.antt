@@ -12,7 +12,7 @@ use Rattle.gql_document_types.specs.declared.selection.Field.{Field}
 use Rattle.gql_schema_types.specs.Schemas.{field_of, is_query_root}
 use Rattle.gql_schema_types.specs.declared.schema.Schema.{Schema}
 use Rattle.gql_schema_types.specs.declared.types.ObjectType.{ObjectType}
-use Rattle.gql_exec_resolve.specs.Resolved.{Meaning, gives_leaf, Fault, Outcome, answered, refused}
+use Rattle.gql_resolvers.specs.Resolved.{Meaning, gives_leaf, Fault, Outcome, answered, refused}
 use Rattle.gql_exec_fields.specs.Request.{Members, Request}
 
 -- the definition of a field on an object type, which the first field of each group has; else the one where it is selected

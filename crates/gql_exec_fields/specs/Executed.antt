@@ -3,10 +3,10 @@ use Rattle.std.specs.Prelude.{◌≡◌, ℕ, List, ◌++◌, Option}
 use Rattle.gql_document_types.specs.declared.selection.Selection.{Selection}
 use Rattle.gql_response.specs.declared.graphql_error.GraphQLError.{GraphQLError}
 use Rattle.gql_schema_types.specs.declared.types.ObjectType.{ObjectType}
-use Rattle.gql_exec_resolve.specs.Depth.{AllGroups, Suffices}
-use Rattle.gql_exec_resolve.specs.Execute.{Made, Member, Below, execute, groups_made}
-use Rattle.gql_exec_resolve.specs.Trail.{Trail}
-use Rattle.gql_exec_resolve.specs.World.{World}
+use Rattle.gql_resolvers.specs.Depth.{AllGroups, Suffices}
+use Rattle.gql_resolvers.specs.Execute.{Made, Member, Below, execute, groups_made}
+use Rattle.gql_resolvers.specs.Trail.{Trail}
+use Rattle.gql_resolvers.specs.World.{World}
 use Rattle.gql_exec_fields.specs.Group.{Group}
 use Rattle.gql_exec_fields.specs.Output.{Finds}
 

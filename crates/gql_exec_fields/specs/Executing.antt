@@ -4,8 +4,8 @@ use Rattle.gql_document_types.specs.declared.document.ExecutableDocument.{Execut
 use Rattle.gql_document_types.specs.declared.selection.Selection.{Selection}
 use Rattle.gql_schema_types.specs.declared.schema.Schema.{Schema}
 use Rattle.gql_schema_types.specs.declared.types.ObjectType.{ObjectType}
-use Rattle.gql_exec_resolve.specs.Resolved.{Meaning, fails_with}
-use Rattle.gql_exec_resolve.specs.World.{World}
+use Rattle.gql_resolvers.specs.Resolved.{Meaning, fails_with}
+use Rattle.gql_resolvers.specs.World.{World}
 use Rattle.gql_exec_fields.specs.Asks.{is_introspection}
 use Rattle.gql_exec_fields.specs.Group.{Group}
 use Rattle.gql_exec_fields.specs.Request.{Members, Request}

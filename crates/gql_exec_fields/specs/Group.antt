@@ -4,7 +4,7 @@ use Rattle.std.specs.Prelude.{List, [], ◌∷◌, map, Option, Some, None}
 use Rattle.std.specs.List.{flat_map}
 use Rattle.gql_document_types.specs.declared.selection.Field.{Field}
 use Rattle.gql_document_types.specs.declared.selection.Selection.{Selection}
-use Rattle.gql_exec_plan.specs.Groups.{FieldGroup}
+use Rattle.gql_collect.specs.Groups.{FieldGroup}
 
 pub record Group : Type 0 where
   pub first : Field

@@ -3,12 +3,12 @@ use Rattle.std.specs.Prelude.{◌≤◌, ◌+◌, ◌*◌, ℕ, List, [], ◌∷
 use Rattle.std.specs.List.{AllByRecursion}
 use Rattle.gql_document_types.specs.declared.selection.Selection.{Selection}
 use Rattle.gql_schema_types.specs.declared.types.ObjectType.{ObjectType}
-use Rattle.gql_exec_plan.specs.Lists.{AreApart}
-use Rattle.gql_exec_plan.specs.Plan.{most_looks}
-use Rattle.gql_exec_plan.specs.Room.{all_selections}
-use Rattle.gql_exec_plan.specs.Ways.{Turn, Way, Grows, turns_to, ways_to}
-use Rattle.gql_exec_plan.specs.declared.plan.Node.{Node}
-use Rattle.gql_exec_plan.specs.declared.plan.Part.{Part}
+use Rattle.gql_collect.specs.Lists.{AreApart}
+use Rattle.gql_collect.specs.Plan.{most_looks}
+use Rattle.gql_collect.specs.Room.{all_selections}
+use Rattle.gql_collect.specs.Ways.{Turn, Way, Grows, turns_to, ways_to}
+use Rattle.gql_collect.specs.declared.plan.Node.{Node}
+use Rattle.gql_collect.specs.declared.plan.Part.{Part}
 use Rattle.gql_exec_fields.specs.Request.{Request}
 use Rattle.gql_exec_fields.specs.RequestWorld.{plain_world}
 use Rattle.gql_exec_fields.specs.Opened.{Opens}

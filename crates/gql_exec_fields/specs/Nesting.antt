@@ -3,10 +3,10 @@ use Rattle.std.specs.Prelude.{◌≡◌, ◌<◌, ℕ, zero, suc, max, true, Lis
 use Rattle.gql_document_types.specs.declared.fragment.Fragment.{Fragment}
 use Rattle.gql_document_types.specs.declared.selection.Field.{Field}
 use Rattle.gql_document_types.specs.declared.selection.Selection.{Selection}
-use Rattle.gql_exec_plan.specs.Expanded.{most}
-use Rattle.gql_exec_plan.specs.Nested.{Nested, nothing, field_then, spread_then, inline_then, Fragments, body_of}
-use Rattle.gql_exec_plan.specs.View.{nested, fragments_nested}
-use Rattle.gql_exec_plan.specs.Groups.{FieldGroup}
+use Rattle.gql_collect.specs.Expanded.{most}
+use Rattle.gql_collect.specs.Nested.{Nested, nothing, field_then, spread_then, inline_then, Fragments, body_of}
+use Rattle.gql_collect.specs.View.{nested, fragments_nested}
+use Rattle.gql_collect.specs.Groups.{FieldGroup}
 use Rattle.gql_exec_fields.specs.Group.{pieces_of}
 use Rattle.gql_schema_types.specs.Schemas.{field_of}
 use Rattle.gql_schema_types.specs.declared.schema.Schema.{Schema}

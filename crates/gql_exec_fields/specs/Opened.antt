@@ -2,11 +2,11 @@
 -- to any of its items. Sections 6.3 and 6.4 of GraphQL October 2021.
 use Rattle.std.specs.Prelude.{◌≡◌, ◌⊎◌, ℕ, List, [], ◌∷◌, None, Some}
 use Rattle.gql_ast_base.specs.declared.type_ref.TypeRef.{TypeRef}
-use Rattle.gql_exec_resolve.specs.Resolved.{Meaning, Meanings, gives_leaf, gives_object, gives_list, gives_skip, fails_with, no_answer, answer_then}
-use Rattle.gql_exec_resolve.specs.Resolved.{Outcome, answered, refused}
-use Rattle.gql_exec_resolve.specs.Spot.{Spot}
-use Rattle.gql_exec_resolve.specs.Types.{item_type}
-use Rattle.gql_exec_resolve.specs.World.{World, key_of}
+use Rattle.gql_resolvers.specs.Resolved.{Meaning, Meanings, gives_leaf, gives_object, gives_list, gives_skip, fails_with, no_answer, answer_then}
+use Rattle.gql_resolvers.specs.Resolved.{Outcome, answered, refused}
+use Rattle.gql_resolvers.specs.Spot.{Spot}
+use Rattle.gql_resolvers.specs.Types.{item_type}
+use Rattle.gql_resolvers.specs.World.{World, key_of}
 
 -- the response keys on the way, each with the type of the object that it leads to
 abbrev pub Way : Type 0 → Type 0

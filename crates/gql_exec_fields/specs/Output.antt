@@ -1,7 +1,7 @@
 -- What is made in an output: of a place, and of the members of an object.
 use Rattle.std.specs.Prelude.{◌≡◌, List, [], ◌∷◌, Option, Some, None}
 use Rattle.jb_tree.specs.declared.value.Value.{Value}
-use Rattle.gql_exec_resolve.specs.Execute.{Member}
+use Rattle.gql_resolvers.specs.Execute.{Member}
 use Rattle.gql_exec_fields.specs.declared.completed.Completed.{Completed}
 use Rattle.gql_exec_fields.specs.declared.completed.Completed.TheVariants as completed
 

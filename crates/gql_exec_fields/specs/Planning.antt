@@ -1,5 +1,5 @@
 -- What plans of an execution are made from.
-use Rattle.gql_exec_plan.specs.Plan.{Ground}
+use Rattle.gql_collect.specs.Plan.{Ground}
 use Rattle.gql_exec_fields.specs.declared.executing.Executing.{Executing}
 
 abbrev pub ground_in : Executing → Ground

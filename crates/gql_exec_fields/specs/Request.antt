@@ -5,7 +5,7 @@ use Rattle.gql_source.specs.File.{Files}
 use Rattle.gql_document_types.specs.declared.fragment.Fragment.{Fragment}
 use Rattle.gql_schema_types.specs.declared.schema.Schema.{Schema}
 use Rattle.gql_schema_types.specs.declared.types.ObjectType.{ObjectType}
-use Rattle.gql_exec_resolve.specs.Resolved.{Meaning}
+use Rattle.gql_resolvers.specs.Resolved.{Meaning}
 
 -- the values of variables or of arguments, by their names
 abbrev pub Members : Type 0

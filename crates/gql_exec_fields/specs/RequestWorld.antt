@@ -3,10 +3,10 @@ use Rattle.std.specs.Prelude.{List}
 use Rattle.gql_document_types.specs.declared.selection.Selection.{Selection}
 use Rattle.gql_schema_types.specs.Schemas.{object_of}
 use Rattle.gql_schema_types.specs.declared.types.ObjectType.{ObjectType}
-use Rattle.gql_exec_resolve.specs.Fit.{misfit}
-use Rattle.gql_exec_plan.specs.Groups.{response_name, applying}
-use Rattle.gql_exec_plan.specs.Setting.{Setting}
-use Rattle.gql_exec_resolve.specs.World.{World}
+use Rattle.gql_resolvers.specs.Fit.{misfit}
+use Rattle.gql_collect.specs.Groups.{response_name, applying}
+use Rattle.gql_collect.specs.Setting.{Setting}
+use Rattle.gql_resolvers.specs.World.{World}
 use Rattle.gql_exec_fields.specs.Asks.{definition_on, asks}
 use Rattle.gql_exec_fields.specs.Group.{Group, groups_from}
 use Rattle.gql_exec_fields.specs.Request.{Request}

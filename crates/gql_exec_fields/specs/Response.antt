@@ -4,11 +4,11 @@ use Rattle.std.specs.List.{AllByRecursion}
 use Rattle.gql_document_types.specs.declared.selection.Selection.{Selection}
 use Rattle.gql_response.specs.declared.execution_response.ExecutionResponse.{ExecutionResponse}
 use Rattle.gql_schema_types.specs.declared.types.ObjectType.{ObjectType}
-use Rattle.gql_exec_resolve.specs.Depth.{Suffices}
-use Rattle.gql_exec_resolve.specs.Distinct.{DistinctPaths}
-use Rattle.gql_exec_resolve.specs.Execute.{execute}
-use Rattle.gql_exec_resolve.specs.Explained.{IsTrueFault, IsExplainedBy}
-use Rattle.gql_exec_resolve.specs.Skips.{ReachesNoSkip}
+use Rattle.gql_resolvers.specs.Depth.{Suffices}
+use Rattle.gql_resolvers.specs.Distinct.{DistinctPaths}
+use Rattle.gql_resolvers.specs.Execute.{execute}
+use Rattle.gql_resolvers.specs.Explained.{IsTrueFault, IsExplainedBy}
+use Rattle.gql_resolvers.specs.Skips.{ReachesNoSkip}
 use Rattle.gql_exec_fields.specs.Request.{Request}
 use Rattle.gql_exec_fields.specs.RequestWorld.{plain_world}
 

@@ -10,11 +10,11 @@ use Rattle.gql_response.specs.declared.graphql_error.GraphQLError.{GraphQLError}
 use Rattle.gql_response.specs.declared.path.ResponseDataPathSegment.TheVariants.{Field, ListIndex}
 use Rattle.gql_schema_types.specs.declared.schema.Schema.{Schema}
 use Rattle.gql_schema_types.specs.Schemas.{type_named}
-use Rattle.gql_exec_plan.specs.Walk.{fields_of}
-use Rattle.gql_exec_plan.specs.declared.group.Group.{Group as FieldsOfKey}
-use Rattle.gql_exec_resolve.specs.Execute.{null_or_pass}
-use Rattle.gql_exec_resolve.specs.Spot.{Spot}
-use Rattle.gql_exec_resolve.specs.Trail.{Segment, Trail, path_of}
+use Rattle.gql_collect.specs.Walk.{fields_of}
+use Rattle.gql_collect.specs.declared.group.Group.{Group as FieldsOfKey}
+use Rattle.gql_resolvers.specs.Execute.{null_or_pass}
+use Rattle.gql_resolvers.specs.Spot.{Spot}
+use Rattle.gql_resolvers.specs.Trail.{Segment, Trail, path_of}
 use Rattle.gql_ast_base.specs.TypeParts.{is_non_null}
 use Rattle.gql_exec_fields.specs.Group.{Group, pieces_of}
 use Rattle.gql_exec_fields.specs.declared.path.Path.{Path, fold-Path}

@@ -4,7 +4,7 @@ use Rattle.jb_tree.specs.declared.value.Value.{Value}
 use Rattle.jb_print.specs.Compact.{compact}
 use Rattle.jb_print.specs.Pieces.{comma_after, pieces_text, member_piece}
 use Rattle.jb_print.specs.Quoted.{quoted}
-use Rattle.gql_exec_resolve.specs.Execute.{Member}
+use Rattle.gql_resolvers.specs.Execute.{Member}
 use Rattle.gql_exec_fields.specs.declared.text_output.OpenList.{OpenList}
 use Rattle.gql_exec_fields.specs.declared.text_output.OpenObject.{OpenObject}
 

@@ -2,9 +2,9 @@
 
 ghost use Rattle.std.specs.Prelude.{◌≡◌, true, is_some, IfOk};
 ghost use Rattle.gql_schema_types.specs.Schemas.{field_of};
-ghost use Rattle.gql_exec_resolve.specs.Meaning.{Answers};
-ghost use Rattle.gql_exec_resolve.specs.Resolved.{answered, Meaning};
-ghost use Rattle.gql_exec_plan.specs.Plan.{IsPlanned, arguments_by, definition_on};
+ghost use Rattle.gql_resolvers.specs.Meaning.{Answers};
+ghost use Rattle.gql_resolvers.specs.Resolved.{answered, Meaning};
+ghost use Rattle.gql_collect.specs.Plan.{IsPlanned, arguments_by, definition_on};
 ghost use Rattle.gql_exec_fields.specs.Asks as spec;
 ghost use Rattle.gql_exec_fields.specs.Asking.{IsDefined, outcome_of};
 ghost use Rattle.gql_exec_fields.specs.Executing as executing;
@@ -13,8 +13,8 @@ ghost use Rattle.gql_exec_fields.specs.Planning.{ground_in};
 
 use crate::executing::Executing;
 use gql_coerce::ArgumentFault;
-use gql_exec_plan::PlannedField;
-use gql_exec_resolve::{FieldError, ObjectValue, ResolveError, ResolveInfo, ResolvedValue};
+use gql_collect::PlannedField;
+use gql_resolvers::{FieldError, ObjectValue, ResolveError, ResolveInfo, ResolvedValue};
 use gql_response::JsonMap;
 use gql_schema_types::{ObjectType, Schema};
 use jb_text::{Memory, Text};

@@ -1,16 +1,16 @@
 //! The cycle of execution: ExecuteSelectionSet, ExecuteField and CompleteValue (GraphQL October 2021, sections 6.3 and 6.4).
 
 ghost use Rattle.std.specs.Prelude.{◌≡◌, ℕ, List, map, is_some, true, IfOk, OnOk};
-ghost use Rattle.gql_exec_plan.specs.Ranks.{AreRanked};
-ghost use Rattle.gql_exec_resolve.specs.Lists.{is_list};
-ghost use Rattle.gql_exec_resolve.specs.Execute.{completed, field_made, items_made, one_array, one_object, settled, settled_item, unless_misfit, value_made};
-ghost use Rattle.gql_exec_resolve.specs.Resolved.{gives_list, gives_object};
-ghost use Rattle.gql_exec_resolve.specs.Spot.{field_spot, item_spot, trail};
-ghost use Rattle.gql_exec_resolve.specs.Types as places;
-ghost use Rattle.gql_exec_plan.specs.Ways.{TurnsTo};
-ghost use Rattle.gql_exec_plan.specs.Plan.{AreNodes, ArePartsOf, HaveNodes, IsPlanned, IsTyped, fields_in, groups_in, sets_below};
+ghost use Rattle.gql_collect.specs.Ranks.{AreRanked};
+ghost use Rattle.gql_resolvers.specs.Lists.{is_list};
+ghost use Rattle.gql_resolvers.specs.Execute.{completed, field_made, items_made, one_array, one_object, settled, settled_item, unless_misfit, value_made};
+ghost use Rattle.gql_resolvers.specs.Resolved.{gives_list, gives_object};
+ghost use Rattle.gql_resolvers.specs.Spot.{field_spot, item_spot, trail};
+ghost use Rattle.gql_resolvers.specs.Types as places;
+ghost use Rattle.gql_collect.specs.Ways.{TurnsTo};
+ghost use Rattle.gql_collect.specs.Plan.{AreNodes, ArePartsOf, HaveNodes, IsPlanned, IsTyped, fields_in, groups_in, sets_below};
 ghost use Rattle.gql_document_types.specs.declared.selection.Selection.{Selection};
-ghost use Rattle.gql_exec_resolve.specs.Meaning.{item_by, meaning_by, meanings_by};
+ghost use Rattle.gql_resolvers.specs.Meaning.{item_by, meaning_by, meanings_by};
 ghost use Rattle.gql_exec_fields.specs.Executed.{ExecutesGroups, Makes};
 ghost use Rattle.gql_exec_fields.specs.Executing.{world_of};
 ghost use Rattle.gql_exec_fields.specs.Looks.{NodesGrow, PartsGrow};
@@ -25,9 +25,9 @@ use crate::completed::Completed;
 use crate::output::Output;
 use crate::path::{Path, Step};
 use crate::place::{Place, item_of};
+use gql_collect::{Node, Part, PlannedField, Steps};
 use gql_document_types::Operation;
-use gql_exec_plan::{Node, Part, PlannedField, Steps};
-use gql_exec_resolve::{
+use gql_resolvers::{
     FieldError, ObjectValue, RequestInfo, ResolvedValue, fitting_object, list_misfit,
 };
 use gql_response::{GraphQLError, JsonMap};

@@ -1,12 +1,12 @@
 //! Errors that are listed at places, and leaves.
 
 ghost use Rattle.std.specs.Prelude.{◌≡◌, ◌++◌, ◌∷◌, [], None, IfOk, OnOk};
-ghost use Rattle.gql_exec_resolve.specs.Fit.{wrong};
-ghost use Rattle.gql_exec_resolve.specs.Messages as message;
-ghost use Rattle.gql_exec_resolve.specs.Seen.{seen};
-ghost use Rattle.gql_exec_resolve.specs.Execute.{completed, settled};
-ghost use Rattle.gql_exec_resolve.specs.Fault.{fault_error, told_at};
-ghost use Rattle.gql_exec_resolve.specs.Resolved.{fails_with, gives_leaf};
+ghost use Rattle.gql_resolvers.specs.Fit.{wrong};
+ghost use Rattle.gql_resolvers.specs.Messages as message;
+ghost use Rattle.gql_resolvers.specs.Seen.{seen};
+ghost use Rattle.gql_resolvers.specs.Execute.{completed, settled};
+ghost use Rattle.gql_resolvers.specs.Fault.{fault_error, told_at};
+ghost use Rattle.gql_resolvers.specs.Resolved.{fails_with, gives_leaf};
 ghost use Rattle.gql_exec_fields.specs.Asks.{fault_of};
 ghost use Rattle.gql_exec_fields.specs.Executed.{IsMade, Makes};
 ghost use Rattle.gql_exec_fields.specs.Executing.{world_of};
@@ -18,7 +18,7 @@ use crate::executing::Executing;
 use crate::output::Output;
 use crate::place::Place;
 use gql_coerce::ArgumentFault;
-use gql_exec_resolve::{FieldError, Misfit, ObjectValue, leaf_misfit, resolver_error};
+use gql_resolvers::{FieldError, Misfit, ObjectValue, leaf_misfit, resolver_error};
 use gql_response::{GraphQLError, RequestError};
 use jb_text::{Listed, Memory};
 use jb_tree::Value;

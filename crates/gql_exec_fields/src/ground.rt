@@ -1,12 +1,12 @@
 //! What an execution lends to its steps: the schema, the document, and what plans are made from.
 
 ghost use Rattle.std.specs.Prelude.{◌≡◌};
-ghost use Rattle.gql_exec_plan.specs.Plan.{ground_of};
+ghost use Rattle.gql_collect.specs.Plan.{ground_of};
 ghost use Rattle.gql_exec_fields.specs.Planning.{ground_in};
 
 use crate::executing::Executing;
+use gql_collect::Planner;
 use gql_document_types::ExecutableDocument;
-use gql_exec_plan::Planner;
 use gql_schema_types::Schema;
 
 impl<'s> Executing<'s> {

@@ -2,13 +2,13 @@
 
 ghost use Rattle.std.specs.Prelude.{◌≡◌, ℕ, List};
 ghost use Rattle.gql_document_types.specs.declared.selection.Selection.{Selection};
-ghost use Rattle.gql_exec_plan.specs.Groups.{FieldGroup, SameGroups, applying};
-ghost use Rattle.gql_exec_plan.specs.Ranks.{AreRanked};
-ghost use Rattle.gql_exec_plan.specs.Same.{SameFirst};
-ghost use Rattle.gql_exec_resolve.specs.Depth.{Suffices};
-ghost use Rattle.gql_exec_resolve.specs.Execute.{execute};
-ghost use Rattle.gql_exec_resolve.specs.Trail.{Trail};
-ghost use Rattle.gql_exec_resolve.specs.World.{DistinctKeys, IsLawful};
+ghost use Rattle.gql_collect.specs.Groups.{FieldGroup, SameGroups, applying};
+ghost use Rattle.gql_collect.specs.Ranks.{AreRanked};
+ghost use Rattle.gql_collect.specs.Same.{SameFirst};
+ghost use Rattle.gql_resolvers.specs.Depth.{Suffices};
+ghost use Rattle.gql_resolvers.specs.Execute.{execute};
+ghost use Rattle.gql_resolvers.specs.Trail.{Trail};
+ghost use Rattle.gql_resolvers.specs.World.{DistinctKeys, IsLawful};
 ghost use Rattle.gql_exec_fields.specs.Group.{groups_from};
 ghost use Rattle.gql_exec_fields.specs.Nesting.{nesting, AllBelow};
 ghost use Rattle.gql_exec_fields.specs.Request.{Request};

@@ -13,7 +13,7 @@ pub trait Output {
     ghost use Rattle.std.specs.Str.{bytes_eq};
     ghost use Rattle.jb_tree.specs.declared.value.Value.{Value as Json};
     ghost use Rattle.jb_tree.specs.declared.value.Value.TheVariants as json;
-    ghost use Rattle.gql_exec_resolve.specs.Execute.{Member};
+    ghost use Rattle.gql_resolvers.specs.Execute.{Member};
 
     /// What stands for a value that is made.
     type Made: Drop;

@@ -1,7 +1,7 @@
 //! The way from the root to a place of the response, which grows on the way down and allocates nothing.
 
 ghost use Rattle.std.specs.Prelude.{◌≡◌, IfOk};
-ghost use Rattle.gql_exec_resolve.specs.Trail.{path_of};
+ghost use Rattle.gql_resolvers.specs.Trail.{path_of};
 ghost use Rattle.gql_exec_fields.specs.Trails as spec;
 
 use gql_ast_base::{Copying, Name, TypeRef};

@@ -1,7 +1,7 @@
 //! A place of the response that is executed.
 
 ghost use Rattle.std.specs.Prelude.{◌≡◌, [], ◌∷◌, ◌++◌, IfOk, OnOk};
-ghost use Rattle.gql_exec_resolve.specs.Types as places;
+ghost use Rattle.gql_resolvers.specs.Types as places;
 ghost use Rattle.gql_exec_fields.specs.Output.{IsWritten};
 ghost use Rattle.gql_exec_fields.specs.Trails as spec;
 
@@ -9,7 +9,7 @@ use crate::completed::Completed;
 use crate::output::Output;
 use crate::path::{Path, Step};
 use gql_ast_base::TypeRef;
-use gql_exec_plan::Group;
+use gql_collect::Group;
 use gql_response::{GraphQLError, RequestError, ResponseDataPathSegment};
 use gql_schema_types::ExtendedType;
 use gql_source::SourceMap;

@@ -5,13 +5,13 @@ use Rattle.std.specs.Fmt.{digits}
 use Rattle.std.specs.List.{filter}
 use Rattle.gql_document_types.specs.declared.selection.Field.{Field}
 use Rattle.gql_document_types.specs.declared.selection.Selection.{Selection}
-use Rattle.gql_exec_plan.specs.Flat.{flat, flat_sets}
-use Rattle.gql_exec_plan.specs.Groups.{groups_of, is_defined}
-use Rattle.gql_exec_plan.specs.Ranks.{AreRanked}
-use Rattle.gql_exec_resolve.specs.Depth.{Suffices}
-use Rattle.gql_exec_resolve.specs.Execute.{Made, Member, execute, groups_made}
-use Rattle.gql_exec_resolve.specs.Trail.{Trail}
-use Rattle.gql_exec_resolve.specs.World.{World}
+use Rattle.gql_collect.specs.Flat.{flat, flat_sets}
+use Rattle.gql_collect.specs.Groups.{groups_of, is_defined}
+use Rattle.gql_collect.specs.Ranks.{AreRanked}
+use Rattle.gql_resolvers.specs.Depth.{Suffices}
+use Rattle.gql_resolvers.specs.Execute.{Made, Member, execute, groups_made}
+use Rattle.gql_resolvers.specs.Trail.{Trail}
+use Rattle.gql_resolvers.specs.World.{World}
 use Rattle.gql_exec_fields.specs.Group.{Group, groups_from}
 use Rattle.gql_exec_fields.specs.Nesting.{nesting}
 use Rattle.gql_exec_fields.specs.RequestWorld.{plain_world, setting_on}

@@ -6,10 +6,10 @@ use Rattle.gql_document_types.specs.declared.selection.FragmentSpread.{FragmentS
 use Rattle.gql_document_types.specs.declared.selection.InlineFragment.{InlineFragment}
 use Rattle.gql_document_types.specs.declared.selection.Selection.{Selection}
 use Rattle.gql_document_types.specs.declared.selection.Selection.TheVariants as selection
-use Rattle.gql_exec_plan.specs.Sizes.{size}
-use Rattle.gql_exec_plan.specs.Standing.{fields_at, fields_in}
-use Rattle.gql_exec_plan.proofs.Numbers.{own-field, own-spread, own-inline}
-use Rattle.gql_exec_plan.proofs.Standings.{fields-none, fields-cons}
+use Rattle.gql_collect.specs.Sizes.{size}
+use Rattle.gql_collect.specs.Standing.{fields_at, fields_in}
+use Rattle.gql_collect.proofs.Numbers.{own-field, own-spread, own-inline}
+use Rattle.gql_collect.proofs.Standings.{fields-none, fields-cons}
 use Rattle.gql_document_types.proofs.Variants.{out-field, out-spread, out-inline}
 use Rattle.gql_schema_types.specs.MetaFields.{named}
 use Rattle.gql_exec_laws.specs.Counting.{field_a, field_b, counted}

@@ -1,8 +1,8 @@
 -- The sizes of fragments that double.
 use Rattle.std.proofs.Common.{arith, ◌≡◌, ℕ, zero, suc, ◌+◌, ◌*◌, [], None}
 use Rattle.std.specs.Prelude.{codes}
-use Rattle.gql_exec_plan.specs.Sizes.{own, fragments_size}
-use Rattle.gql_exec_plan.proofs.Numbers.{own-field, own-spread}
+use Rattle.gql_collect.specs.Sizes.{own, fragments_size}
+use Rattle.gql_collect.proofs.Numbers.{own-field, own-spread}
 use Rattle.gql_exec_laws.specs.Doubling.{numbered, spread, doubling, most_looks}
 use Rattle.gql_exec_laws.specs.Examples.{int}
 use Rattle.gql_exec_laws.specs.Parts.{plain, field_at}

@@ -1,9 +1,9 @@
 -- A failed item nulls its list.
 use Rattle.std.proofs.Common.{◌≡◌, List, [], ◌∷◌, Some, refl, ◌∙◌, codes}
 use Rattle.jb_tree.specs.declared.value.Value.TheVariants as json
-use Rattle.gql_exec_plan.specs.Flat.{flat_sets}
-use Rattle.gql_exec_resolve.specs.Execute.{Made, Member, execute}
-use Rattle.gql_exec_resolve.specs.Trail.{Segment}
+use Rattle.gql_collect.specs.Flat.{flat_sets}
+use Rattle.gql_resolvers.specs.Execute.{Made, Member, execute}
+use Rattle.gql_resolvers.specs.Trail.{Segment}
 use Rattle.gql_exec_fields.specs.Group.{Group}
 use Rattle.gql_exec_fields.specs.RequestWorld.{setting_on}
 use Rattle.gql_response.specs.declared.path.ResponseDataPathSegment.TheVariants.{Field, ListIndex}

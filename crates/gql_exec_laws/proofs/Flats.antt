@@ -17,11 +17,11 @@ use Rattle.gql_schema_types.proofs.Lookups.{place_within}
 use Rattle.gql_document_types.specs.Contents.{HaveContents}
 use Rattle.gql_document_types.specs.Expanded.{in_place, contents, expanded, expanded_one, expanded_field, expanded_inline}
 use Rattle.gql_document_types.proofs.Counts.{entry-there, one-field, one-spread, one-inline, spread-defined, spread-undefined}
-use Rattle.gql_exec_plan.specs.Applies.{applies, applies_if}
-use Rattle.gql_exec_plan.specs.Flat.{Shape, when, contents as contents_of, field_of, opened, flat_within}
-use Rattle.gql_exec_plan.specs.Kept.{is_kept, Variables}
-use Rattle.gql_exec_plan.specs.Setting.{Setting}
-use Rattle.gql_exec_plan.proofs.Numbers.{body-is, body-none}
+use Rattle.gql_collect.specs.Applies.{applies, applies_if}
+use Rattle.gql_collect.specs.Flat.{Shape, when, contents as contents_of, field_of, opened, flat_within}
+use Rattle.gql_collect.specs.Kept.{is_kept, Variables}
+use Rattle.gql_collect.specs.Setting.{Setting}
+use Rattle.gql_collect.proofs.Numbers.{body-is, body-none}
 use Rattle.gql_document_types.proofs.Variants.{out-field, out-spread, out-inline, each}
 
 when-and : {A : Type 0} (a b : Bool) (xs : List A) → when (a && b) xs ≡ when a (when b xs)

@@ -2,10 +2,10 @@
 use Rattle.std.proofs.Common.{◌≡◌, ℕ, List, [], ◌∷◌, Some, refl, ◌∙◌, codes}
 use Rattle.jb_tree.specs.declared.value.Value.TheVariants as json
 use Rattle.gql_document_types.specs.declared.selection.Selection.{Selection}
-use Rattle.gql_exec_plan.specs.Flat.{flat_sets}
-use Rattle.gql_exec_resolve.specs.Execute.{Made, Member, Below, execute, groups_made}
-use Rattle.gql_exec_resolve.specs.Resolved.{Meaning, fails_with}
-use Rattle.gql_exec_resolve.specs.Trail.{Trail}
+use Rattle.gql_collect.specs.Flat.{flat_sets}
+use Rattle.gql_resolvers.specs.Execute.{Made, Member, Below, execute, groups_made}
+use Rattle.gql_resolvers.specs.Resolved.{Meaning, fails_with}
+use Rattle.gql_resolvers.specs.Trail.{Trail}
 use Rattle.gql_exec_fields.specs.Group.{Group}
 use Rattle.gql_exec_fields.specs.RequestWorld.{setting_on}
 use Rattle.gql_response.specs.declared.path.ResponseDataPathSegment.TheVariants.{Field}

@@ -13,8 +13,8 @@ use Rattle.gql_ast_base.specs.TypeParts.{named_type}
 use Rattle.gql_document_types.specs.declared.selection.Field.{Field}
 use Rattle.gql_document_types.specs.declared.selection.Selection.{the_lemmas as selection_lemmas}
 use Rattle.gql_document_types.specs.declared.selection.Selection.TheVariants as selection
-use Rattle.gql_exec_plan.proofs.Views.{view-field, view-node}
-use Rattle.gql_exec_plan.specs.Sizes.{own}
+use Rattle.gql_collect.proofs.Views.{view-field, view-node}
+use Rattle.gql_collect.specs.Sizes.{own}
 use Rattle.gql_document_types.proofs.Variants.{out-field}
 
 -- ---- selections

@@ -1,7 +1,7 @@
 -- A null at the root.
 use Rattle.std.proofs.Common.{◌≡◌, [], ◌∷◌, None, refl, ◌∙◌, codes}
-use Rattle.gql_exec_plan.specs.Flat.{flat_sets}
-use Rattle.gql_exec_resolve.specs.Execute.{Made, Member, execute}
+use Rattle.gql_collect.specs.Flat.{flat_sets}
+use Rattle.gql_resolvers.specs.Execute.{Made, Member, execute}
 use Rattle.gql_exec_fields.specs.Group.{Group}
 use Rattle.gql_exec_fields.specs.RequestWorld.{setting_on}
 use Rattle.gql_response.specs.declared.path.ResponseDataPathSegment.TheVariants.{Field}

@@ -5,7 +5,7 @@ use Rattle.gql_ast_base.specs.Names.{Named}
 use Rattle.gql_document_types.specs.declared.fragment.Fragment.{Fragment}
 use Rattle.gql_document_types.specs.declared.selection.Selection.{Selection}
 use Rattle.gql_document_types.specs.declared.selection.Selection.TheVariants as selection
-use Rattle.gql_exec_plan.specs.Sizes.{sets_size, fragments_size}
+use Rattle.gql_collect.specs.Sizes.{sets_size, fragments_size}
 use Rattle.gql_schema_types.specs.MetaFields.{named}
 use Rattle.gql_exec_laws.specs.Examples.{int}
 use Rattle.gql_exec_laws.specs.Parts.{plain, select}

@@ -6,7 +6,7 @@ use Rattle.gql_response.specs.Response.{response_value}
 use Rattle.gql_response.specs.declared.execution_response.ExecutionResponse.{ExecutionResponse}
 use Rattle.gql_schema_types.specs.declared.schema.Schema.{Schema}
 use Rattle.gql_schema_types.specs.declared.types.ObjectType.{ObjectType}
-use Rattle.gql_exec_resolve.specs.Resolved.{Meaning}
+use Rattle.gql_resolvers.specs.Resolved.{Meaning}
 use Rattle.gql_exec_fields.specs.Request.{Request}
 use Rattle.gql_exec_fields.specs.Response.{IsExecuted}
 use Rattle.gql_exec_laws.specs.Parts.{query_file}

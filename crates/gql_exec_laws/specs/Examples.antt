@@ -7,7 +7,7 @@ use Rattle.gql_ast_base.specs.declared.type_ref.TypeRef.TheVariants as ty
 use Rattle.gql_ast_definitions.specs.declared.field_definition.FieldDefinition.{FieldDefinition}
 use Rattle.gql_schema_types.specs.MetaFields.{named}
 use Rattle.gql_schema_types.specs.declared.types.ObjectType.{ObjectType}
-use Rattle.gql_exec_resolve.specs.Resolved.{Meaning, gives_leaf, gives_object, gives_list, fails_with, no_answer, answer_then}
+use Rattle.gql_resolvers.specs.Resolved.{Meaning, gives_leaf, gives_object, gives_list, fails_with, no_answer, answer_then}
 use Rattle.gql_exec_laws.specs.Parts.{schema, object, plain, select}
 use Rattle.gql_exec_laws.specs.Example.{Example, Thing, root, inner}
 

@@ -13,15 +13,15 @@ ghost use Rattle.gql_exec_laws.specs.Doubling.{most_looks};
 ghost use Rattle.gql_exec_laws.specs.Example.{IsAnswered};
 ghost use Rattle.gql_exec_laws.specs.Examples.{failed_item, merged, null_alone, null_behind, root_null};
 ghost use Rattle.gql_exec_laws.specs.Others.{among};
-ghost use Rattle.gql_exec_resolve.specs.Execute.{execute};
-ghost use Rattle.gql_exec_resolve.specs.Trail.{Trail};
-ghost use Rattle.gql_exec_plan.specs.Sizes.{outer_size, size};
-ghost use Rattle.gql_exec_plan.specs.Standing.{fields_in};
+ghost use Rattle.gql_resolvers.specs.Execute.{execute};
+ghost use Rattle.gql_resolvers.specs.Trail.{Trail};
+ghost use Rattle.gql_collect.specs.Sizes.{outer_size, size};
+ghost use Rattle.gql_collect.specs.Standing.{fields_in};
 ghost use Rattle.gql_response.specs.declared.execution_response.ExecutionResponse.{ExecutionResponse};
 ghost use Rattle.gql_schema_types.specs.declared.types.ObjectType.{ObjectType};
 
 use gql_document_types::laws as expansion_laws;
-use gql_rules_graph::laws as graph_laws;
+use gql_graph::laws as graph_laws;
 
 /// Selections and the same selections with each spread replaced are executed alike, for every resolver, what it leaves out
 /// included: the data, the errors in order, their paths and their places are equal. The second may stand in the same document,

@@ -3,15 +3,15 @@ use Rattle.std.proofs.Common.{◌≡◌, ◌<◌, ℕ, if◌then◌else◌, List
 use Rattle.std.specs.Option.{option_map}
 use Rattle.std.specs.Prelude.{slice_range}
 use Rattle.gql_source.specs.declared.file_id.FileId.{FileId}
-use Rattle.gql_cst_grammar.specs.declared.rule.Rule.{Rule}
-use Rattle.gql_cst_grammar.specs.declared.rule.Rule.TheVariants as rule
-use Rattle.gql_cst_grammar.specs.declared.syntax_kind.SyntaxKind.{SyntaxKind}
-use Rattle.gql_cst_grammar.specs.declared.syntax_kind.SyntaxKind.TheVariants as kind
-use Rattle.gql_cst_grammar.specs.declared.word.Word.{Word}
-use Rattle.gql_cst_grammar.specs.Nodes.{IsAllowed, AllAllowed}
-use Rattle.gql_cst_grammar.specs.Row as row
-use Rattle.gql_cst_grammar.specs.Row.{Row}
-use Rattle.gql_cst_grammar.specs.Sentence.{Sentence}
+use Rattle.gql_grammar.specs.declared.rule.Rule.{Rule}
+use Rattle.gql_grammar.specs.declared.rule.Rule.TheVariants as rule
+use Rattle.gql_grammar.specs.declared.syntax_kind.SyntaxKind.{SyntaxKind}
+use Rattle.gql_grammar.specs.declared.syntax_kind.SyntaxKind.TheVariants as kind
+use Rattle.gql_grammar.specs.declared.word.Word.{Word}
+use Rattle.gql_grammar.specs.Nodes.{IsAllowed, AllAllowed}
+use Rattle.gql_grammar.specs.Row as row
+use Rattle.gql_grammar.specs.Row.{Row}
+use Rattle.gql_grammar.specs.Sentence.{Sentence}
 use Rattle.gql_cst.specs.Forest.{Forest, Plain, nothing, tree_then}
 use Rattle.gql_cst.specs.Leaves.{node, part_of, leaves}
 use Rattle.gql_cst.specs.Sentences.{words, shown}

@@ -5,14 +5,14 @@ use Rattle.std.proofs.lemmas.List.Elements.{All-append, All-cons, All-head, All-
 use Rattle.gql_ast_base.specs.Names.{Named}
 use Rattle.gql_ast_definitions.specs.declared.operation.FragmentDefinition.{FragmentDefinition}
 use Rattle.gql_ast_definitions.specs.declared.operation.OperationDefinition.{OperationDefinition}
-use Rattle.gql_document_build.specs.AmbiguousAnonymousOperation.{are_several, is_ambiguous, ambiguous_anonymous_operation}
-use Rattle.gql_document_build.specs.Build.{build_faults, built_operation, faults_on, faults_inside, fragment_faults, operation_faults, operation_on, subscription_faults}
-use Rattle.gql_document_build.specs.Builders.{Taken}
-use Rattle.gql_document_build.specs.Definitions.{no_definitions}
-use Rattle.gql_document_build.specs.FragmentNameCollision.{first_fragments, fragment_name_collisions}
-use Rattle.gql_document_build.specs.OperationNameCollision.{first_operations, operation_name_collisions}
-use Rattle.gql_document_build.specs.SelectionFaults.{selection_faults}
-use Rattle.gql_document_build.specs.UndefinedRootOperation.{root_type, undefined_root_operation}
+use Rattle.gql_document.specs.AmbiguousAnonymousOperation.{are_several, is_ambiguous, ambiguous_anonymous_operation}
+use Rattle.gql_document.specs.Build.{build_faults, built_operation, faults_on, faults_inside, fragment_faults, operation_faults, operation_on, subscription_faults}
+use Rattle.gql_document.specs.Builders.{Taken}
+use Rattle.gql_document.specs.Definitions.{no_definitions}
+use Rattle.gql_document.specs.FragmentNameCollision.{first_fragments, fragment_name_collisions}
+use Rattle.gql_document.specs.OperationNameCollision.{first_operations, operation_name_collisions}
+use Rattle.gql_document.specs.SelectionFaults.{selection_faults}
+use Rattle.gql_document.specs.UndefinedRootOperation.{root_type, undefined_root_operation}
 use Rattle.gql_parser.specs.DocumentText.{DocumentText, its_given}
 use Rattle.gql_document_types.specs.declared.document.ExecutableDocument.{ExecutableDocument}
 use Rattle.gql_schema_types.specs.declared.schema.Schema.{Schema}

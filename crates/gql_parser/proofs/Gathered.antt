@@ -2,7 +2,7 @@
 use Rattle.std.proofs.Common.{◌≡◌, true, false, if◌then◌else◌, ◌++◌, option_to_list, Some, None, refl, ap, ◌∙◌}
 use Rattle.gql_source.specs.declared.file_id.FileId.{FileId}
 use Rattle.gql_cst.specs.Forest.{Forest, nothing, tree_then}
-use Rattle.gql_cst_grammar.specs.declared.syntax_kind.SyntaxKind.TheVariants.{SelectionSet}
+use Rattle.gql_grammar.specs.declared.syntax_kind.SyntaxKind.TheVariants.{SelectionSet}
 use Rattle.gql_ast_base.specs.Kinds.{is_kind}
 use Rattle.gql_ast_base.specs.Parts.{Text, head, gather, of_kind, children_of, inside}
 use Rattle.gql_ast_definitions.specs.Selections.{selections, selected, selection_of}

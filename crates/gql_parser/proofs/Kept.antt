@@ -15,15 +15,15 @@ use Rattle.gql_schema_types.specs.Types.{type_called}
 use Rattle.gql_schema_types.specs.declared.schema.Schema.{Schema}
 use Rattle.gql_schema_types.specs.declared.types.ExtendedType.{ExtendedType}
 use Rattle.gql_schema_types.specs.declared.types.ExtendedType.TheVariants as type
-use Rattle.gql_document_build.specs.BuiltSelections.{built_set, makes_of, spread_of}
-use Rattle.gql_document_build.specs.FaultsBelow.{faults_of}
-use Rattle.gql_document_build.specs.Made as made
-use Rattle.gql_document_build.specs.Nodes.{Node, FieldNode, field, inline_fragment, is_defined, is_enum, is_leaf, is_nonempty, is_open, is_scalar, nodes, nodes_of, type_inside}
-use Rattle.gql_document_build.specs.SelectionFaults.{node_faults, selection_faults}
-use Rattle.gql_document_build.specs.SubselectionOnEnumType.{subselection_on_enum_type}
-use Rattle.gql_document_build.specs.SubselectionOnScalarType.{subselection_on_scalar_type}
-use Rattle.gql_document_build.specs.UndefinedField.{undefined_field}
-use Rattle.gql_document_build.specs.UndefinedTypeInInlineFragmentTypeCondition.{undefined_type_in_inline_fragment_type_condition}
+use Rattle.gql_document.specs.BuiltSelections.{built_set, makes_of, spread_of}
+use Rattle.gql_document.specs.FaultsBelow.{faults_of}
+use Rattle.gql_document.specs.Made as made
+use Rattle.gql_document.specs.Nodes.{Node, FieldNode, field, inline_fragment, is_defined, is_enum, is_leaf, is_nonempty, is_open, is_scalar, nodes, nodes_of, type_inside}
+use Rattle.gql_document.specs.SelectionFaults.{node_faults, selection_faults}
+use Rattle.gql_document.specs.SubselectionOnEnumType.{subselection_on_enum_type}
+use Rattle.gql_document.specs.SubselectionOnScalarType.{subselection_on_scalar_type}
+use Rattle.gql_document.specs.UndefinedField.{undefined_field}
+use Rattle.gql_document.specs.UndefinedTypeInInlineFragmentTypeCondition.{undefined_type_in_inline_fragment_type_condition}
 use Rattle.gql_parser.proofs.Made.{below_field, below_inline, is_nonempty-map, made_field, made_inline, made_spread, node_of, nodes_field, nodes_inline}
 use Rattle.gql_ast_definitions.proofs.Variants.{each}
 

@@ -8,9 +8,9 @@ use Rattle.gql_ast_definitions.specs.declared.selection.FragmentSpread.{Fragment
 use Rattle.gql_ast_definitions.specs.declared.selection.InlineFragment.{InlineFragment}
 use Rattle.gql_ast_definitions.specs.declared.selection.Selection.{the_lemmas}
 use Rattle.gql_ast_definitions.specs.declared.selection.Selection.TheVariants as selection
-use Rattle.gql_document_build.specs.BuiltSelections.{is_selected_leaf, makes_of, set_of, spread_of}
-use Rattle.gql_document_build.specs.Made as made
-use Rattle.gql_document_build.specs.Nodes.{Node, FieldNode, field, inline_fragment, is_nonempty, is_open, nodes, nodes_below, nodes_of, type_inside}
+use Rattle.gql_document.specs.BuiltSelections.{is_selected_leaf, makes_of, set_of, spread_of}
+use Rattle.gql_document.specs.Made as made
+use Rattle.gql_document.specs.Nodes.{Node, FieldNode, field, inline_fragment, is_nonempty, is_open, nodes, nodes_below, nodes_of, type_inside}
 use Rattle.gql_ast_base.specs.TypeParts.{named_type}
 use Rattle.gql_document_types.specs.declared.selection.Selection.{Selection as Built}
 use Rattle.gql_document_types.specs.declared.selection.Selection.TheVariants as built

@@ -4,8 +4,8 @@ use Rattle.std.proofs.lemmas.Option.{slice_get_within}
 use Rattle.gql_ast_base.specs.Names.{Named}
 use Rattle.gql_diag_messages.specs.declared.diagnostic_data.DiagnosticData.{DiagnosticData}
 use Rattle.gql_diag_messages.specs.declared.rule.Rule.{Rule}
-use Rattle.gql_rules_graph.specs.Cycles.{AreMarked}
-use Rattle.gql_rules_graph.specs.Graph.{Graph}
+use Rattle.gql_graph.specs.Cycles.{AreMarked}
+use Rattle.gql_graph.specs.Graph.{Graph}
 use Rattle.gql_schema.specs.SchemaFaults.{AreSchemaFaults, parts_faults}
 use Rattle.gql_schema.specs.CycleFaults.{IsTold, faults_from}
 use Rattle.gql_schema_types.specs.declared.schema.Schema.{Schema}

@@ -5,8 +5,8 @@ use Rattle.gql_ast_laws.specs.Meant.{IsDocumentOf}
 use Rattle.gql_diag.specs.List.{Diagnostics, IsStableSort}
 use Rattle.gql_diag.specs.Order.{list_order}
 use Rattle.gql_diag_messages.specs.declared.diagnostic_data.DiagnosticData.{DiagnosticData}
-use Rattle.gql_cst_grammar.specs.declared.rule.Rule.TheVariants as rule
-use Rattle.gql_cst_lexer.specs.declared.error.CstError.{CstError}
+use Rattle.gql_grammar.specs.declared.rule.Rule.TheVariants as rule
+use Rattle.gql_lexer.specs.declared.error.CstError.{CstError}
 use Rattle.gql_parser.specs.Diagnosed.{diagnostic}
 use Rattle.gql_parser.specs.Parsers.{its_file}
 use Rattle.gql_schema.specs.BuiltInSchema.{IsBuiltIn, built_in_file}

@@ -4,12 +4,12 @@ use Rattle.std.specs.List.Sorted.{IsPermutation, IsSorted}
 use Rattle.std.proofs.lemmas.List.Sorted.{IsPermutation-refl, IsPermutation-sym, IsPermutation-trans}
 use Rattle.gql_ast.specs.declared.definition.Definition.{Definition}
 use Rattle.gql_ast_laws.specs.Meant.{IsDocumentOf}
-use Rattle.gql_cst_grammar.specs.declared.rule.Rule.TheVariants as rule
-use Rattle.gql_cst_lexer.specs.declared.error.CstError.{CstError}
+use Rattle.gql_grammar.specs.declared.rule.Rule.TheVariants as rule
+use Rattle.gql_lexer.specs.declared.error.CstError.{CstError}
 use Rattle.gql_diag.specs.List.{Diagnostics}
 use Rattle.gql_diag.specs.Order.{list_order}
 use Rattle.gql_diag_messages.specs.declared.diagnostic_data.DiagnosticData.{DiagnosticData}
-use Rattle.gql_document_build.specs.Builders.{Taken, built, all_faults}
+use Rattle.gql_document.specs.Builders.{Taken, built, all_faults}
 use Rattle.gql_document_types.specs.declared.document.ExecutableDocument.{ExecutableDocument}
 use Rattle.gql_parser.specs.Diagnosed.{list_of}
 use Rattle.gql_parser.specs.Parsers.{its_file}

@@ -3,16 +3,16 @@ use Rattle.std.proofs.Common.{◌≡◌, ◌⊎◌, inl, inr, ℕ, ◌+◌, ◌-
 use Rattle.std.proofs.Math.Seq.{take-append-add}
 use Rattle.std.proofs.lemmas.List.{take-append-drop, length-drop}
 use Rattle.std.specs.declared.ops.Range.{Range}
-use Rattle.gql_cst_lexer.specs.Lexical.{IsToken, IsFault, StandsOne}
-use Rattle.gql_cst_lexer.specs.declared.error.CstError.{CstError}
-use Rattle.gql_cst_lexer.specs.declared.error.CstError.TheVariants.{Syntax, RecursionLimit, TokenLimit}
-use Rattle.gql_cst_lexer.specs.declared.error.SyntaxFault.{SyntaxFault}
-use Rattle.gql_cst_lexer.specs.declared.error.SyntaxFault.TheVariants.{EndOfText, BadCharacter, OpenString, BadEscape, BadNumber, BadToken}
-use Rattle.gql_cst_grammar.specs.declared.rule.Rule.{Rule}
-use Rattle.gql_cst_grammar.specs.declared.word.Word.{Word}
-use Rattle.gql_cst_grammar.specs.Reads.{Sentence, IsBeginning}
-use Rattle.gql_cst_grammar.specs.Row as row
-use Rattle.gql_cst_grammar.specs.Row.{Row, level}
+use Rattle.gql_lexer.specs.Lexical.{IsToken, IsFault, StandsOne}
+use Rattle.gql_lexer.specs.declared.error.CstError.{CstError}
+use Rattle.gql_lexer.specs.declared.error.CstError.TheVariants.{Syntax, RecursionLimit, TokenLimit}
+use Rattle.gql_lexer.specs.declared.error.SyntaxFault.{SyntaxFault}
+use Rattle.gql_lexer.specs.declared.error.SyntaxFault.TheVariants.{EndOfText, BadCharacter, OpenString, BadEscape, BadNumber, BadToken}
+use Rattle.gql_grammar.specs.declared.rule.Rule.{Rule}
+use Rattle.gql_grammar.specs.declared.word.Word.{Word}
+use Rattle.gql_grammar.specs.Reads.{Sentence, IsBeginning}
+use Rattle.gql_grammar.specs.Row as row
+use Rattle.gql_grammar.specs.Row.{Row, level}
 use Rattle.gql_cst.specs.declared.limits.Limits.{Limits}
 use Rattle.gql_cst.specs.declared.limits.Parsed.{Parsed}
 use Rattle.gql_cst.specs.Forest.{Forest}

@@ -7,10 +7,10 @@ use Rattle.std.proofs.lemmas.List.Sorted.{IsPermutation-refl, IsPermutation-appe
 use Rattle.gql_diag_messages.specs.declared.diagnostic_data.DiagnosticData.{DiagnosticData}
 use Rattle.gql_document_types.specs.declared.document.ExecutableDocument.{ExecutableDocument}
 use Rattle.gql_rules.specs.DocumentFaults.{AreDocumentFaults, AreFirstOrAll, AreOtherFaults}
-use Rattle.gql_rules_selections.specs.DocumentNodes.{document_nodes_faults}
+use Rattle.gql_rules_nodes.specs.DocumentNodes.{document_nodes_faults}
 use Rattle.gql_rules_merging.specs.FieldSelectionMerging.{AreConflicts, conflict, conflict_of, same_fields}
 use Rattle.gql_rules_merging.specs.Numbering.{Selected, numbered}
-use Rattle.gql_rules_graph.specs.declared.pair.Pair.{Pair}
+use Rattle.gql_graph.specs.declared.pair.Pair.{Pair}
 use Rattle.gql_schema_types.specs.declared.schema.Schema.{Schema}
 use Rattle.gql_schema_types.specs.declared.types.ExtendedType.{ExtendedType}
 use Rattle.gql_parser.proofs.Sets.{Has, found, has_at, same_told}

@@ -12,10 +12,10 @@ use Rattle.gql_ast_base.specs.declared.operation_type.OperationType.{OperationTy
 use Rattle.gql_ast_base.specs.declared.operation_type.OperationType.TheVariants.{Query, Mutation, Subscription}
 use Rattle.gql_ast_definitions.specs.declared.schema_definition.DirectiveLocation.TheVariants as at
 use Rattle.gql_diag_messages.specs.declared.diagnostic_data.DiagnosticData.{DiagnosticData}
-use Rattle.gql_rules_base.specs.Faults.{only_if, name_fault}
+use Rattle.gql_rules_values.specs.Faults.{only_if, name_fault}
 use Rattle.gql_diag_messages.specs.declared.rule.Rule.TheVariants.{UndefinedDefinition, RootOperationObjectType}
-use Rattle.gql_rules_base.specs.Known.{is_known}
-use Rattle.gql_rules_base.specs.declared.known.Defined.TheVariants.{TypesAndScalars}
+use Rattle.gql_rules_values.specs.Known.{is_known}
+use Rattle.gql_rules_values.specs.declared.known.Defined.TheVariants.{TypesAndScalars}
 use Rattle.gql_schema.specs.BuiltInSchema.{IsBuiltIn}
 use Rattle.gql_schema.specs.Builders.{Taken, built}
 use Rattle.gql_schema_build.specs.Considered.{considered}
@@ -24,7 +24,7 @@ use Rattle.gql_schema_build.specs.declared.built_in.BuiltIn.{BuiltIn}
 use Rattle.gql_schema_build.specs.declared.type_system.TypeSystem.{TypeSystem}
 use Rattle.gql_schema.specs.Scalars.{built_in_scalars, validated}
 use Rattle.gql_schema.specs.SchemaFaults.{AreSchemaFaults, parts_faults}
-use Rattle.gql_rules_base.specs.Directives.{directive_faults}
+use Rattle.gql_rules_values.specs.Directives.{directive_faults}
 use Rattle.gql_schema_rules_types.specs.InterfaceRules.{interfaces_faults}
 use Rattle.gql_schema_rules_types.specs.DuplicateRootOperationType.{duplicate_root_operation_type}
 use Rattle.gql_schema_rules_types.specs.QueryRootOperationType.{query_root_operation_type}

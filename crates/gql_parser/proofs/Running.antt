@@ -6,26 +6,26 @@ use Rattle.std.proofs.lemmas.List.Elements.{All-append, All-cons, All-nil}
 use Rattle.gql_ast_base.specs.Names.{Named}
 use Rattle.gql_ast_definitions.specs.declared.operation.OperationDefinition.{OperationDefinition}
 use Rattle.gql_diag_messages.specs.declared.diagnostic_data.DiagnosticData.{DiagnosticData}
-use Rattle.gql_document_build.specs.AmbiguousAnonymousOperation.{are_several, is_ambiguous}
-use Rattle.gql_document_build.specs.Build.{built_operation, built_operations, operation_on}
-use Rattle.gql_document_build.specs.Builders.{Taken}
-use Rattle.gql_document_build.specs.OperationNameCollision.{first_operations}
-use Rattle.gql_document_build.specs.UndefinedRootOperation.{root_type}
+use Rattle.gql_document.specs.AmbiguousAnonymousOperation.{are_several, is_ambiguous}
+use Rattle.gql_document.specs.Build.{built_operation, built_operations, operation_on}
+use Rattle.gql_document.specs.Builders.{Taken}
+use Rattle.gql_document.specs.OperationNameCollision.{first_operations}
+use Rattle.gql_document.specs.UndefinedRootOperation.{root_type}
 use Rattle.gql_document_types.specs.Spreads.{spread_graph, spreads_in, AreAcyclic}
 use Rattle.gql_document_types.specs.declared.document.ExecutableDocument.{ExecutableDocument}
 use Rattle.gql_document_types.specs.declared.fragment.Fragment.{Fragment}
-use Rattle.gql_exec_plan.specs.Ranks.{AreRanked}
+use Rattle.gql_collect.specs.Ranks.{AreRanked}
 use Rattle.gql_rules.specs.DocumentFaults.{AreDocumentFaults, AreFirstOrAll, AreOtherFaults}
-use Rattle.gql_rules_base.specs.Faults.{only_if}
-use Rattle.gql_rules_selections.specs.RecursiveFragmentDefinition.{AreRecursive, long_from, recursive_fault, recursive_from}
-use Rattle.gql_rules_selections.specs.SpreadFaults.{AreSpreadFaults}
-use Rattle.gql_rules_selections.specs.UndefinedFragment.{undefined_fragments}
-use Rattle.gql_rules_selections.specs.WayRound.{first_recursive}
-use Rattle.gql_rules_graph.specs.Chains.{is_marked, mark_of}
-use Rattle.gql_rules_graph.specs.Cycles.{IsOnCycle}
-use Rattle.gql_rules_graph.specs.Graph.{Graph}
-use Rattle.gql_rules_graph.proofs.Walks.{from_node}
-use Rattle.gql_rules_graph.specs.Ranks.{IsRanked}
+use Rattle.gql_rules_values.specs.Faults.{only_if}
+use Rattle.gql_rules_nodes.specs.RecursiveFragmentDefinition.{AreRecursive, long_from, recursive_fault, recursive_from}
+use Rattle.gql_rules_nodes.specs.SpreadFaults.{AreSpreadFaults}
+use Rattle.gql_rules_nodes.specs.UndefinedFragment.{undefined_fragments}
+use Rattle.gql_rules_nodes.specs.WayRound.{first_recursive}
+use Rattle.gql_graph.specs.Chains.{is_marked, mark_of}
+use Rattle.gql_graph.specs.Cycles.{IsOnCycle}
+use Rattle.gql_graph.specs.Graph.{Graph}
+use Rattle.gql_graph.proofs.Walks.{from_node}
+use Rattle.gql_graph.specs.Ranks.{IsRanked}
 use Rattle.gql_schema_types.specs.declared.schema.Schema.{Schema}
 use Rattle.gql_parser.specs.DocumentText.{DocumentText, AreDefinitions}
 use Rattle.gql_parser.specs.Running.{AreOnRoots, IsOnRoot}

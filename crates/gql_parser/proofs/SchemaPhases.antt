@@ -9,7 +9,7 @@ use Rattle.jb_text.specs.declared.refused.Refused.TheVariants.{Fault, Memory}
 use Rattle.gql_ast.specs.declared.document.Document.{Document}
 use Rattle.gql_cst.specs.declared.limits.Limits.{Limits}
 use Rattle.gql_cst.specs.Parses.{IsParse}
-use Rattle.gql_cst_grammar.specs.declared.rule.Rule.TheVariants as rule
+use Rattle.gql_grammar.specs.declared.rule.Rule.TheVariants as rule
 use Rattle.gql_diag.specs.Judged.{IsJudged}
 use Rattle.gql_diag.specs.List.{Diagnostics, IsStableSort}
 use Rattle.gql_diag.specs.Order.{list_order}

@@ -1,9 +1,9 @@
 -- The row that trees show is nested no deeper than they are.
 use Rattle.std.proofs.Common.{ℕ, ◌+◌, ◌≤◌, max, List, slice_range, arith}
-use Rattle.gql_cst_grammar.specs.declared.word.Word.{Word}
-use Rattle.gql_cst_grammar.specs.declared.syntax_kind.SyntaxKind.{SyntaxKind}
-use Rattle.gql_cst_grammar.specs.Row as row
-use Rattle.gql_cst_grammar.specs.Row.{Row, level}
+use Rattle.gql_grammar.specs.declared.word.Word.{Word}
+use Rattle.gql_grammar.specs.declared.syntax_kind.SyntaxKind.{SyntaxKind}
+use Rattle.gql_grammar.specs.Row as row
+use Rattle.gql_grammar.specs.Row.{Row, level}
 use Rattle.gql_cst.specs.Forest.{Forest, nothing, tree_then}
 use Rattle.gql_cst.specs.Leaves.{Part, word, ignored, node, part_of}
 use Rattle.gql_cst.specs.Nesting.{within_node, nesting}

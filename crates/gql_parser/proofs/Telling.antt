@@ -8,15 +8,15 @@ use Rattle.gql_document_types.specs.Spreads.{spread_graph, spread_numbers}
 use Rattle.gql_document_types.specs.declared.document.ExecutableDocument.{ExecutableDocument}
 use Rattle.gql_document_types.specs.declared.fragment.Fragment.{Fragment}
 use Rattle.gql_document_types.specs.declared.operation.Operation.{Operation}
-use Rattle.gql_rules_selections.specs.Reached.{AreReached, is_reached}
-use Rattle.gql_rules_selections.specs.RecursiveFragmentDefinition.{AreRecursive, long_from, recursive_from}
-use Rattle.gql_rules_selections.specs.SpreadFaults.{AreSpreadFaults}
-use Rattle.gql_rules_selections.specs.UndefinedFragment.{undefined_fragments}
-use Rattle.gql_rules_selections.specs.UnusedFragment.{AreUnused, unless_used, unreached_from}
-use Rattle.gql_rules_selections.specs.WayRound.{first_recursive}
-use Rattle.gql_rules_graph.specs.Cycles.{AreMarked}
-use Rattle.gql_rules_graph.specs.Flooding.{has}
-use Rattle.gql_rules_graph.specs.Graph.{Graph}
+use Rattle.gql_rules_nodes.specs.Reached.{AreReached, is_reached}
+use Rattle.gql_rules_nodes.specs.RecursiveFragmentDefinition.{AreRecursive, long_from, recursive_from}
+use Rattle.gql_rules_nodes.specs.SpreadFaults.{AreSpreadFaults}
+use Rattle.gql_rules_nodes.specs.UndefinedFragment.{undefined_fragments}
+use Rattle.gql_rules_nodes.specs.UnusedFragment.{AreUnused, unless_used, unreached_from}
+use Rattle.gql_rules_nodes.specs.WayRound.{first_recursive}
+use Rattle.gql_graph.specs.Cycles.{AreMarked}
+use Rattle.gql_graph.specs.Flooding.{has}
+use Rattle.gql_graph.specs.Graph.{Graph}
 use Rattle.gql_rules.specs.UnusedVariable.{unused_variables}
 use Rattle.gql_rules.specs.Uses.{Use, operation_uses, fragment_uses}
 use Rattle.gql_rules.specs.VariableFaults.{AreVariableFaults, IsReach, Reach, fragments_faults, operation_faults, reached_uses, reaching, use_faults}

@@ -5,7 +5,7 @@ use Rattle.jb_text.specs.declared.refused.Refused.TheVariants.{Fault, Memory}
 use Rattle.gql_diag.specs.List.{Diagnostics, IsStableSort}
 use Rattle.gql_diag.specs.Order.{list_order}
 use Rattle.gql_diag_messages.specs.declared.diagnostic_data.DiagnosticData.{DiagnosticData}
-use Rattle.gql_document_build.specs.Builders.{Taken, built, all_faults}
+use Rattle.gql_document.specs.Builders.{Taken, built, all_faults}
 use Rattle.gql_document_types.specs.declared.document.ExecutableDocument.{ExecutableDocument}
 use Rattle.gql_rules.specs.DocumentFaults.{AreDocumentFaults}
 use Rattle.gql_schema_types.specs.declared.schema.Schema.{Schema}

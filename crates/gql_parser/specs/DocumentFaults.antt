@@ -1,10 +1,10 @@
 -- What is wrong with the text of a document against a schema, phase by phase: the first phase that finds something is told.
 use Rattle.std.specs.Prelude.{◌≡◌, ◌≢◌, ℕ, List, []}
-use Rattle.gql_cst_lexer.specs.declared.error.CstError.{CstError}
+use Rattle.gql_lexer.specs.declared.error.CstError.{CstError}
 use Rattle.gql_diag.specs.List.{Diagnostics, IsStableSort}
 use Rattle.gql_diag.specs.Order.{list_order}
 use Rattle.gql_diag_messages.specs.declared.diagnostic_data.DiagnosticData.{DiagnosticData}
-use Rattle.gql_document_build.specs.Builders.{Taken, built, all_faults}
+use Rattle.gql_document.specs.Builders.{Taken, built, all_faults}
 use Rattle.gql_parser.specs.Diagnosed.{list_of}
 use Rattle.gql_parser.specs.Parsers.{its_file}
 use Rattle.gql_parser.specs.Sentences.{StopsAt}

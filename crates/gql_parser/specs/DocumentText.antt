@@ -3,7 +3,7 @@ use Rattle.std.specs.Prelude.{◌≡◌, true, ℕ, List, [], codes}
 use Rattle.gql_ast.specs.declared.definition.Definition.{Definition}
 use Rattle.gql_ast.specs.declared.document.Document.{Document}
 use Rattle.gql_ast_laws.specs.Meant.{IsDocumentOf}
-use Rattle.gql_document_build.specs.Builders.{Taken, with_document, nothing_taken, built, all_faults}
+use Rattle.gql_document.specs.Builders.{Taken, with_document, nothing_taken, built, all_faults}
 use Rattle.gql_document_types.specs.declared.document.ExecutableDocument.{ExecutableDocument}
 use Rattle.gql_parser.specs.FileRead.{no_faults}
 use Rattle.gql_parser.specs.Parsers.{Given, given_next, its_file}

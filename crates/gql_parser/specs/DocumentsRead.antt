@@ -2,8 +2,8 @@
 use Rattle.std.specs.Prelude.{◌≡◌, Some, None, Result, Ok, Err}
 use Rattle.jb_text.specs.declared.refused.Refused.{Refused}
 use Rattle.jb_text.specs.declared.refused.Refused.TheVariants.{Fault, Memory}
-use Rattle.gql_cst_lexer.specs.declared.error.CstError.{CstError}
-use Rattle.gql_cst_grammar.specs.declared.rule.Rule.TheVariants as rule
+use Rattle.gql_lexer.specs.declared.error.CstError.{CstError}
+use Rattle.gql_grammar.specs.declared.rule.Rule.TheVariants as rule
 use Rattle.gql_cst.specs.declared.limits.Parsed.{Parsed}
 use Rattle.gql_cst.specs.declared.tree.Tree.{Tree}
 use Rattle.gql_cst.specs.Forest.{plain}

@@ -6,7 +6,7 @@ use Rattle.gql_ast.specs.declared.document.Document.{Document}
 use Rattle.gql_diag.specs.List.{Diagnostics}
 use Rattle.gql_diag.specs.declared.with_errors.WithErrors.{WithErrors}
 use Rattle.gql_document_types.specs.declared.document.ExecutableDocument.{ExecutableDocument}
-use Rattle.gql_document_build.specs.Builders.{Taken, with_document, nothing_taken, IsAnswer}
+use Rattle.gql_document.specs.Builders.{Taken, with_document, nothing_taken, IsAnswer}
 use Rattle.gql_schema_types.specs.declared.schema.Schema.{Schema}
 use Rattle.gql_parser.specs.Parsers.{ParserState, Given}
 use Rattle.gql_parser.specs.FileRead.{IsFileRead}

@@ -3,9 +3,9 @@ use Rattle.std.specs.Prelude.{◌≡◌, ◌⊎◌, ◌++◌, List, [], Some, No
 use Rattle.jb_text.specs.declared.refused.Refused.{Refused}
 use Rattle.jb_text.specs.declared.refused.Refused.TheVariants.{Fault, Memory}
 use Rattle.gql_source.specs.declared.file_id.FileId.{FileId}
-use Rattle.gql_cst_lexer.specs.declared.error.CstError.{CstError}
-use Rattle.gql_cst_grammar.specs.declared.rule.Rule.TheVariants as rule
-use Rattle.gql_cst_grammar.specs.declared.syntax_kind.SyntaxKind.TheVariants as kind
+use Rattle.gql_lexer.specs.declared.error.CstError.{CstError}
+use Rattle.gql_grammar.specs.declared.rule.Rule.TheVariants as rule
+use Rattle.gql_grammar.specs.declared.syntax_kind.SyntaxKind.TheVariants as kind
 use Rattle.gql_cst.specs.declared.limits.Parsed.{Parsed}
 use Rattle.gql_cst.specs.declared.tree.Tree.{Tree}
 use Rattle.gql_cst.specs.Forest.{plain}
@@ -16,7 +16,7 @@ use Rattle.gql_ast_definitions.specs.Selections.{selection_of}
 use Rattle.gql_ast_laws.specs.Meant.{AreSelectionsOf}
 use Rattle.gql_diag.specs.List.{Diagnostics}
 use Rattle.gql_diag.specs.declared.with_errors.WithErrors.{WithErrors}
-use Rattle.gql_document_build.specs.FieldSets.{built, all_faults}
+use Rattle.gql_document.specs.FieldSets.{built, all_faults}
 use Rattle.gql_diag.specs.Judged.{IsJudged}
 use Rattle.gql_document_types.specs.declared.document.FieldSet.{FieldSet}
 use Rattle.gql_schema_types.specs.declared.schema.Schema.{Schema}

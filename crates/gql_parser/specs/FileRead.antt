@@ -1,7 +1,7 @@
 -- What a builder takes of a file that is read as a document.
 use Rattle.std.specs.Prelude.{◌≡◌, ◌⊎◌, [], Some, None}
-use Rattle.gql_cst_lexer.specs.declared.error.CstError.{CstError}
-use Rattle.gql_cst_grammar.specs.declared.rule.Rule.TheVariants as rule
+use Rattle.gql_lexer.specs.declared.error.CstError.{CstError}
+use Rattle.gql_grammar.specs.declared.rule.Rule.TheVariants as rule
 use Rattle.gql_cst.specs.declared.limits.Parsed.{Parsed}
 use Rattle.gql_ast.specs.declared.document.Document.{Document}
 use Rattle.gql_diag.specs.List.{Diagnostics}

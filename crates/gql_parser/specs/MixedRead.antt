@@ -7,7 +7,7 @@ use Rattle.gql_ast.specs.declared.document.Document.{Document}
 use Rattle.gql_diag.specs.List.{Diagnostics, IsStableSort}
 use Rattle.gql_diag.specs.Order.{list_order}
 use Rattle.gql_diag_messages.specs.declared.diagnostic_data.DiagnosticData.{DiagnosticData}
-use Rattle.gql_document_build.specs.Builders as document
+use Rattle.gql_document.specs.Builders as document
 use Rattle.gql_document_types.specs.declared.document.ExecutableDocument.{ExecutableDocument}
 use Rattle.gql_rules.specs.DocumentFaults.{AreDocumentFaults, AreFirstOrAll}
 use Rattle.gql_schema.specs.Builders as schema

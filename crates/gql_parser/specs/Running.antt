@@ -3,7 +3,7 @@ use Rattle.std.specs.Prelude.{◌≡◌, [], Some}
 use Rattle.std.specs.List.{All}
 use Rattle.gql_document_types.specs.declared.document.ExecutableDocument.{ExecutableDocument}
 use Rattle.gql_document_types.specs.declared.operation.Operation.{Operation}
-use Rattle.gql_rules_selections.specs.UndefinedFragment.{undefined_fragments}
+use Rattle.gql_rules_nodes.specs.UndefinedFragment.{undefined_fragments}
 use Rattle.gql_schema_types.specs.Schemas.{root_of}
 use Rattle.gql_schema_types.specs.declared.schema.Schema.{Schema}
 

@@ -1,7 +1,7 @@
 -- What is wrong with the text of a schema, phase by phase: the first phase that finds something is told.
 use Rattle.std.specs.Prelude.{◌≡◌, ◌≢◌, ℕ, List, [], ◌∷◌, ◌++◌}
 use Rattle.gql_source.specs.File.{Files}
-use Rattle.gql_cst_lexer.specs.declared.error.CstError.{CstError}
+use Rattle.gql_lexer.specs.declared.error.CstError.{CstError}
 use Rattle.gql_diag.specs.List.{Diagnostics, IsStableSort}
 use Rattle.gql_diag.specs.Order.{list_order}
 use Rattle.gql_diag_messages.specs.declared.diagnostic_data.DiagnosticData.{DiagnosticData}

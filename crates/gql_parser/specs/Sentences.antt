@@ -2,8 +2,8 @@
 use Rattle.std.specs.Prelude.{◌≡◌, ℕ, List, Some}
 use Rattle.gql_cst.specs.Parses.{IsParse}
 use Rattle.gql_cst.specs.declared.limits.Parsed.{Parsed}
-use Rattle.gql_cst_grammar.specs.declared.rule.Rule.TheVariants.{Document}
-use Rattle.gql_cst_lexer.specs.declared.error.CstError.{CstError}
+use Rattle.gql_grammar.specs.declared.rule.Rule.TheVariants.{Document}
+use Rattle.gql_lexer.specs.declared.error.CstError.{CstError}
 use Rattle.gql_parser.specs.Parsers.{fresh}
 use Rattle.gql_parser.specs.Readings.{IsSentenceWithin}
 

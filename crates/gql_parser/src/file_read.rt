@@ -1,7 +1,7 @@
 //! What builders take of files.
 
 ghost use Rattle.std.specs.Prelude.{◌≡◌, IfOk};
-ghost use Rattle.gql_cst_grammar.specs.declared.rule.Rule.TheVariants as rule;
+ghost use Rattle.gql_grammar.specs.declared.rule.Rule.TheVariants as rule;
 ghost use Rattle.gql_parser.specs.Parsers.{given};
 ghost use Rattle.gql_parser.specs.Readings.{IsLeft};
 ghost use Rattle.gql_parser.specs.Diagnosed.{IsOrdered};

@@ -16,7 +16,7 @@ ghost use Rattle.gql_parser.specs.SchemaText.{SchemaText};
 ghost use Rattle.gql_parser.specs.Selecting.{SelectSomething};
 ghost use Rattle.gql_document_types.specs.Spreads.{AreAcyclic};
 ghost use Rattle.gql_document_types.specs.declared.document.ExecutableDocument.{ExecutableDocument as DocumentOf};
-ghost use Rattle.gql_exec_plan.specs.Ranks.{AreRanked};
+ghost use Rattle.gql_collect.specs.Ranks.{AreRanked};
 ghost use Rattle.gql_schema.specs.BuiltInSchema.{IsBuiltIn, built_in_file};
 ghost use Rattle.gql_schema_build.specs.declared.built_in.BuiltIn.{BuiltIn};
 ghost use Rattle.gql_schema.specs.Scalars.{built_in_scalars};
@@ -24,10 +24,10 @@ ghost use Rattle.gql_schema.specs.SchemaFaults.{AreSchemaFaults};
 ghost use Rattle.gql_schema_types.specs.declared.schema.Schema.{Schema as SchemaOf};
 
 use gql_ast_laws::laws as tree_laws;
-use gql_cst_grammar::laws as grammar_laws;
-use gql_cst_lexer::laws as token_laws;
 use gql_diag::laws as list_laws;
-use gql_rules_graph::laws as graph_laws;
+use gql_grammar::laws as grammar_laws;
+use gql_graph::laws as graph_laws;
+use gql_lexer::laws as token_laws;
 
 /// The built-in text is a document, and the five built-in scalars are scalars in it (GraphQL October 2021, section 3.5).
 pub fn built_in_text_is_a_document()

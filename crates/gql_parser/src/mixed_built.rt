@@ -8,7 +8,7 @@ ghost use Rattle.gql_parser.specs.MixedBuilt.{IsDocumentBuilt, IsSchemaBuilt};
 use crate::file_read::no_faults;
 use gql_ast::Document;
 use gql_diag::{DiagnosticData, DiagnosticList, WithErrors};
-use gql_document_build::ExecutableDocumentBuilder;
+use gql_document::ExecutableDocumentBuilder;
 use gql_document_types::ExecutableDocument;
 use gql_schema::{Schema, SchemaBuilder};
 use gql_source::SourceMap;

@@ -1,8 +1,8 @@
 //! Texts as executable documents, and as parts of them.
 
 ghost use Rattle.std.specs.Prelude.{◌≡◌, ◌⊎◌, ◌+◌, ◌<◌, ◌^◌, true, false, OnOk, OnErr};
-ghost use Rattle.gql_cst_grammar.specs.declared.rule.Rule.TheVariants as rule;
-ghost use Rattle.gql_document_build.specs.Builders.{taken as taken_by};
+ghost use Rattle.gql_grammar.specs.declared.rule.Rule.TheVariants as rule;
+ghost use Rattle.gql_document.specs.Builders.{taken as taken_by};
 ghost use Rattle.gql_parser.specs.Parsers.{given, given_next};
 ghost use Rattle.gql_parser.specs.Readings.{IsLeft};
 ghost use Rattle.gql_parser.specs.ExecutablesRead.{IsExecutableAnswer, Takes};
@@ -11,7 +11,7 @@ use crate::file::next_file;
 use crate::file_read::FileRead;
 use crate::parser::Parser;
 use gql_diag::WithErrors;
-use gql_document_build::ExecutableDocumentBuilder;
+use gql_document::ExecutableDocumentBuilder;
 use gql_document_types::ExecutableDocument;
 use gql_schema::Schema;
 use gql_schema_types::Valid;

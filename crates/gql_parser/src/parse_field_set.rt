@@ -1,7 +1,7 @@
 //! Texts as selections on a type.
 
 ghost use Rattle.std.specs.Prelude.{◌≡◌, ◌++◌, ◌+◌, ◌<◌, ◌^◌, IfOk, OnOk};
-ghost use Rattle.gql_cst_grammar.specs.declared.rule.Rule.TheVariants as rule;
+ghost use Rattle.gql_grammar.specs.declared.rule.Rule.TheVariants as rule;
 ghost use Rattle.gql_parser.specs.Parsers.{given, given_next};
 ghost use Rattle.gql_parser.specs.Readings.{IsLeft};
 ghost use Rattle.gql_parser.specs.Diagnosed.{IsOrdered};
@@ -15,7 +15,7 @@ use gql_ast_base::{gather, inside};
 use gql_ast_laws::laws;
 use gql_cst::{Parsed, SyntaxKind, Tree};
 use gql_diag::{DiagnosticList, WithErrors};
-use gql_document_build::build_field_set;
+use gql_document::build_field_set;
 use gql_document_types::FieldSet;
 use gql_schema::Schema;
 use gql_schema_types::Valid;

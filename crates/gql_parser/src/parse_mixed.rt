@@ -1,7 +1,7 @@
 //! Texts as schemas and executable documents in one.
 
 ghost use Rattle.std.specs.Prelude.{◌≡◌, ◌+◌, ◌<◌, ◌^◌};
-ghost use Rattle.gql_cst_grammar.specs.declared.rule.Rule.TheVariants as rule;
+ghost use Rattle.gql_grammar.specs.declared.rule.Rule.TheVariants as rule;
 ghost use Rattle.gql_parser.specs.Parsers.{given_next};
 ghost use Rattle.gql_parser.specs.Readings.{IsLeft};
 ghost use Rattle.gql_parser.specs.MixedRead.{IsMixedAnswer};

@@ -1,7 +1,7 @@
 //! Texts as schemas, and as parts of schemas.
 
 ghost use Rattle.std.specs.Prelude.{◌≡◌, ◌⊎◌, ◌+◌, ◌<◌, ◌^◌, true, false, OnOk, OnErr};
-ghost use Rattle.gql_cst_grammar.specs.declared.rule.Rule.TheVariants as rule;
+ghost use Rattle.gql_grammar.specs.declared.rule.Rule.TheVariants as rule;
 ghost use Rattle.gql_schema.specs.Builders.{taken as taken_by};
 ghost use Rattle.gql_parser.specs.Parsers.{given, given_next};
 ghost use Rattle.gql_parser.specs.Readings.{IsLeft};

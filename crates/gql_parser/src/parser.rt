@@ -1,7 +1,7 @@
 //! A parser: its limits, and how far it read the last text.
 
 ghost use Rattle.std.specs.Prelude.{◌≡◌, Some, IfOk, OnErr};
-ghost use Rattle.gql_cst_grammar.specs.declared.rule.Rule.TheVariants as rule;
+ghost use Rattle.gql_grammar.specs.declared.rule.Rule.TheVariants as rule;
 ghost use Rattle.gql_parser.specs.Parsers.{fresh};
 ghost use Rattle.gql_parser.specs.Readings.{IsJudged};
 ghost use Rattle.gql_parser.specs.Diagnosed.{IsOrdered};

@@ -12,8 +12,8 @@ use Rattle.gql_ast.specs.TypeText.{type_text}
 use Rattle.gql_diag_messages.specs.declared.rule.Rule.TheVariants.{DisallowedVariableUsage}
 use Rattle.gql_document_types.specs.declared.fragment.Fragment.{Fragment}
 use Rattle.gql_document_types.specs.declared.operation.Operation.{Operation}
-use Rattle.gql_rules_base.specs.Faults.{fault}
-use Rattle.gql_rules_selections.specs.Reached.{is_reached}
+use Rattle.gql_rules_values.specs.Faults.{fault}
+use Rattle.gql_rules_nodes.specs.Reached.{is_reached}
 use Rattle.gql_rules.proofs.Firsts.{or-false, any-one_more, first_of, first-one_more, any-told, first-told, none-first, none-told, flat-same}
 use Rattle.gql_rules.proofs.Noted.{is_some-position, noted}
 use Rattle.gql_rules.specs.DisallowedVariableUsage.{breaks, misfit, disallowed_type, types_fault}

@@ -3,8 +3,8 @@ use Rattle.std.proofs.Common.{◌≡◌, ◌≢◌, ◌++◌, Result, Ok, Err, I
 use Rattle.std.proofs.lemmas.Bool.{false≢true}
 use Rattle.gql_ast.specs.declared.definition.Definition.{Definition}
 use Rattle.gql_diag_messages.specs.declared.diagnostic_data.DiagnosticData.{DiagnosticData}
-use Rattle.gql_document_build.specs.DistinctDefinitions.{definition_faults, distinct_definitions}
-use Rattle.gql_document_build.specs.declared.executable_definitions.ExecutableDefinitions.{ExecutableDefinitions}
+use Rattle.gql_document.specs.DistinctDefinitions.{definition_faults, distinct_definitions}
+use Rattle.gql_document.specs.declared.executable_definitions.ExecutableDefinitions.{ExecutableDefinitions}
 use Rattle.gql_rules.specs.UntypedDocument.{untyped_document}
 use Rattle.gql_rules.specs.DocumentFaults.{AreFirstOrAll}
 use Rattle.gql_rules.specs.UntypedFaults.{AreDocumentFaults, AreUntypedFaults}

@@ -6,10 +6,10 @@ use Rattle.gql_ast.specs.TypeText.{type_text}
 use Rattle.gql_ast_base.specs.declared.type_ref.TypeRef.{TypeRef}
 use Rattle.gql_diag_messages.specs.declared.rule.Rule.TheVariants.{DisallowedVariableUsage}
 use Rattle.gql_diag_messages.specs.declared.diagnostic_data.DiagnosticData.{DiagnosticData}
-use Rattle.gql_rules_base.specs.Faults.{fault}
-use Rattle.gql_rules_base.specs.Known.{is_defined}
+use Rattle.gql_rules_values.specs.Faults.{fault}
+use Rattle.gql_rules_values.specs.Known.{is_defined}
 use Rattle.gql_ast_base.specs.TypeParts.{named_type}
-use Rattle.gql_rules_base.specs.declared.known.Defined.TheVariants.{Types}
+use Rattle.gql_rules_values.specs.declared.known.Defined.TheVariants.{Types}
 use Rattle.gql_rules.specs.TypesInto.{is_allowed}
 use Rattle.gql_rules.specs.UndefinedVariable.{variable_called}
 use Rattle.gql_rules.specs.Uses.{Place, Use}

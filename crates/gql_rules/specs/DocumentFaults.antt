@@ -4,9 +4,9 @@ use Rattle.gql_diag.specs.List.{IsStableSort}
 use Rattle.gql_diag.specs.Order.{list_order}
 use Rattle.gql_diag_messages.specs.declared.diagnostic_data.DiagnosticData.{DiagnosticData}
 use Rattle.gql_document_types.specs.declared.document.ExecutableDocument.{ExecutableDocument}
-use Rattle.gql_rules_selections.specs.DocumentNodes.{document_nodes_faults}
-use Rattle.gql_rules_selections.specs.SpreadFaults.{AreSpreadFaults}
-use Rattle.gql_rules_selections.specs.UnusedFragment.{AreUnused}
+use Rattle.gql_rules_nodes.specs.DocumentNodes.{document_nodes_faults}
+use Rattle.gql_rules_nodes.specs.SpreadFaults.{AreSpreadFaults}
+use Rattle.gql_rules_nodes.specs.UnusedFragment.{AreUnused}
 use Rattle.gql_rules_merging.specs.FieldSelectionMerging.{AreConflicts}
 use Rattle.gql_rules.specs.VariableFaults.{AreVariableFaults}
 use Rattle.gql_schema.specs.Taken.{HasListedSome}

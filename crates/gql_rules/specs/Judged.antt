@@ -5,8 +5,8 @@ use Rattle.std.specs.Option.{option_map_or}
 use Rattle.gql_ast_definitions.specs.declared.operation.VariableDefinition.{VariableDefinition}
 use Rattle.gql_ast_base.specs.declared.type_ref.TypeRef.{TypeRef}
 use Rattle.gql_diag_messages.specs.declared.diagnostic_data.DiagnosticData.{DiagnosticData}
-use Rattle.gql_rules_base.specs.Faults.{only_if}
-use Rattle.gql_rules_selections.specs.Reached.{is_reached}
+use Rattle.gql_rules_values.specs.Faults.{only_if}
+use Rattle.gql_rules_nodes.specs.Reached.{is_reached}
 use Rattle.gql_rules.specs.DisallowedVariableUsage.{misfit, disallowed_type, disallowed_fault}
 use Rattle.gql_rules.specs.UndefinedVariable.{is_undefined, undefined_fault}
 use Rattle.gql_rules.specs.Uses.{Use}

@@ -7,7 +7,7 @@ use Rattle.gql_ast_definitions.specs.declared.operation.VariableDefinition.{Vari
 use Rattle.gql_diag_messages.specs.declared.diagnostic_data.DiagnosticData.{DiagnosticData}
 use Rattle.gql_document_types.specs.declared.fragment.Fragment.{Fragment}
 use Rattle.gql_document_types.specs.declared.operation.Operation.{Operation}
-use Rattle.gql_rules_selections.specs.Reached.{is_reached}
+use Rattle.gql_rules_nodes.specs.Reached.{is_reached}
 use Rattle.gql_rules.specs.Judged.{Judged, fresh_row, row_judged, rows_judged, row_told}
 use Rattle.gql_rules.specs.UnusedVariable.{unless_used}
 use Rattle.gql_rules.specs.Uses.{operation_uses, fragment_uses}

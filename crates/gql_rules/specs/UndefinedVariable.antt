@@ -5,7 +5,7 @@ use Rattle.gql_ast_base.specs.Names.{Named}
 use Rattle.gql_ast_definitions.specs.declared.operation.VariableDefinition.{VariableDefinition}
 use Rattle.gql_diag_messages.specs.declared.rule.Rule.TheVariants.{UndefinedVariable}
 use Rattle.gql_diag_messages.specs.declared.diagnostic_data.DiagnosticData.{DiagnosticData}
-use Rattle.gql_rules_base.specs.Faults.{fault, only_if}
+use Rattle.gql_rules_values.specs.Faults.{fault, only_if}
 use Rattle.gql_rules.specs.Uses.{Use}
 use Rattle.gql_schema_types.specs.Entries.{entry, joined}
 

@@ -4,8 +4,8 @@ use Rattle.std.specs.List.{flat_map}
 use Rattle.gql_ast_definitions.specs.declared.operation.VariableDefinition.{VariableDefinition}
 use Rattle.gql_ast_base.specs.declared.directive.Directive.{Directive}
 use Rattle.gql_diag_messages.specs.declared.diagnostic_data.DiagnosticData.{DiagnosticData}
-use Rattle.gql_rules_selections.specs.Nodes.{Node, operation, fragment, field, spread, inline_fragment}
-use Rattle.gql_rules_base.specs.UniqueArgument.{unique_argument}
+use Rattle.gql_rules_nodes.specs.Nodes.{Node, operation, fragment, field, spread, inline_fragment}
+use Rattle.gql_rules_values.specs.UniqueArgument.{unique_argument}
 
 abbrev pub directives_arguments : List Directive → List DiagnosticData
 directives_arguments directives = flat_map (λ (used : Directive). unique_argument used.arguments) directives

@@ -3,12 +3,12 @@ use Rattle.std.specs.Prelude.{◌≡◌, List, ◌++◌}
 use Rattle.std.specs.List.{flat_map}
 use Rattle.gql_ast.specs.declared.definition.Definition.{Definition}
 use Rattle.gql_diag_messages.specs.declared.diagnostic_data.DiagnosticData.{DiagnosticData}
-use Rattle.gql_document_build.specs.DistinctDefinitions.{definition_faults, distinct_definitions}
+use Rattle.gql_document.specs.DistinctDefinitions.{definition_faults, distinct_definitions}
 use Rattle.gql_document_types.specs.declared.document.ExecutableDocument.{ExecutableDocument}
 use Rattle.gql_rules.specs.DocumentFaults.{AreFirstOrAll}
-use Rattle.gql_rules_selections.specs.SpreadFaults.{AreSpreadFaults}
-use Rattle.gql_rules_selections.specs.UnusedFragment.{AreUnused}
-use Rattle.gql_rules_selections.specs.Nodes.{nodes}
+use Rattle.gql_rules_nodes.specs.SpreadFaults.{AreSpreadFaults}
+use Rattle.gql_rules_nodes.specs.UnusedFragment.{AreUnused}
+use Rattle.gql_rules_nodes.specs.Nodes.{nodes}
 use Rattle.gql_rules.specs.NoSchema.{no_schema}
 use Rattle.gql_rules.specs.UniqueArguments.{node_arguments}
 use Rattle.gql_rules.specs.UniqueVariables.{unique_variables}

@@ -6,7 +6,7 @@ use Rattle.std.specs.Str.{bytes_eq}
 use Rattle.gql_ast_definitions.specs.declared.operation.VariableDefinition.{VariableDefinition}
 use Rattle.gql_diag_messages.specs.declared.rule.Rule.TheVariants.{UnusedVariable}
 use Rattle.gql_diag_messages.specs.declared.diagnostic_data.DiagnosticData.{DiagnosticData}
-use Rattle.gql_rules_base.specs.Faults.{fault, only_if}
+use Rattle.gql_rules_values.specs.Faults.{fault, only_if}
 use Rattle.gql_rules.specs.Uses.{Use}
 
 -- one of these uses is of the variable of the name

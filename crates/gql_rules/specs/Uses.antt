@@ -14,9 +14,9 @@ use Rattle.gql_ast_base.specs.declared.value.ValueKind.TheOpen.{ValueKind-F, Val
 use Rattle.gql_document_types.specs.declared.fragment.Fragment.{Fragment}
 use Rattle.gql_document_types.specs.declared.operation.Operation.{Operation}
 use Rattle.gql_ast_base.specs.TypeParts.{named_type, item_type}
-use Rattle.gql_rules_selections.specs.Nodes.{Node, operation, fragment, field, spread, inline_fragment, operation_nodes, fragment_nodes}
-use Rattle.gql_rules_base.specs.UndefinedInputValue.{input_name}
-use Rattle.gql_rules_base.specs.UniqueDirective.{directive_name}
+use Rattle.gql_rules_nodes.specs.Nodes.{Node, operation, fragment, field, spread, inline_fragment, operation_nodes, fragment_nodes}
+use Rattle.gql_rules_values.specs.UndefinedInputValue.{input_name}
+use Rattle.gql_rules_values.specs.UniqueDirective.{directive_name}
 use Rattle.gql_schema_types.specs.Entries.{entry}
 use Rattle.gql_schema_types.specs.Types.{type_called}
 use Rattle.gql_schema_types.specs.declared.schema.Schema.{Schema}

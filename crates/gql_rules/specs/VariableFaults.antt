@@ -6,7 +6,7 @@ use Rattle.gql_document_types.specs.Spreads.{spread_graph, spread_numbers}
 use Rattle.gql_document_types.specs.declared.document.ExecutableDocument.{ExecutableDocument}
 use Rattle.gql_document_types.specs.declared.fragment.Fragment.{Fragment}
 use Rattle.gql_document_types.specs.declared.operation.Operation.{Operation}
-use Rattle.gql_rules_selections.specs.Reached.{AreReached, is_reached}
+use Rattle.gql_rules_nodes.specs.Reached.{AreReached, is_reached}
 use Rattle.gql_rules.specs.DisallowedVariableUsage.{disallowed_usage}
 use Rattle.gql_rules.specs.UndefinedVariable.{undefined_variable}
 use Rattle.gql_rules.specs.UnusedVariable.{unused_variables}

@@ -11,7 +11,7 @@ use gql_ast::print_type;
 use gql_ast_base::TypeRef;
 use gql_ast_definitions::VariableDefinition;
 use gql_diag_messages::{DiagnosticData, Rule};
-use gql_rules_base::{Defined, is_defined, list_fault};
+use gql_rules_values::{Defined, is_defined, list_fault};
 use gql_schema_types::{ExtendedType, Table};
 use jb_text::{Listed, Memory};
 use std::alloc::Global;

@@ -8,7 +8,7 @@ use crate::variable_faults::list_variable_faults;
 use gql_diag_messages::DiagnosticData;
 use gql_document_types::ExecutableDocument;
 use gql_rules_merging::list_conflicting_fields;
-use gql_rules_selections::{list_document_nodes, list_spread_faults, list_unused_fragments};
+use gql_rules_nodes::{list_document_nodes, list_spread_faults, list_unused_fragments};
 use gql_schema_types::Schema;
 use jb_text::{Listed, Memory};
 use std::alloc::Global;

@@ -2,7 +2,7 @@
 
 ghost use Rattle.std.specs.Prelude.{◌≡◌, ◌++◌, IfOk, OnOk};
 ghost use Rattle.std.specs.List.{flat_map};
-ghost use Rattle.gql_rules_selections.specs.Nodes as nodes;
+ghost use Rattle.gql_rules_nodes.specs.Nodes as nodes;
 ghost use Rattle.gql_rules.specs.Uses as spec;
 ghost use Rattle.gql_rules.specs.Views as seen;
 

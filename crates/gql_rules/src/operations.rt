@@ -2,7 +2,7 @@
 
 ghost use Rattle.std.specs.Prelude.{◌≡◌, ◌++◌, List, IfOk, OnOk};
 ghost use Rattle.gql_document_types.specs.Spreads.{spread_graph, spread_numbers};
-ghost use Rattle.gql_rules_selections.specs.Reached.{AreReached};
+ghost use Rattle.gql_rules_nodes.specs.Reached.{AreReached};
 ghost use Rattle.gql_rules.specs.Operations as step;
 ghost use Rattle.gql_rules.specs.Views as seen;
 
@@ -13,8 +13,8 @@ use crate::unused_variable::list_unused_variables;
 use crate::variables::Variables;
 use gql_diag_messages::DiagnosticData;
 use gql_document_types::{Fragment, Operation, add_spreads};
-use gql_rules_graph::Graph;
-use gql_rules_selections::reached;
+use gql_graph::Graph;
+use gql_rules_nodes::reached;
 use gql_schema_types::{Schema, Table};
 use jb_map::KeyTable;
 use jb_text::{Listed, Memory};

@@ -10,7 +10,7 @@ use crate::judged::{JudgedUse, fresh_row, judge_row, list_row};
 use crate::variables::Variables;
 use gql_diag_messages::DiagnosticData;
 use gql_document_types::Fragment;
-use gql_rules_selections::is_reached;
+use gql_rules_nodes::is_reached;
 use gql_schema_types::Schema;
 use jb_map::KeyTable;
 use jb_text::{Listed, Memory};

@@ -1,13 +1,13 @@
 //! A variable that is used is defined in each operation that reaches the use (GraphQL October 2021, section 5.8.3).
 
 ghost use Rattle.std.specs.Prelude.{◌≡◌, ◌++◌, OnOk};
-ghost use Rattle.gql_rules_base.specs.Faults as told;
+ghost use Rattle.gql_rules_values.specs.Faults as told;
 ghost use Rattle.gql_rules.specs.UndefinedVariable as spec;
 ghost use Rattle.gql_rules.specs.Views as seen;
 
 use crate::uses::Use;
 use gql_diag_messages::{DiagnosticData, Rule};
-use gql_rules_base::list_fault;
+use gql_rules_values::list_fault;
 use jb_text::{Listed, Memory};
 use std::alloc::Global;
 

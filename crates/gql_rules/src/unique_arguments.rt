@@ -2,7 +2,7 @@
 
 ghost use Rattle.std.specs.Prelude.{◌≡◌, ◌++◌, OnOk};
 ghost use Rattle.std.specs.List.{flat_map};
-ghost use Rattle.gql_rules_selections.specs.Nodes.{nodes};
+ghost use Rattle.gql_rules_nodes.specs.Nodes.{nodes};
 ghost use Rattle.gql_rules.specs.UniqueArguments as spec;
 
 use gql_ast_base::{Directive, Name};
@@ -11,8 +11,8 @@ use gql_diag_messages::DiagnosticData;
 use gql_document_types::{
     ExecutableDocument, Field, Fragment, FragmentSpread, InlineFragment, Operation,
 };
-use gql_rules_base::list_unique_argument;
-use gql_rules_selections::{Visitor, walk_document};
+use gql_rules_nodes::{Visitor, walk_document};
+use gql_rules_values::list_unique_argument;
 use jb_text::{Listed, Memory};
 use std::alloc::Global;
 

@@ -5,7 +5,7 @@ ghost use Rattle.gql_rules.specs.UniqueVariables as spec;
 
 use gql_diag_messages::DiagnosticData;
 use gql_document_types::Operation;
-use gql_rules_selections::list_unique_variable;
+use gql_rules_nodes::list_unique_variable;
 use jb_text::{Listed, Memory};
 use std::alloc::Global;
 

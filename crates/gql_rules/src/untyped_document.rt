@@ -7,7 +7,7 @@ ghost use Rattle.gql_schema_types.specs.Entries.{joined, put_new};
 
 use crate::untyped_selections::untyped_set;
 use gql_ast_definitions::{FragmentDefinition, OperationDefinition};
-use gql_document_build::ExecutableDefinitions;
+use gql_document::ExecutableDefinitions;
 use gql_document_types::{ExecutableDocument, Fragment, Operation};
 use gql_schema_types::Table;
 use gql_source::SourceMap;

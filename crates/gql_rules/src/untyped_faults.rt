@@ -15,9 +15,9 @@ use crate::untyped_document::untyped_document;
 use crate::variable_faults::list_variable_faults;
 use gql_ast::Definition;
 use gql_diag_messages::DiagnosticData;
-use gql_document_build::{ExecutableDefinitions, distinct_definitions};
+use gql_document::{ExecutableDefinitions, distinct_definitions};
 use gql_document_types::ExecutableDocument;
-use gql_rules_selections::{list_spread_faults, list_unused_fragments};
+use gql_rules_nodes::{list_spread_faults, list_unused_fragments};
 use jb_text::{Listed, Memory};
 use std::alloc::Global;
 

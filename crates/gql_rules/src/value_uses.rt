@@ -7,7 +7,7 @@ ghost use Rattle.gql_rules.specs.Views as seen;
 use crate::uses::{Place, Use};
 use gql_ast_base::{Argument, Directive, Name, Value, ValueKind};
 use gql_ast_definitions::InputValueDefinition;
-use gql_rules_base::ByName;
+use gql_rules_values::ByName;
 use gql_schema_types::{ExtendedType, Schema, Table};
 use jb_text::{Listed, Memory};
 use std::alloc::Global;

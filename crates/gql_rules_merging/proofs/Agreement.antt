@@ -7,11 +7,11 @@ use Rattle.std.proofs.lemmas.Bool.{eqb-true}
 use Rattle.std.proofs.lemmas.List.Elements.{Contains-append_right, Contains-append_cases}
 use Rattle.std.proofs.lemmas.Option.{slice_get_within, slice_get-map}
 use Rattle.gql_ast_base.specs.TypeParts.{named_type}
-use Rattle.gql_rules_graph.proofs.Flooded.{none_contained, same_or_not}
-use Rattle.gql_rules_graph.specs.Graph.{Graph}
-use Rattle.gql_rules_graph.specs.Explored.{class_of, IsMet, same, other, IsExplored}
-use Rattle.gql_rules_graph.specs.Pairs.{Sets, IsField, IsSet, of_operation, of_fragment, of_field, IsCompared, in_set, below as under}
-use Rattle.gql_rules_graph.specs.declared.pair.Pair.{Pair}
+use Rattle.gql_graph.proofs.Flooded.{none_contained, same_or_not}
+use Rattle.gql_graph.specs.Graph.{Graph}
+use Rattle.gql_graph.specs.Explored.{class_of, IsMet, same, other, IsExplored}
+use Rattle.gql_graph.specs.Pairs.{Sets, IsField, IsSet, of_operation, of_fragment, of_field, IsCompared, in_set, below as under}
+use Rattle.gql_graph.specs.declared.pair.Pair.{Pair}
 use Rattle.gql_schema_types.specs.declared.types.ExtendedType.{ExtendedType}
 use Rattle.gql_rules_merging.proofs.Pairing.{got_within}
 use Rattle.gql_rules_merging.proofs.SameArguments.{arguments_on}

@@ -7,12 +7,12 @@ use Rattle.std.proofs.lemmas.Bool.{eqb-true, leb-true, ltb-true}
 use Rattle.std.proofs.lemmas.List.Elements.{Contains-append_right}
 use Rattle.gql_ast_base.specs.declared.directive.Argument.{Argument}
 use Rattle.gql_ast_base.specs.TypeParts.{named_type}
-use Rattle.gql_rules_graph.proofs.Flooded.{Contains-cons_cases, none_contained}
-use Rattle.gql_rules_graph.proofs.Walks.{from_node}
-use Rattle.gql_rules_graph.specs.Cycles.{Reaches, at_once, along}
-use Rattle.gql_rules_graph.specs.Graph.{Graph}
-use Rattle.gql_rules_graph.specs.Explored.{class_of}
-use Rattle.gql_rules_graph.specs.Pairs.{IsField}
+use Rattle.gql_graph.proofs.Flooded.{Contains-cons_cases, none_contained}
+use Rattle.gql_graph.proofs.Walks.{from_node}
+use Rattle.gql_graph.specs.Cycles.{Reaches, at_once, along}
+use Rattle.gql_graph.specs.Graph.{Graph}
+use Rattle.gql_graph.specs.Explored.{class_of}
+use Rattle.gql_graph.specs.Pairs.{IsField}
 use Rattle.gql_schema_types.specs.declared.types.ExtendedType.{ExtendedType}
 use Rattle.gql_rules_merging.proofs.SameArguments.{arguments_on}
 use Rattle.gql_rules_merging.proofs.Truths.{both_true, either_true, one_text, text_refl, text_turned, one_levels, levels_refl}

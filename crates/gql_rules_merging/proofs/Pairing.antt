@@ -2,8 +2,8 @@
 use Rattle.std.proofs.Common.{◌≡◌, ℕ, zero, suc, ◌<◌, Bool, cond, Some, List, [], ◌∷◌, length, refl, ap, arith}
 use Rattle.std.specs.List.{slice_get}
 use Rattle.std.proofs.lemmas.Bool.{lt-ltb}
-use Rattle.gql_rules_graph.specs.Explored.{pair_of}
-use Rattle.gql_rules_graph.proofs.Inserted.{made}
+use Rattle.gql_graph.specs.Explored.{pair_of}
+use Rattle.gql_graph.proofs.Inserted.{made}
 
 pub pair_of-low : (in_full : Bool) (a b : ℕ) → a < b → pair_of in_full a b ≡ record { first = a; second = b; in_full = in_full }
 pair_of-low in_full a b low = ap (λ t. cond t (made (a, b, in_full)) (made (b, a, in_full))) (lt-ltb a b low)

@@ -11,7 +11,7 @@ use Rattle.gql_ast_base.specs.declared.directive.Argument.{Argument}
 use Rattle.gql_ast_base.specs.declared.value.Value.{Value}
 use Rattle.gql_ast_base.specs.declared.value.ValueKind.{ValueKind, roll-ValueKind, out-ValueKind, fold-ValueKind, Null as NullKind, Variable, Int, Float, String as StringKind, Boolean, Enum, List as ListKind, Object as ObjectKind, the_lemmas}
 use Rattle.gql_ast_base.specs.declared.value.ValueKind.TheOpen.{ValueKind-F, Value-F}
-use Rattle.gql_rules_graph.proofs.Flooded.{Contains-cons_cases, none_contained}
+use Rattle.gql_graph.proofs.Flooded.{Contains-cons_cases, none_contained}
 use Rattle.gql_rules_merging.proofs.Truths.{both_true, one_text, beq-true, all_at}
 use Rattle.gql_rules_merging.specs.ConflictingFieldArgument.{same_arguments, is_given}
 use Rattle.gql_rules_merging.specs.SameValue.{KindTest, ValueTest, same_items, is_among, same_members, same_level, same_kind, same_value}

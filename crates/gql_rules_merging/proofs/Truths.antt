@@ -4,7 +4,7 @@ use Rattle.std.specs.List.{Contains, list_all, slice_get}
 use Rattle.std.specs.Str.{bytes_eq}
 use Rattle.std.specs.Bool.{beq}
 use Rattle.std.proofs.lemmas.Slice.Eq.{bytes_eq-Decides}
-use Rattle.gql_rules_graph.proofs.Flooded.{Contains-cons_cases, none_contained}
+use Rattle.gql_graph.proofs.Flooded.{Contains-cons_cases, none_contained}
 use Rattle.gql_rules_merging.specs.ConflictingFieldType.{same_levels}
 
 pub both_true : (a b : Bool) → (a && b) ≡ true → (a ≡ true) × (b ≡ true)

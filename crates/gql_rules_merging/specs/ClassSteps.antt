@@ -3,7 +3,7 @@ use Rattle.std.specs.Prelude.{◌≡◌, ◌⊎◌, ℕ, Bool, true, false, Opti
 use Rattle.std.specs.Option.{option_map_or}
 use Rattle.std.specs.Str.{bytes_eq}
 use Rattle.gql_ast_base.specs.TypeParts.{named_type}
-use Rattle.gql_rules_graph.specs.Explored.{class_of as class_in}
+use Rattle.gql_graph.specs.Explored.{class_of as class_in}
 use Rattle.gql_rules_merging.specs.Classes.{same_both_ways, is_like_at, same_item}
 use Rattle.gql_rules_merging.specs.ConflictingFieldType.{levels, same_levels}
 use Rattle.gql_rules_merging.specs.Numbering.{Selected}

@@ -5,8 +5,8 @@ use Rattle.std.specs.Option.{option_map_or}
 use Rattle.std.specs.Str.{bytes_eq}
 use Rattle.gql_ast_base.specs.declared.directive.Argument.{Argument}
 use Rattle.gql_ast_base.specs.TypeParts.{named_type}
-use Rattle.gql_rules_graph.specs.Explored.{class_of}
-use Rattle.gql_rules_graph.specs.declared.pair.Pair.{Pair}
+use Rattle.gql_graph.specs.Explored.{class_of}
+use Rattle.gql_graph.specs.declared.pair.Pair.{Pair}
 use Rattle.gql_schema_types.specs.declared.types.ExtendedType.{ExtendedType}
 use Rattle.gql_rules_merging.specs.ConflictingFieldArgument.{same_arguments}
 use Rattle.gql_rules_merging.specs.ConflictingFieldType.{levels, same_levels}

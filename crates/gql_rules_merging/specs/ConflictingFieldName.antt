@@ -4,7 +4,7 @@ use Rattle.std.specs.Prelude.{Bool, not, [], ◌∷◌}
 use Rattle.std.specs.Str.{bytes_eq}
 use Rattle.gql_diag_messages.specs.declared.rule.Rule.TheVariants.{ConflictingFieldName}
 use Rattle.gql_diag_messages.specs.declared.diagnostic_data.DiagnosticData.{DiagnosticData}
-use Rattle.gql_rules_base.specs.Faults.{fault}
+use Rattle.gql_rules_values.specs.Faults.{fault}
 use Rattle.gql_rules_merging.specs.Numbering.{Selected}
 use Rattle.gql_rules_merging.specs.ResponseKeys.{key_of}
 

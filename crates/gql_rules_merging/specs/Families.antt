@@ -2,8 +2,8 @@
 use Rattle.std.specs.Prelude.{◌≡◌, ◌<◌, ℕ, Bool, true, false, not, ◌&&◌, ◌||◌, ◌==◌, List, [], ◌++◌, slice_get, slice_set}
 use Rattle.std.specs.List.{Contains}
 use Rattle.std.specs.Option.{option_map_or, unwrap_or}
-use Rattle.gql_rules_graph.specs.Explored.{class_of}
-use Rattle.gql_rules_graph.specs.Pairs.{Sets}
+use Rattle.gql_graph.specs.Explored.{class_of}
+use Rattle.gql_graph.specs.Pairs.{Sets}
 use Rattle.gql_schema_types.specs.declared.types.ExtendedType.{ExtendedType}
 use Rattle.gql_rules_merging.specs.ConflictingFieldType.{types_conflict}
 use Rattle.gql_rules_merging.specs.FieldSelectionMerging.{below, differ, items}

@@ -7,8 +7,8 @@ use Rattle.std.specs.Str.{bytes_eq}
 use Rattle.gql_source.specs.Span.{Span}
 use Rattle.gql_diag_messages.specs.declared.diagnostic_data.DiagnosticData.{DiagnosticData}
 use Rattle.gql_document_types.specs.declared.document.ExecutableDocument.{ExecutableDocument}
-use Rattle.gql_rules_graph.specs.Pairs.{Sets, IsCompared}
-use Rattle.gql_rules_graph.specs.declared.pair.Pair.{Pair}
+use Rattle.gql_graph.specs.Pairs.{Sets, IsCompared}
+use Rattle.gql_graph.specs.declared.pair.Pair.{Pair}
 use Rattle.gql_schema_types.specs.Types.{type_called, as_object}
 use Rattle.gql_schema_types.specs.declared.types.ExtendedType.{ExtendedType}
 use Rattle.gql_rules_merging.specs.ConflictingFieldArgument.{arguments_conflict, conflicting_arguments}

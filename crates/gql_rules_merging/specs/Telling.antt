@@ -2,9 +2,9 @@
 use Rattle.std.specs.Prelude.{◌≡◌, ℕ, Bool, true, not, ◌&&◌, ◌||◌, if◌then◌else◌, List, [], is_none, None}
 use Rattle.std.specs.List.{Contains, IsDistinct, flat_map, list_any}
 use Rattle.gql_diag_messages.specs.declared.diagnostic_data.DiagnosticData.{DiagnosticData}
-use Rattle.gql_rules_graph.specs.Pairs.{IsCompared}
-use Rattle.gql_rules_graph.specs.Steps.{is_pair}
-use Rattle.gql_rules_graph.specs.declared.pair.Pair.{Pair}
+use Rattle.gql_graph.specs.Pairs.{IsCompared}
+use Rattle.gql_graph.specs.Steps.{is_pair}
+use Rattle.gql_graph.specs.declared.pair.Pair.{Pair}
 use Rattle.gql_schema_types.specs.declared.types.ExtendedType.{ExtendedType}
 use Rattle.gql_rules_merging.specs.FieldSelectionMerging.{below, conflict_of, same_fields, sets_of}
 use Rattle.gql_rules_merging.specs.Numbering.{Selected, Numbered}

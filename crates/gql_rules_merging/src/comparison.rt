@@ -9,7 +9,7 @@ use crate::conflicting_field_name::{list_conflicting_names, names_conflict};
 use crate::conflicting_field_type::{list_conflicting_types, types_conflict};
 use crate::numbering::Selected;
 use gql_diag_messages::DiagnosticData;
-use gql_rules_graph::{Compares, Pair};
+use gql_graph::{Compares, Pair};
 use gql_schema_types::{ExtendedType, Table};
 use gql_source::SourceSpan;
 use jb_text::{Listed, Memory};

@@ -11,7 +11,7 @@ use crate::numbering::Selected;
 use crate::same_value::same_value;
 use gql_ast_base::Argument;
 use gql_diag_messages::{DiagnosticData, Rule};
-use gql_rules_base::list_fault;
+use gql_rules_values::list_fault;
 use jb_text::{Listed, Memory};
 use std::alloc::Global;
 

@@ -6,7 +6,7 @@ ghost use Rattle.gql_rules_merging.specs.Gathering.{selected_of};
 
 use crate::numbering::Selected;
 use gql_diag_messages::{DiagnosticData, Rule};
-use gql_rules_base::list_fault;
+use gql_rules_values::list_fault;
 use jb_text::{Listed, Memory};
 use std::alloc::Global;
 

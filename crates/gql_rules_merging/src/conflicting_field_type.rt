@@ -9,7 +9,7 @@ use crate::numbering::Selected;
 use gql_ast::print_type;
 use gql_ast_base::TypeRef;
 use gql_diag_messages::{DiagnosticData, Rule};
-use gql_rules_base::list_fault;
+use gql_rules_values::list_fault;
 use gql_schema_types::{ExtendedType, Table};
 use jb_text::{Listed, Memory};
 use std::alloc::Global;

@@ -5,7 +5,7 @@ ghost use Rattle.std.specs.Prelude.{◌≡◌, true, [], IfOk};
 ghost use Rattle.gql_rules_merging.specs.Families as spec;
 ghost use Rattle.gql_rules_merging.specs.Gathering.{fields_of, selected_of, numbered_of};
 ghost use Rattle.gql_rules_merging.specs.Telling as telling;
-ghost use Rattle.gql_rules_graph.specs.Explored.{IsExplored};
+ghost use Rattle.gql_graph.specs.Explored.{IsExplored};
 
 use crate::classes::class_of;
 use crate::comparison::{Comparison, differ};
@@ -13,7 +13,7 @@ use crate::conflicting_field_type::types_conflict;
 use crate::family_growth::grown_families;
 use crate::family_sets::gathered;
 use crate::numbering::{Numbered, Selected};
-use gql_rules_graph::{DocumentSets, Graph, explore};
+use gql_graph::{DocumentSets, Graph, explore};
 use gql_schema_types::{ExtendedType, Table};
 use jb_text::Memory;
 use std::alloc::Global;

@@ -4,7 +4,7 @@
 //! No contract says that nothing is left to be joined. `families.rt` looks at what is made here.
 
 use crate::numbering::{Numbered, Selected};
-use gql_rules_graph::{Graph, flood};
+use gql_graph::{Graph, flood};
 use jb_text::{Listed, Memory};
 use std::alloc::Global;
 

@@ -7,7 +7,7 @@ ghost use Rattle.gql_rules_merging.specs.Gathering.{fields_of, numbered_of};
 
 use crate::classes::class_of;
 use crate::numbering::{Numbered, Selected};
-use gql_rules_graph::Graph;
+use gql_graph::Graph;
 use jb_text::{Listed, Memory};
 use std::alloc::Global;
 

@@ -15,7 +15,7 @@ use crate::numbering::{Numbered, number_fields};
 use crate::response_keys::key_numbers;
 use gql_diag_messages::DiagnosticData;
 use gql_document_types::ExecutableDocument;
-use gql_rules_graph::{Compares, DocumentSets, Pair, Seen, explore};
+use gql_graph::{Compares, DocumentSets, Pair, Seen, explore};
 use gql_schema_types::{ExtendedType, Schema, Table};
 use jb_text::{Listed, Memory};
 use std::alloc::Global;

@@ -7,7 +7,7 @@ ghost use Rattle.gql_rules_merging.specs.ResponseKeys.{key_of};
 
 use gql_ast_base::Name;
 use gql_document_types::{ExecutableDocument, Field, Fragment, Operation, Selection, SelectionSet};
-use gql_rules_graph::Graph;
+use gql_graph::Graph;
 use gql_schema_types::Table;
 use jb_text::{Listed, Memory};
 use std::alloc::Global;

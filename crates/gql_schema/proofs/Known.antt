@@ -24,19 +24,19 @@ use Rattle.gql_ast_base.specs.Types.{type_step, form_step}
 use Rattle.gql_ast_base.specs.Values.{literal, simple_content, content_step, member_step, value_step, default_value}
 use Rattle.gql_cst.specs.Forest.{Forest}
 use Rattle.gql_cst.specs.Sentences.{words, shown}
-use Rattle.gql_cst_grammar.specs.declared.rule.Rule.{Rule}
-use Rattle.gql_cst_grammar.specs.declared.rule.Rule.TheVariants.{Document}
-use Rattle.gql_cst_grammar.specs.declared.symbol.Symbol.TheVariants.{One}
-use Rattle.gql_cst_grammar.specs.declared.syntax_kind.SyntaxKind.TheVariants as kind
-use Rattle.gql_cst_grammar.specs.declared.word.Word.{Word}
-use Rattle.gql_cst_grammar.specs.Factored.{factored}
-use Rattle.gql_cst_grammar.specs.Reads.{Reads}
-use Rattle.gql_cst_grammar.specs.Row.{Row, nothing, node}
-use Rattle.gql_cst_grammar.specs.Rule.{kind_of}
-use Rattle.gql_cst_grammar.specs.Sentence.{Sentence}
+use Rattle.gql_grammar.specs.declared.rule.Rule.{Rule}
+use Rattle.gql_grammar.specs.declared.rule.Rule.TheVariants.{Document}
+use Rattle.gql_grammar.specs.declared.symbol.Symbol.TheVariants.{One}
+use Rattle.gql_grammar.specs.declared.syntax_kind.SyntaxKind.TheVariants as kind
+use Rattle.gql_grammar.specs.declared.word.Word.{Word}
+use Rattle.gql_grammar.specs.Factored.{factored}
+use Rattle.gql_grammar.specs.Reads.{Reads}
+use Rattle.gql_grammar.specs.Row.{Row, nothing, node}
+use Rattle.gql_grammar.specs.Rule.{kind_of}
+use Rattle.gql_grammar.specs.Sentence.{Sentence}
 use Rattle.gql_cst.specs.TreeOf.{IsTreeOf}
-use Rattle.gql_cst_lexer.specs.Lex.{lex, run_len, blank_len, string_len, string, quoted}
-use Rattle.gql_cst_lexer.specs.Value.{values}
+use Rattle.gql_lexer.specs.Lex.{lex, run_len, blank_len, string_len, string, quoted}
+use Rattle.gql_lexer.specs.Value.{values}
 use Rattle.gql_schema_build.specs.declared.built_in.BuiltIn.{BuiltIn}
 use Rattle.gql_schema.specs.declared.built_in_rows.TheConstants.{DIRECTIVES, TYPES}
 use Rattle.gql_schema.specs.declared.built_in_text.TheConstants.{BUILT_IN_TEXT}

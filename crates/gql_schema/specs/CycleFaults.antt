@@ -3,10 +3,10 @@ use Rattle.std.specs.Prelude.{◌≡◌, ℕ, ◌+◌, Bool, ◌&&◌, List, [],
 use Rattle.gql_ast_base.specs.Names.{Named}
 use Rattle.gql_diag_messages.specs.declared.rule.Rule.{Rule}
 use Rattle.gql_diag_messages.specs.declared.diagnostic_data.DiagnosticData.{DiagnosticData}
-use Rattle.gql_rules_base.specs.Faults.{name_fault, long_chain, only_if}
-use Rattle.gql_rules_base.specs.Written.{is_written}
-use Rattle.gql_rules_graph.specs.Chains.{AreJudged, is_marked}
-use Rattle.gql_rules_graph.specs.Graph.{Graph}
+use Rattle.gql_rules_values.specs.Faults.{name_fault, long_chain, only_if}
+use Rattle.gql_rules_values.specs.Written.{is_written}
+use Rattle.gql_graph.specs.Chains.{AreJudged, is_marked}
+use Rattle.gql_graph.specs.Graph.{Graph}
 
 -- what has this name, if it is not built in: whether it leads back to itself, and whether it begins a long chain
 abbrev pub name_faults : Rule → Bool → Bool → Named → List DiagnosticData

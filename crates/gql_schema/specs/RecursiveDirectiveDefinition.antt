@@ -10,7 +10,7 @@ use Rattle.gql_ast_base.specs.declared.directive.Directive.{Directive}
 use Rattle.gql_diag_messages.specs.declared.rule.Rule.TheVariants.{RecursiveDirectiveDefinition}
 use Rattle.gql_diag_messages.specs.declared.diagnostic_data.DiagnosticData.{DiagnosticData}
 use Rattle.gql_ast_base.specs.TypeParts.{named_type}
-use Rattle.gql_rules_graph.specs.Graph.{Graph}
+use Rattle.gql_graph.specs.Graph.{Graph}
 use Rattle.gql_schema.specs.CycleFaults.{IsTold}
 use Rattle.gql_schema_types.specs.Entries.{is_called}
 use Rattle.gql_schema_types.specs.Types.{type_name}

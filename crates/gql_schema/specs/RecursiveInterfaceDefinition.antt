@@ -5,7 +5,7 @@ use Rattle.std.specs.Option.{option_map_or}
 use Rattle.gql_ast_base.specs.Names.{Named}
 use Rattle.gql_diag_messages.specs.declared.rule.Rule.TheVariants.{RecursiveInterfaceDefinition}
 use Rattle.gql_diag_messages.specs.declared.diagnostic_data.DiagnosticData.{DiagnosticData}
-use Rattle.gql_rules_graph.specs.Graph.{Graph}
+use Rattle.gql_graph.specs.Graph.{Graph}
 use Rattle.gql_schema.specs.CycleFaults.{IsTold}
 use Rattle.gql_schema_types.specs.Entries.{is_called}
 use Rattle.gql_schema_types.specs.Types.{type_name}

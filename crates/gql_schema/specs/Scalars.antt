@@ -6,7 +6,7 @@ use Rattle.gql_ast_definitions.specs.declared.field_definition.FieldDefinition.{
 use Rattle.gql_ast_definitions.specs.declared.field_definition.InputValueDefinition.{InputValueDefinition}
 use Rattle.gql_ast_definitions.specs.declared.schema_definition.DirectiveDefinition.{DirectiveDefinition}
 use Rattle.gql_ast_base.specs.TypeParts.{named_type}
-use Rattle.gql_rules_base.specs.Written.{is_written}
+use Rattle.gql_rules_values.specs.Written.{is_written}
 use Rattle.gql_schema_types.specs.Entries.{without}
 use Rattle.gql_schema_types.specs.Types.{type_name, type_called}
 use Rattle.gql_schema_types.specs.declared.schema.Schema.{Schema}

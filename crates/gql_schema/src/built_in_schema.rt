@@ -9,7 +9,7 @@ use crate::built_in_row::{DefinitionRow, DirectiveRow};
 use crate::built_in_rows::{DIRECTIVES, TYPES};
 use crate::built_in_text::{BUILT_IN_PATH, BUILT_IN_TEXT};
 use gql_ast_base::{Source, both};
-use gql_cst_grammar::laws;
+use gql_grammar::laws;
 use gql_schema_build::BuiltIn;
 use gql_source::{FileId, SourceFile, SourceMap};
 use jb_text::{ByteString, Memory};

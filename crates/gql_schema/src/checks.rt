@@ -3,17 +3,17 @@
 ghost use Rattle.std.specs.Prelude.{◌≡◌, ◌++◌, false, Some, OnOk, OnErr};
 ghost use Rattle.gql_diag.specs.List.{IsStableSort};
 ghost use Rattle.gql_diag.specs.Order.{list_order};
-ghost use Rattle.gql_rules_base.specs.declared.known.Defined.TheVariants.{Types};
-ghost use Rattle.gql_rules_base.specs.Arguments.{argument_faults};
-ghost use Rattle.gql_rules_base.specs.Directives.{directive_faults};
-ghost use Rattle.gql_rules_base.specs.Literals.{literal_faults};
+ghost use Rattle.gql_rules_values.specs.declared.known.Defined.TheVariants.{Types};
+ghost use Rattle.gql_rules_values.specs.Arguments.{argument_faults};
+ghost use Rattle.gql_rules_values.specs.Directives.{directive_faults};
+ghost use Rattle.gql_rules_values.specs.Literals.{literal_faults};
 ghost use Rattle.gql_schema.specs.Taken.{HasTakenSome};
 
 use crate::taken::take_faults;
 use gql_ast_base::{Argument, Directive, Name, TypeRef, Value};
 use gql_ast_definitions::{DirectiveLocation, InputValueDefinition};
 use gql_diag::DiagnosticList;
-use gql_rules_base::{Call, Defined, list_arguments, list_directives, list_literal};
+use gql_rules_values::{Call, Defined, list_arguments, list_directives, list_literal};
 use gql_schema_types::Schema;
 use gql_source::SourceSpan;
 use jb_text::{Listed, Memory};

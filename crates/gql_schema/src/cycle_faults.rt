@@ -1,15 +1,15 @@
 //! What is told of names that lead back to themselves, and of chains of names that are too long.
 
 ghost use Rattle.std.specs.Prelude.{◌≡◌, ◌++◌, ◌&&◌, List, OnOk};
-ghost use Rattle.gql_rules_base.specs.Faults as told;
-ghost use Rattle.gql_rules_base.specs.Written.{is_written};
+ghost use Rattle.gql_rules_values.specs.Faults as told;
+ghost use Rattle.gql_rules_values.specs.Written.{is_written};
 ghost use Rattle.gql_diag_messages.specs.declared.diagnostic_data.DiagnosticData as item;
 ghost use Rattle.gql_schema.specs.CycleFaults as spec;
 
 use gql_ast_base::Name;
 use gql_diag_messages::{DiagnosticData, Rule};
-use gql_rules_base::{is_written, list_long_chain, list_name};
-use gql_rules_graph::{is_marked, judge};
+use gql_graph::{is_marked, judge};
+use gql_rules_values::{is_written, list_long_chain, list_name};
 use gql_schema_types::Named;
 use jb_text::{Listed, Memory};
 use std::alloc::Global;

@@ -8,7 +8,7 @@ ghost use Rattle.gql_schema.specs.Scalars as spec;
 
 use gql_ast_base::Name;
 use gql_ast_definitions::{DirectiveDefinition, FieldDefinition, InputValueDefinition};
-use gql_rules_base::is_written;
+use gql_rules_values::is_written;
 use gql_schema_types::{ExtendedType, ScalarType, Shared, Table};
 use jb_text::{Listed, Memory, Refused};
 use std::alloc::{AllocError, Global};

@@ -10,7 +10,7 @@ use Rattle.gql_ast_base.specs.declared.operation_type.OperationType.{OperationTy
 use Rattle.gql_ast_base.specs.declared.operation_type.OperationType.TheVariants.{Query, Mutation, Subscription}
 use Rattle.gql_diag_messages.specs.declared.rule.Rule.TheVariants.{DuplicateRootOperationType}
 use Rattle.gql_diag_messages.specs.declared.diagnostic_data.DiagnosticData.{DiagnosticData}
-use Rattle.gql_rules_base.specs.Faults.{fault}
+use Rattle.gql_rules_values.specs.Faults.{fault}
 use Rattle.gql_schema_types.specs.Schemas.{root_of}
 use Rattle.gql_schema_types.specs.declared.schema.SchemaDefinition.{SchemaDefinition}
 

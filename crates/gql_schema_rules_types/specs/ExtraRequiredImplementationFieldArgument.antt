@@ -6,8 +6,8 @@ use Rattle.gql_ast_definitions.specs.declared.field_definition.FieldDefinition.{
 use Rattle.gql_ast_definitions.specs.declared.field_definition.InputValueDefinition.{InputValueDefinition}
 use Rattle.gql_diag_messages.specs.declared.rule.Rule.TheVariants.{ExtraRequiredImplementationFieldArgument}
 use Rattle.gql_diag_messages.specs.declared.diagnostic_data.DiagnosticData.{DiagnosticData}
-use Rattle.gql_rules_base.specs.Faults.{fault, only_if}
-use Rattle.gql_rules_base.specs.TypeShape.{is_required}
+use Rattle.gql_rules_values.specs.Faults.{fault, only_if}
+use Rattle.gql_rules_values.specs.TypeShape.{is_required}
 use Rattle.gql_schema_rules_types.specs.Arguments.{argument_called}
 
 abbrev pub is_extra : FieldDefinition → InputValueDefinition → Bool

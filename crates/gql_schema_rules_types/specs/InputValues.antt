@@ -8,11 +8,11 @@ use Rattle.gql_ast_definitions.specs.declared.schema_definition.DirectiveLocatio
 use Rattle.gql_ast_base.specs.declared.value.Value.{Value}
 use Rattle.gql_diag_messages.specs.declared.diagnostic_data.DiagnosticData.{DiagnosticData}
 use Rattle.gql_ast_base.specs.TypeParts.{named_type}
-use Rattle.gql_rules_base.specs.Written.{is_written}
-use Rattle.gql_rules_base.specs.declared.known.Defined.TheVariants.{TypesAndScalars}
-use Rattle.gql_rules_base.specs.Directives.{directive_faults}
-use Rattle.gql_rules_base.specs.Literals.{literal_faults}
-use Rattle.gql_rules_base.specs.UniqueInputValue.{unique_definitions}
+use Rattle.gql_rules_values.specs.Written.{is_written}
+use Rattle.gql_rules_values.specs.declared.known.Defined.TheVariants.{TypesAndScalars}
+use Rattle.gql_rules_values.specs.Directives.{directive_faults}
+use Rattle.gql_rules_values.specs.Literals.{literal_faults}
+use Rattle.gql_rules_values.specs.UniqueInputValue.{unique_definitions}
 use Rattle.gql_schema_rules_types.specs.InputType.{input_type}
 use Rattle.gql_schema_rules_types.specs.ReservedName.{reserved_name}
 use Rattle.gql_schema_rules_types.specs.UndefinedDefinition.{undefined_definition}

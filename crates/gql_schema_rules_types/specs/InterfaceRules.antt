@@ -6,7 +6,7 @@ use Rattle.gql_ast_base.specs.Names.{Named}
 use Rattle.gql_ast_definitions.specs.declared.field_definition.FieldDefinition.{FieldDefinition}
 use Rattle.gql_ast_definitions.specs.declared.field_definition.InputValueDefinition.{InputValueDefinition}
 use Rattle.gql_diag_messages.specs.declared.diagnostic_data.DiagnosticData.{DiagnosticData}
-use Rattle.gql_rules_base.specs.Written.{is_written}
+use Rattle.gql_rules_values.specs.Written.{is_written}
 use Rattle.gql_schema_rules_types.specs.Arguments.{argument_called}
 use Rattle.gql_schema_rules_types.specs.ExtraRequiredImplementationFieldArgument.{extra_required_implementation_field_argument}
 use Rattle.gql_schema_rules_types.specs.InvalidImplementationFieldArgumentType.{invalid_implementation_field_argument_type}

@@ -6,7 +6,7 @@ use Rattle.gql_ast_definitions.specs.declared.field_definition.FieldDefinition.{
 use Rattle.gql_ast.specs.TypeText.{type_text}
 use Rattle.gql_diag_messages.specs.declared.rule.Rule.TheVariants.{InvalidImplementationFieldType}
 use Rattle.gql_diag_messages.specs.declared.diagnostic_data.DiagnosticData.{DiagnosticData}
-use Rattle.gql_rules_base.specs.Faults.{fault, only_if}
+use Rattle.gql_rules_values.specs.Faults.{fault, only_if}
 use Rattle.gql_schema_rules_types.specs.Subtypes.{are_known, is_subtype}
 use Rattle.gql_schema_types.specs.declared.types.ExtendedType.{ExtendedType}
 

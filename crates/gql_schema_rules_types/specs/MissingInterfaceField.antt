@@ -5,7 +5,7 @@ use Rattle.gql_ast_base.specs.Names.{Named}
 use Rattle.gql_ast_definitions.specs.declared.field_definition.FieldDefinition.{FieldDefinition}
 use Rattle.gql_diag_messages.specs.declared.rule.Rule.TheVariants.{MissingInterfaceField}
 use Rattle.gql_diag_messages.specs.declared.diagnostic_data.DiagnosticData.{DiagnosticData}
-use Rattle.gql_rules_base.specs.Faults.{fault}
+use Rattle.gql_rules_values.specs.Faults.{fault}
 
 -- a field of the interface that the type lacks, told at the name of the type
 abbrev pub missing_interface_field : Named → Named → FieldDefinition → DiagnosticData

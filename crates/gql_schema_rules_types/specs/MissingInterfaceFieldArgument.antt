@@ -6,7 +6,7 @@ use Rattle.gql_ast_definitions.specs.declared.field_definition.FieldDefinition.{
 use Rattle.gql_ast_definitions.specs.declared.field_definition.InputValueDefinition.{InputValueDefinition}
 use Rattle.gql_diag_messages.specs.declared.rule.Rule.TheVariants.{MissingInterfaceFieldArgument}
 use Rattle.gql_diag_messages.specs.declared.diagnostic_data.DiagnosticData.{DiagnosticData}
-use Rattle.gql_rules_base.specs.Faults.{fault}
+use Rattle.gql_rules_values.specs.Faults.{fault}
 
 -- an argument of the field of the interface that the field lacks, told at the field
 abbrev pub missing_interface_field_argument : Named → Named → FieldDefinition → InputValueDefinition → DiagnosticData

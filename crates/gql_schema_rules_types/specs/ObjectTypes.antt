@@ -1,7 +1,7 @@
 -- Names of object types.
 use Rattle.std.specs.Prelude.{ℕ, Bool, false, ◌&&◌, not, List}
 use Rattle.std.specs.Option.{option_map_or}
-use Rattle.gql_rules_base.specs.Known.{is_known}
+use Rattle.gql_rules_values.specs.Known.{is_known}
 use Rattle.gql_schema_types.specs.Implementers.{is_object}
 use Rattle.gql_schema_types.specs.Types.{type_called}
 use Rattle.gql_schema_types.specs.declared.types.ExtendedType.{ExtendedType}

@@ -7,9 +7,9 @@ use Rattle.gql_ast_base.specs.declared.operation_type.OperationType.TheVariants.
 use Rattle.gql_ast_definitions.specs.declared.schema_definition.DirectiveDefinition.{DirectiveDefinition}
 use Rattle.gql_ast_definitions.specs.declared.schema_definition.DirectiveLocation.TheVariants as at
 use Rattle.gql_diag_messages.specs.declared.diagnostic_data.DiagnosticData.{DiagnosticData}
-use Rattle.gql_rules_base.specs.Written.{is_written}
-use Rattle.gql_rules_base.specs.declared.known.Defined.TheVariants.{TypesAndScalars}
-use Rattle.gql_rules_base.specs.Directives.{directive_faults}
+use Rattle.gql_rules_values.specs.Written.{is_written}
+use Rattle.gql_rules_values.specs.declared.known.Defined.TheVariants.{TypesAndScalars}
+use Rattle.gql_rules_values.specs.Directives.{directive_faults}
 use Rattle.gql_schema_rules_types.specs.DuplicateRootOperationType.{duplicate_root_operation_type}
 use Rattle.gql_schema_rules_types.specs.InputValues.{arguments_faults}
 use Rattle.gql_schema_rules_types.specs.QueryRootOperationType.{query_root_operation_type}

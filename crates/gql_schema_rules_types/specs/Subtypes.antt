@@ -6,7 +6,7 @@ use Rattle.std.specs.Str.{bytes_eq}
 use Rattle.gql_ast_base.specs.Names.{Named}
 use Rattle.gql_ast_base.specs.declared.type_ref.TypeRef.{TypeRef, fold-TypeRef, out-TypeRef}
 use Rattle.gql_ast_base.specs.declared.type_ref.TypeRef.TheOpen.{TypeRef-F}
-use Rattle.gql_rules_base.specs.Known.{is_known}
+use Rattle.gql_rules_values.specs.Known.{is_known}
 use Rattle.gql_ast_base.specs.TypeParts.{named_type, item_type, is_non_null}
 use Rattle.gql_schema_types.specs.Implementers.{implements}
 use Rattle.gql_schema_types.specs.Types.{type_called}

@@ -7,9 +7,9 @@ use Rattle.std.specs.Str.{bytes_eq}
 use Rattle.gql_ast_base.specs.Names.{Named}
 use Rattle.gql_diag_messages.specs.declared.rule.Rule.TheVariants.{TransitiveImplementedInterfaces}
 use Rattle.gql_diag_messages.specs.declared.diagnostic_data.DiagnosticData.{DiagnosticData}
-use Rattle.gql_rules_base.specs.Faults.{fault, only_if}
-use Rattle.gql_rules_base.specs.Known.{is_known}
-use Rattle.gql_rules_base.specs.Written.{is_written}
+use Rattle.gql_rules_values.specs.Faults.{fault, only_if}
+use Rattle.gql_rules_values.specs.Known.{is_known}
+use Rattle.gql_rules_values.specs.Written.{is_written}
 use Rattle.gql_schema_types.specs.Types.{type_called}
 use Rattle.gql_schema_types.specs.declared.types.ExtendedType.{ExtendedType}
 use Rattle.gql_schema_types.specs.declared.types.ExtendedType.TheVariants.{Interface}

@@ -6,9 +6,9 @@ use Rattle.gql_source.specs.Span.{Span}
 use Rattle.gql_ast_base.specs.Names.{Named}
 use Rattle.gql_ast_definitions.specs.declared.schema_definition.DirectiveLocation.TheVariants as at
 use Rattle.gql_diag_messages.specs.declared.diagnostic_data.DiagnosticData.{DiagnosticData}
-use Rattle.gql_rules_base.specs.Written.{is_written}
-use Rattle.gql_rules_base.specs.declared.known.Defined.TheVariants.{TypesAndScalars}
-use Rattle.gql_rules_base.specs.Directives.{directive_faults}
+use Rattle.gql_rules_values.specs.Written.{is_written}
+use Rattle.gql_rules_values.specs.declared.known.Defined.TheVariants.{TypesAndScalars}
+use Rattle.gql_rules_values.specs.Directives.{directive_faults}
 use Rattle.gql_schema_rules_types.specs.EmptyFieldSet.{empty_field_set}
 use Rattle.gql_schema_rules_types.specs.EmptyInputValueSet.{empty_input_value_set}
 use Rattle.gql_schema_rules_types.specs.EmptyMemberSet.{empty_member_set}

@@ -3,7 +3,7 @@ use Rattle.std.specs.Prelude.{List}
 use Rattle.gql_ast_base.specs.Names.{Named}
 use Rattle.gql_diag_messages.specs.declared.rule.Rule.TheVariants.{UnionMemberObjectType}
 use Rattle.gql_diag_messages.specs.declared.diagnostic_data.DiagnosticData.{DiagnosticData}
-use Rattle.gql_rules_base.specs.Faults.{name_fault, only_if}
+use Rattle.gql_rules_values.specs.Faults.{name_fault, only_if}
 use Rattle.gql_schema_rules_types.specs.ObjectTypes.{is_another_kind}
 use Rattle.gql_schema_types.specs.declared.types.ExtendedType.{ExtendedType}
 

@@ -9,7 +9,7 @@ ghost use Rattle.gql_schema_rules_types.specs.DuplicateRootOperationType as spec
 
 use gql_ast_base::{Name, OperationType};
 use gql_diag_messages::{DiagnosticData, Rule};
-use gql_rules_base::list_fault;
+use gql_rules_values::list_fault;
 use gql_schema_types::SchemaDefinition;
 use gql_source::SourceSpan;
 use jb_text::{Listed, Memory};

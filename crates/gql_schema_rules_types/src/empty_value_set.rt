@@ -6,7 +6,7 @@ ghost use Rattle.gql_schema_rules_types.specs.EmptyValueSet as spec;
 use gql_ast_base::Name;
 use gql_ast_definitions::EnumValueDefinition;
 use gql_diag_messages::{DiagnosticData, Rule};
-use gql_rules_base::list_name;
+use gql_rules_values::list_name;
 use jb_text::{Listed, Memory};
 use std::alloc::Global;
 

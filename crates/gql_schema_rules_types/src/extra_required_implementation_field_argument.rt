@@ -8,7 +8,7 @@ use crate::interface_fields::argument_called;
 use gql_ast_base::Name;
 use gql_ast_definitions::{FieldDefinition, InputValueDefinition};
 use gql_diag_messages::{DiagnosticData, Rule};
-use gql_rules_base::{is_required, list_fault};
+use gql_rules_values::{is_required, list_fault};
 use jb_text::{Listed, Memory};
 use std::alloc::Global;
 

@@ -10,7 +10,7 @@ use crate::reserved_name::list_reserved_name;
 use crate::undefined_definition::list_undefined_definition;
 use gql_ast_definitions::{DirectiveLocation, EnumValueDefinition, FieldDefinition};
 use gql_diag_messages::DiagnosticData;
-use gql_rules_base::{Defined, is_written, list_directives};
+use gql_rules_values::{Defined, is_written, list_directives};
 use gql_schema_types::{Schema, Shared};
 use jb_text::{Listed, Memory};
 use std::alloc::Global;

@@ -7,7 +7,7 @@ ghost use Rattle.gql_schema_rules_types.specs.InputType as spec;
 
 use gql_ast_definitions::InputValueDefinition;
 use gql_diag_messages::{DiagnosticData, Rule};
-use gql_rules_base::list_fault;
+use gql_rules_values::list_fault;
 use gql_schema_types::{ExtendedType, Table};
 use jb_text::{Listed, Memory};
 use std::alloc::Global;

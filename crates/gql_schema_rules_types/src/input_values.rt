@@ -10,7 +10,9 @@ use crate::reserved_name::list_reserved_name;
 use crate::undefined_definition::list_undefined_definition;
 use gql_ast_definitions::{DirectiveLocation, InputValueDefinition};
 use gql_diag_messages::DiagnosticData;
-use gql_rules_base::{Defined, is_written, list_directives, list_literal, list_unique_definitions};
+use gql_rules_values::{
+    Defined, is_written, list_directives, list_literal, list_unique_definitions,
+};
 use gql_schema_types::Schema;
 use jb_text::{Listed, Memory};
 use std::alloc::Global;

@@ -9,7 +9,7 @@ use crate::transitive_implemented_interfaces::list_transitive_implemented_interf
 use gql_ast_base::Name;
 use gql_ast_definitions::FieldDefinition;
 use gql_diag_messages::DiagnosticData;
-use gql_rules_base::is_written;
+use gql_rules_values::is_written;
 use gql_schema_types::{ExtendedType, InterfaceType, Shared, Table};
 use jb_text::{Listed, Memory};
 use std::alloc::Global;

@@ -3,7 +3,7 @@
 
 ghost use Rattle.std.specs.Prelude.{◌≡◌, ◌++◌, ◌∷◌, [], None, OnOk};
 ghost use Rattle.gql_diag_messages.specs.declared.rule.Rule.TheVariants.{InvalidImplementationFieldType};
-ghost use Rattle.gql_rules_base.specs.Faults.{fault};
+ghost use Rattle.gql_rules_values.specs.Faults.{fault};
 ghost use Rattle.gql_schema_rules_types.specs.InvalidImplementationFieldType as spec;
 
 use crate::subtypes::{are_known, is_subtype};
@@ -11,7 +11,7 @@ use gql_ast::print_type;
 use gql_ast_base::{Name, both};
 use gql_ast_definitions::FieldDefinition;
 use gql_diag_messages::{DiagnosticData, Rule};
-use gql_rules_base::list_fault;
+use gql_rules_values::list_fault;
 use gql_schema_types::{ExtendedType, Table};
 use gql_source::SourceSpan;
 use jb_text::{Listed, Memory};

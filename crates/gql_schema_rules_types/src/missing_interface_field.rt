@@ -7,7 +7,7 @@ ghost use Rattle.gql_schema_rules_types.specs.MissingInterfaceField as spec;
 use gql_ast_base::Name;
 use gql_ast_definitions::FieldDefinition;
 use gql_diag_messages::{DiagnosticData, Rule};
-use gql_rules_base::list_fault;
+use gql_rules_values::list_fault;
 use jb_text::{Listed, Memory};
 use std::alloc::Global;
 

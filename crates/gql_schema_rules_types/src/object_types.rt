@@ -6,7 +6,7 @@ ghost use Rattle.gql_schema_types.specs.Implementers.{is_object};
 ghost use Rattle.gql_schema_types.specs.Types.{type_called};
 ghost use Rattle.gql_schema_rules_types.specs.ObjectTypes as spec;
 
-use gql_rules_base::is_known;
+use gql_rules_values::is_known;
 use gql_schema_types::{ExtendedType, Table};
 
 /// Whether the name is that of a type which is defined and no object type.

@@ -4,7 +4,7 @@ ghost use Rattle.std.specs.Prelude.{◌≡◌, ◌++◌, OnOk};
 ghost use Rattle.gql_schema_rules_types.specs.QueryRootOperationType as spec;
 
 use gql_diag_messages::{DiagnosticData, Rule};
-use gql_rules_base::list_fault;
+use gql_rules_values::list_fault;
 use gql_schema_types::SchemaDefinition;
 use jb_text::{Listed, Memory};
 use std::alloc::Global;

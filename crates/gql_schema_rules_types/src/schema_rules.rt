@@ -12,7 +12,7 @@ use crate::undefined_definition::list_undefined_definition;
 use gql_ast_base::{Name, OperationType};
 use gql_ast_definitions::{DirectiveDefinition, DirectiveLocation};
 use gql_diag_messages::DiagnosticData;
-use gql_rules_base::{Defined, is_written, list_directives};
+use gql_rules_values::{Defined, is_written, list_directives};
 use gql_schema_types::Schema;
 use jb_text::{Listed, Memory};
 use std::alloc::Global;

@@ -9,7 +9,7 @@ ghost use Rattle.gql_schema_types.specs.Types.{type_called};
 ghost use Rattle.gql_schema_rules_types.specs.Subtypes as spec;
 
 use gql_ast_base::{Name, TypeRef};
-use gql_rules_base::is_known;
+use gql_rules_values::is_known;
 use gql_schema_types::{ExtendedType, Table};
 
 /// Whether a type is a subtype of the one that is wanted: the same type, its non-null form, a list of subtypes, a member of the

@@ -2,13 +2,13 @@
 //! "IsValidImplementation").
 
 ghost use Rattle.std.specs.Prelude.{◌≡◌, ◌++◌, [], OnOk};
-ghost use Rattle.gql_rules_base.specs.Faults.{only_if};
+ghost use Rattle.gql_rules_values.specs.Faults.{only_if};
 ghost use Rattle.gql_schema_rules_types.specs.TransitiveImplementedInterfaces as spec;
 
 use crate::subtypes::has_name;
 use gql_ast_base::Name;
 use gql_diag_messages::{DiagnosticData, Rule};
-use gql_rules_base::{is_known, is_written, list_fault};
+use gql_rules_values::{is_known, is_written, list_fault};
 use gql_schema_types::{ExtendedType, Table};
 use jb_map::KeyTable;
 use jb_text::{Listed, Memory};

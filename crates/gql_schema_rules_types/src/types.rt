@@ -22,7 +22,7 @@ use gql_ast_definitions::{
     DirectiveLocation, EnumValueDefinition, FieldDefinition, InputValueDefinition,
 };
 use gql_diag_messages::DiagnosticData;
-use gql_rules_base::{Defined, is_written, list_directives};
+use gql_rules_values::{Defined, is_written, list_directives};
 use gql_schema_types::{
     EnumType, ExtendedType, InputObjectType, InterfaceType, ObjectType, ScalarType, Schema, Shared,
     UnionType,

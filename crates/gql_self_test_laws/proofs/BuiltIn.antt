@@ -9,11 +9,11 @@ use Rattle.gql_ast.specs.Documents.{definitions}
 use Rattle.gql_ast_laws.specs.Meant.{IsDocumentOf}
 use Rattle.gql_cst.specs.Forest.{Forest}
 use Rattle.gql_cst.specs.Sentences.{words, shown}
-use Rattle.gql_cst_grammar.specs.declared.rule.Rule.TheVariants.{Document}
-use Rattle.gql_cst_grammar.specs.declared.symbol.Symbol.TheVariants.{One}
-use Rattle.gql_cst_grammar.specs.declared.syntax_kind.SyntaxKind.TheVariants as kind
-use Rattle.gql_cst_grammar.specs.declared.word.Word.{Word}
-use Rattle.gql_cst_grammar.specs.Row.{Row, nothing, node}
+use Rattle.gql_grammar.specs.declared.rule.Rule.TheVariants.{Document}
+use Rattle.gql_grammar.specs.declared.symbol.Symbol.TheVariants.{One}
+use Rattle.gql_grammar.specs.declared.syntax_kind.SyntaxKind.TheVariants as kind
+use Rattle.gql_grammar.specs.declared.word.Word.{Word}
+use Rattle.gql_grammar.specs.Row.{Row, nothing, node}
 use Rattle.gql_cst.specs.TreeOf.{IsTreeOf}
 use Rattle.gql_schema.specs.BuiltInSchema.{IsBuiltIn, built_in_file}
 use Rattle.gql_schema_build.specs.TypeSystems.{with_definitions, no_definitions}

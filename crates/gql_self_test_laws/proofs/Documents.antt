@@ -9,13 +9,13 @@ use Rattle.gql_ast_base.specs.Names.{Named}
 use Rattle.gql_ast_definitions.specs.declared.field_definition.FieldDefinition.{FieldDefinition}
 use Rattle.gql_ast_definitions.specs.declared.selection.Field.{Field as FieldHere}
 use Rattle.gql_ast_definitions.specs.declared.selection.Selection.TheVariants as here
-use Rattle.gql_document_build.specs.Build.{operation_on}
-use Rattle.gql_document_build.specs.Build as build
-use Rattle.gql_document_build.specs.BuiltSelections.{makes_of}
-use Rattle.gql_document_build.specs.Builders.{Taken, built}
-use Rattle.gql_document_build.specs.Definitions.{with_definitions, no_definitions}
-use Rattle.gql_document_build.specs.Made as made
-use Rattle.gql_document_build.specs.Nodes.{is_leaf}
+use Rattle.gql_document.specs.Build.{operation_on}
+use Rattle.gql_document.specs.Build as build
+use Rattle.gql_document.specs.BuiltSelections.{makes_of}
+use Rattle.gql_document.specs.Builders.{Taken, built}
+use Rattle.gql_document.specs.Definitions.{with_definitions, no_definitions}
+use Rattle.gql_document.specs.Made as made
+use Rattle.gql_document.specs.Nodes.{is_leaf}
 use Rattle.gql_parser.specs.DocumentText.{DocumentText}
 use Rattle.gql_parser.proofs.Made.{made_field}
 use Rattle.gql_document_types.specs.ChosenOperation.{chosen}

@@ -14,11 +14,11 @@ use Rattle.jb_tree.specs.Tree.{Tree, array, member_then, no_members, no_trees, n
 use Rattle.jb_tree.specs.Value.{object_members, string_text, truth_value}
 use Rattle.jb_tree.specs.declared.value.Value.{Value, the_lemmas}
 use Rattle.jb_tree.specs.declared.value.Value.TheVariants as value
-use Rattle.gql_exec_plan.specs.NotAsked.{IsAsked}
-use Rattle.gql_exec_plan.specs.Request.{◌>>=◌, Asked, Members, asked, asked_by_kind, asked_by_members, of_kind, optional}
-use Rattle.gql_exec_plan.specs.SelfTest.{comma_before, head, item, items, self_test, tag}
-use Rattle.gql_exec_plan.specs.declared.request.Member.TheVariants.{Schema, Query, OperationName, Variables, Introspection, Data}
-use Rattle.gql_exec_plan.specs.declared.request.RequestFault.{RequestFault}
+use Rattle.gql_collect.specs.NotAsked.{IsAsked}
+use Rattle.gql_collect.specs.Request.{◌>>=◌, Asked, Members, asked, asked_by_kind, asked_by_members, of_kind, optional}
+use Rattle.gql_collect.specs.SelfTest.{comma_before, head, item, items, self_test, tag}
+use Rattle.gql_collect.specs.declared.request.Member.TheVariants.{Schema, Query, OperationName, Variables, Introspection, Data}
+use Rattle.gql_collect.specs.declared.request.RequestFault.{RequestFault}
 use Rattle.gql_self_test_laws.specs.Texts.{query_text, schema_text}
 
 -- ---- the tree

@@ -16,11 +16,11 @@ use Rattle.gql_ast_base.specs.declared.type_ref.TypeRef.{TypeRef, List as ListOf
 use Rattle.gql_ast_base.specs.declared.type_ref.TypeRef.TheVariants.{Named as NamedType}
 use Rattle.gql_cst.specs.Forest.{Forest}
 use Rattle.gql_cst.specs.Sentences.{words, shown}
-use Rattle.gql_cst_grammar.specs.declared.rule.Rule.TheVariants.{Document}
-use Rattle.gql_cst_grammar.specs.declared.symbol.Symbol.TheVariants.{One}
-use Rattle.gql_cst_grammar.specs.declared.syntax_kind.SyntaxKind.TheVariants as kind
-use Rattle.gql_cst_grammar.specs.declared.word.Word.{Word}
-use Rattle.gql_cst_grammar.specs.Row.{Row, nothing, node}
+use Rattle.gql_grammar.specs.declared.rule.Rule.TheVariants.{Document}
+use Rattle.gql_grammar.specs.declared.symbol.Symbol.TheVariants.{One}
+use Rattle.gql_grammar.specs.declared.syntax_kind.SyntaxKind.TheVariants as kind
+use Rattle.gql_grammar.specs.declared.word.Word.{Word}
+use Rattle.gql_grammar.specs.Row.{Row, nothing, node}
 use Rattle.gql_cst.specs.TreeOf.{IsTreeOf}
 use Rattle.gql_source.specs.Span.{Span}
 use Rattle.gql_source.specs.declared.file_id.FileId.{FileId}

@@ -22,20 +22,20 @@ use Rattle.gql_schema_types.specs.declared.types.ExtendedType.{ExtendedType}
 use Rattle.gql_schema_types.specs.declared.types.ExtendedType.TheVariants as type
 use Rattle.gql_schema_types.specs.declared.types.ObjectType.{ObjectType}
 use Rattle.gql_source.specs.File.{Files}
-use Rattle.gql_exec_resolve.specs.Fit.{object_at, object_misfit, wrong}
-use Rattle.gql_exec_resolve.specs.Lists.{is_list}
-use Rattle.gql_exec_resolve.specs.Messages as message
-use Rattle.gql_exec_plan.specs.Flat.{flat, flat_sets}
-use Rattle.gql_exec_plan.specs.Groups.{groups_of, is_defined}
-use Rattle.gql_exec_plan.specs.Sizes.{own}
+use Rattle.gql_resolvers.specs.Fit.{object_at, object_misfit, wrong}
+use Rattle.gql_resolvers.specs.Lists.{is_list}
+use Rattle.gql_resolvers.specs.Messages as message
+use Rattle.gql_collect.specs.Flat.{flat, flat_sets}
+use Rattle.gql_collect.specs.Groups.{groups_of, is_defined}
+use Rattle.gql_collect.specs.Sizes.{own}
 use Rattle.gql_document_types.proofs.Variants.{out-field}
-use Rattle.gql_exec_resolve.specs.Resolved.{Meaning, Meanings, Outcome, answered, refused, gives_leaf, gives_object, gives_list, gives_skip, fails_with, no_answer, answer_then}
-use Rattle.gql_exec_resolve.specs.Types.{item_level, item_type}
-use Rattle.gql_exec_resolve.specs.World.{World, key_of}
-use Rattle.gql_exec_plan.proofs.Views.{view-field, view-node}
-use Rattle.gql_exec_plan.specs.Lists.{AreApart}
-use Rattle.gql_exec_plan.specs.Room.{all_selections}
-use Rattle.gql_exec_plan.specs.Ways.{Way}
+use Rattle.gql_resolvers.specs.Resolved.{Meaning, Meanings, Outcome, answered, refused, gives_leaf, gives_object, gives_list, gives_skip, fails_with, no_answer, answer_then}
+use Rattle.gql_resolvers.specs.Types.{item_level, item_type}
+use Rattle.gql_resolvers.specs.World.{World, key_of}
+use Rattle.gql_collect.proofs.Views.{view-field, view-node}
+use Rattle.gql_collect.specs.Lists.{AreApart}
+use Rattle.gql_collect.specs.Room.{all_selections}
+use Rattle.gql_collect.specs.Ways.{Way}
 use Rattle.gql_exec_fields.specs.Looks.{AreLooks}
 use Rattle.gql_exec_fields.specs.Opened.{AnyGives, AnyGroup, Brings, Gives, Opens}
 use Rattle.gql_exec_fields.specs.Group.{Group, groups_from}

@@ -5,16 +5,16 @@ ghost use Rattle.gql_parser.specs.DocumentText.{DocumentText};
 ghost use Rattle.gql_document_types.specs.ChosenOperation.{chosen};
 ghost use Rattle.gql_document_types.specs.declared.document.ExecutableDocument.{ExecutableDocument as DocumentOf};
 ghost use Rattle.gql_document_types.specs.declared.operation.Operation.{Operation as OperationOf};
-ghost use Rattle.gql_exec_plan.specs.NotAsked.{IsAsked};
-ghost use Rattle.gql_exec_plan.specs.Request.{Asked};
-ghost use Rattle.gql_exec_plan.specs.SelfTest.{self_test};
+ghost use Rattle.gql_collect.specs.NotAsked.{IsAsked};
+ghost use Rattle.gql_collect.specs.Request.{Asked};
+ghost use Rattle.gql_collect.specs.SelfTest.{self_test};
 ghost use Rattle.gql_parser.specs.SchemaText.{SchemaText};
 ghost use Rattle.gql_schema_types.specs.declared.schema.Schema.{Schema as SchemaOf};
 ghost use Rattle.gql_self_test_laws.specs.Meaning.{IsSelfTest};
 ghost use Rattle.gql_self_test_laws.specs.Texts.{query_text, schema_text};
 
 use gql_ast_laws::laws as tree_laws;
-use gql_cst_grammar::laws as grammar_laws;
+use gql_grammar::laws as grammar_laws;
 use jb_read::laws as json_laws;
 
 /// The request of a self-test has these texts, however many items its data has.

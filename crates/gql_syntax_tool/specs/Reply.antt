@@ -4,9 +4,9 @@ use Rattle.std.specs.Fmt.{decimal}
 use Rattle.std.specs.Str.{IsUtf8}
 use Rattle.std.specs.declared.ops.Range.{Range}
 use Rattle.jb_io.specs.Reply.{line}
-use Rattle.gql_cst_lexer.specs.Message.{message_of}
-use Rattle.gql_cst_lexer.specs.declared.error.CstError.{CstError}
-use Rattle.gql_cst_lexer.specs.declared.error.CstError.TheVariants.{Syntax, RecursionLimit, TokenLimit}
+use Rattle.gql_lexer.specs.Message.{message_of}
+use Rattle.gql_lexer.specs.declared.error.CstError.{CstError}
+use Rattle.gql_lexer.specs.declared.error.CstError.TheVariants.{Syntax, RecursionLimit, TokenLimit}
 use Rattle.gql_cst.specs.declared.limits.Limits.{Limits}
 use Rattle.gql_cst.specs.declared.limits.Parsed.{Parsed}
 use Rattle.gql_cst.specs.Parses.{IsParse}

@@ -2,8 +2,8 @@
 use Rattle.std.specs.declared.alloc.Global.{Global}
 use Rattle.std.specs.Prelude.{ℕ, List, [], ◌∷◌, Option, Some, None, String, if◌then◌else◌, codes, string_bytes}
 use Rattle.std.specs.Str.{bytes_eq}
-use Rattle.gql_cst_grammar.specs.declared.rule.Rule.{Rule}
-use Rattle.gql_cst_grammar.specs.declared.rule.Rule.TheVariants as rule
+use Rattle.gql_grammar.specs.declared.rule.Rule.{Rule}
+use Rattle.gql_grammar.specs.declared.rule.Rule.TheVariants as rule
 use Rattle.gql_syntax_tool.specs.declared.start.Start.{Start}
 use Rattle.gql_syntax_tool.specs.declared.start.Start.TheVariants.{Document, SelectionSet, TypeReference}
 

@@ -1,8 +1,8 @@
 -- What the objects of the tests answer (GraphQL October 2021, section 6.4.2).
 use Rattle.std.specs.Prelude.{ℕ, List, true, codes, pos}
 use Rattle.jb_tree.specs.declared.value.Value.TheVariants as json
-use Rattle.gql_exec_resolve.specs.Resolved.{Meaning, gives_leaf, gives_object, gives_list, gives_skip, fails_with, no_answer, answer_then}
-use Rattle.gql_exec_resolve.specs.UnknownField.{unknown_field}
+use Rattle.gql_resolvers.specs.Resolved.{Meaning, gives_leaf, gives_object, gives_list, gives_skip, fails_with, no_answer, answer_then}
+use Rattle.gql_resolvers.specs.UnknownField.{unknown_field}
 use Rattle.tests_requests.specs.declared.sample.Kind.{Kind}
 use Rattle.tests_requests.specs.declared.sample.Kind.TheVariants as kind
 use Rattle.tests_requests.specs.declared.sample.Sample.{Sample}

@@ -1,6 +1,6 @@
 //! A resolver that shows what it is told.
 
-use gql_exec_resolve::{ObjectValue, ResolveError, ResolveInfo, ResolvedValue};
+use gql_resolvers::{ObjectValue, ResolveError, ResolveInfo, ResolvedValue};
 use jb_tree::Value;
 use std::alloc::Global;
 
@@ -10,7 +10,7 @@ pub(crate) struct Echo;
 
 impl ObjectValue for Echo {
     ghost use Rattle.std.specs.Prelude.{codes};
-    ghost use Rattle.gql_exec_resolve.specs.Resolved.{gives_leaf};
+    ghost use Rattle.gql_resolvers.specs.Resolved.{gives_leaf};
     ghost use Rattle.jb_tree.specs.declared.value.Value.TheVariants as json;
 
     ghost Seen = { Unit {0} };

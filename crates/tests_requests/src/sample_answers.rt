@@ -1,12 +1,12 @@
 //! What the objects of the tests answer.
 
 ghost use Rattle.std.specs.Prelude.{◌≡◌, IfOk, codes};
-ghost use Rattle.gql_exec_resolve.specs.Meaning.{meaning_by, itself};
+ghost use Rattle.gql_resolvers.specs.Meaning.{meaning_by, itself};
 ghost use Rattle.tests_requests.specs.Samples as spec;
 
 use crate::sample::{Kind, Sample};
 use gql_ast_base::TypeRef;
-use gql_exec_resolve::{FieldError, ObjectValue, ResolveError, ResolveInfo, ResolvedValue};
+use gql_resolvers::{FieldError, ObjectValue, ResolveError, ResolveInfo, ResolvedValue};
 use jb_text::{ByteString, Listed, Memory, Number, Text};
 use jb_tree::Value;
 use std::alloc::Global;
@@ -26,7 +26,7 @@ impl Kind {
 }
 
 impl ObjectValue for Sample {
-    ghost use Rattle.gql_exec_resolve.specs.Meaning.{itself};
+    ghost use Rattle.gql_resolvers.specs.Meaning.{itself};
     ghost use Rattle.tests_requests.specs.Samples.{type_of, gives};
     ghost use Rattle.tests_requests.specs.declared.sample.Sample.{Sample as Object};
 

@@ -1,6 +1,6 @@
 //! Words of names and signs, and each public call once.
 
-use gql_cst_grammar::{Rule, Symbol, SyntaxKind, Terminal, Word, laws};
+use gql_grammar::{Rule, Symbol, SyntaxKind, Terminal, Word, laws};
 
 const NAMES: &[(&str, Word)] = &[
     ("on", Word::OnWord),

@@ -2,7 +2,7 @@
 
 use crate::same::same;
 use crate::strings::value_of;
-use gql_cst_lexer::{CstError, Lexer, SyntaxFault, Token, TokenKind, is_block_string};
+use gql_lexer::{CstError, Lexer, SyntaxFault, Token, TokenKind, is_block_string};
 use jb_text::Memory;
 use std::alloc::Global;
 use std::process::Abort;

@@ -7,7 +7,7 @@ use crate::documents::{faults, told_document};
 use crate::fixtures::schema_of;
 use bytes::Bytes;
 use gql_diag::WithErrors;
-use gql_document_build::ExecutableDocumentBuilder;
+use gql_document::ExecutableDocumentBuilder;
 use gql_parser::Parser;
 use gql_source::FileIds;
 use jb_text::{Memory, Refused};

@@ -2,14 +2,14 @@
 //! (GraphQL October 2021, sections 4 and 6.1).
 
 ghost use Rattle.gql_document_types.specs.Spreads.{AreAcyclic};
-ghost use Rattle.gql_exec_request.specs.Execution as spec;
+ghost use Rattle.gql_exec.specs.Execution as spec;
 
 use crate::fixtures::{acyclic, document_of, object_of, printed, schema_of};
 use crate::sample::Sample;
 use bytes::Bytes;
 use gql_diag::JsonMap;
 use gql_document_types::ExecutableDocument;
-use gql_exec_request::{Execution, partial_execute};
+use gql_exec::{Execution, partial_execute};
 use gql_schema_types::{Schema, Valid};
 use gql_source::FileIds;
 use std::alloc::Global;

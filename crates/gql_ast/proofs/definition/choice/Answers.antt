@@ -1,6 +1,6 @@
 use Rattle.std.proofs.Common.{rules, ◌≡◌, IfOk, refl, subst}
 use Rattle.gql_cst.specs.Forest.{plain}
-use Rattle.gql_cst_grammar.specs.declared.syntax_kind.SyntaxKind.TheVariants as kind
+use Rattle.gql_grammar.specs.declared.syntax_kind.SyntaxKind.TheVariants as kind
 use Rattle.gql_ast.specs.Documents.{extension_of}
 use Rattle.gql_ast.proofs.Choices.{by_kind, by_no_kind}
 use Rattle.gql_ast.proofs.definition.choice.Goals as goal

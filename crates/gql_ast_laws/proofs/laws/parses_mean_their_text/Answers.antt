@@ -1,7 +1,7 @@
 use Rattle.std.proofs.Common.{◌≡◌, refl, sym, ap, ◌∙◌}
 use Rattle.gql_source.specs.declared.file_id.FileId.{FileId}
-use Rattle.gql_cst_grammar.specs.declared.rule.Rule.TheVariants.{Document, FieldSet, TypeReference}
-use Rattle.gql_cst_grammar.specs.declared.syntax_kind.SyntaxKind.TheVariants as kind
+use Rattle.gql_grammar.specs.declared.rule.Rule.TheVariants.{Document, FieldSet, TypeReference}
+use Rattle.gql_grammar.specs.declared.syntax_kind.SyntaxKind.TheVariants as kind
 use Rattle.gql_cst.specs.Forest.{Plain, plain}
 use Rattle.gql_ast_base.specs.Parts.{Text}
 use Rattle.gql_ast_base.specs.Types.{type_step, type_of}

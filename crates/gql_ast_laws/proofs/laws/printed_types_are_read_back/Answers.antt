@@ -1,8 +1,8 @@
 use Rattle.std.proofs.Common.{◌≡◌, ◌+◌, true, [], length, refl, sym, ap, ◌∙◌, subst, arith, append-nil}
 use Rattle.gql_source.specs.declared.file_id.FileId.{FileId}
-use Rattle.gql_cst_grammar.specs.declared.rule.Rule.TheVariants as rule
-use Rattle.gql_cst_grammar.specs.declared.syntax_kind.SyntaxKind.TheVariants as kind
-use Rattle.gql_cst_grammar.specs.Sentence.{Fits, done, tree}
+use Rattle.gql_grammar.specs.declared.rule.Rule.TheVariants as rule
+use Rattle.gql_grammar.specs.declared.syntax_kind.SyntaxKind.TheVariants as kind
+use Rattle.gql_grammar.specs.Sentence.{Fits, done, tree}
 use Rattle.gql_cst.specs.Leaves.{leaves}
 use Rattle.gql_cst.specs.Sentences.{words, shown}
 use Rattle.gql_ast_base.specs.Kinds.{is_kind}

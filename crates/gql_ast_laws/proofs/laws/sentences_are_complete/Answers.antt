@@ -1,7 +1,7 @@
 use Rattle.std.proofs.Common.{◌≡◌, true, length, is_some, refl, sym, subst}
-use Rattle.gql_cst_grammar.specs.declared.rule.Rule.TheVariants.{Document, TypeReference}
-use Rattle.gql_cst_grammar.specs.declared.syntax_kind.SyntaxKind.TheVariants as kind
-use Rattle.gql_cst_grammar.specs.Row as row
+use Rattle.gql_grammar.specs.declared.rule.Rule.TheVariants.{Document, TypeReference}
+use Rattle.gql_grammar.specs.declared.syntax_kind.SyntaxKind.TheVariants as kind
+use Rattle.gql_grammar.specs.Row as row
 use Rattle.gql_cst.specs.Leaves.{leaves}
 use Rattle.gql_cst.specs.Sentences.{words, shown}
 use Rattle.gql_ast_base.specs.Types.{type_of}

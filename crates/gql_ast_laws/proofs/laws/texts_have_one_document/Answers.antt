@@ -1,5 +1,5 @@
 use Rattle.std.proofs.Common.{◌∙◌, sym}
-use Rattle.gql_cst_grammar.specs.declared.rule.Rule.TheVariants.{Document}
+use Rattle.gql_grammar.specs.declared.rule.Rule.TheVariants.{Document}
 use Rattle.gql_ast_laws.proofs.DocumentMeaning.{definition-blind}
 use Rattle.gql_ast_laws.proofs.Whole.{gathered_once}
 use Rattle.gql_ast_laws.proofs.laws.texts_have_one_document.Goals as goal

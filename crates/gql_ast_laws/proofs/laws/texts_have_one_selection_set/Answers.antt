@@ -1,5 +1,5 @@
 use Rattle.std.proofs.Common.{◌++◌, ◌∙◌, sym, ap}
-use Rattle.gql_cst_grammar.specs.declared.rule.Rule.TheVariants.{FieldSet}
+use Rattle.gql_grammar.specs.declared.rule.Rule.TheVariants.{FieldSet}
 use Rattle.gql_ast_definitions.specs.Selections.{selections, selected}
 use Rattle.gql_ast_laws.proofs.SelectionMeaning.{selections-bare, selected-bare}
 use Rattle.gql_ast_laws.proofs.Whole.{one_meaning}

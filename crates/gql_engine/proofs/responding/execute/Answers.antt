@@ -1,10 +1,10 @@
 use Rattle.std.proofs.Common.{◌∙◌, ap}
 use Rattle.std.proofs.lemmas.Result.{IfOk-weaker}
 use Rattle.gql_document_types.specs.ChosenOperation.{text_of}
-use Rattle.gql_exec_request.specs.Execution.{with_introspection, with_operation, with_values}
-use Rattle.gql_exec_request.specs.Running.{IsPrintedIn}
-use Rattle.gql_exec_request.specs.declared.execution.Execution.{Execution}
-use Rattle.gql_exec_request.specs.declared.execution.Given.TheVariants.{Coerced}
+use Rattle.gql_exec.specs.Execution.{with_introspection, with_operation, with_values}
+use Rattle.gql_exec.specs.Running.{IsPrintedIn}
+use Rattle.gql_exec.specs.declared.execution.Execution.{Execution}
+use Rattle.gql_exec.specs.declared.execution.Given.TheVariants.{Coerced}
 use Rattle.gql_response.specs.declared.execution_response.ExecutionResponse.{ExecutionResponse}
 use Rattle.gql_engine.specs.Answered.{IsPrint}
 use Rattle.gql_engine.proofs.Responses.{executed_bytes, never_refused}

@@ -1,7 +1,7 @@
 use Rattle.std.proofs.Common.{◌≡◌, Ok, subst}
 use Rattle.gql_coerce.specs.Variables.{coerced_variables}
 use Rattle.gql_document_types.specs.declared.document.ExecutableDocument.{ExecutableDocument}
-use Rattle.gql_exec_plan.specs.RequestErrors.{request_error as fault_told}
+use Rattle.gql_collect.specs.RequestErrors.{request_error as fault_told}
 use Rattle.gql_engine.specs.declared.answer_error.RequestKind.TheVariants.{Variable}
 use Rattle.gql_engine.specs.Ready.{MeantBy}
 use Rattle.gql_engine.specs.Responding.{IsOfStep}

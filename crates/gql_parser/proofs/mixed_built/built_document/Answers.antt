@@ -1,6 +1,6 @@
 use Rattle.std.proofs.Common.{◌≡◌, false, ◌∙◌, ap}
 use Rattle.gql_diag.specs.List.{Diagnostics}
-use Rattle.gql_document_build.specs.Builders as document
+use Rattle.gql_document.specs.Builders as document
 use Rattle.gql_parser.specs.MixedRead.{document_taken}
 use Rattle.gql_parser.proofs.Steps.{document_badly, document_well}
 use Rattle.gql_parser.proofs.mixed_built.built_document.Goals as goal

@@ -1,7 +1,7 @@
 use Rattle.std.proofs.Common.{◌++◌, refl, ap, ◌∙◌, append_assoc}
 use Rattle.std.proofs.lemmas.Result.{on_ok_weaker}
 use Rattle.gql_rules.proofs.document_faults.list_other_faults.Goals as goal
-use Rattle.gql_rules_selections.specs.DocumentNodes.{document_nodes_faults}
+use Rattle.gql_rules_nodes.specs.DocumentNodes.{document_nodes_faults}
 
 pub returns : goal.returns
 returns c =

@@ -1,5 +1,5 @@
 use Rattle.std.proofs.Common.{◌++◌, ap, ◌∙◌}
-use Rattle.gql_document_build.specs.DistinctDefinitions.{definition_faults}
+use Rattle.gql_document.specs.DistinctDefinitions.{definition_faults}
 use Rattle.gql_rules.proofs.UntypedLayers.{of_definitions}
 use Rattle.gql_rules.proofs.untyped_faults.list_untyped_faults.Goals as goal
 

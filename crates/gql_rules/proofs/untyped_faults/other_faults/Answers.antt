@@ -1,7 +1,7 @@
 use Rattle.std.proofs.Common.{List, ◌++◌, ap, ◌∙◌}
 use Rattle.std.specs.List.{flat_map}
 use Rattle.gql_document_types.specs.declared.operation.Operation.{Operation}
-use Rattle.gql_rules_selections.specs.Nodes.{nodes}
+use Rattle.gql_rules_nodes.specs.Nodes.{nodes}
 use Rattle.gql_rules.proofs.UntypedLayers.{added}
 use Rattle.gql_rules.proofs.untyped_faults.other_faults.Goals as goal
 use Rattle.gql_rules.specs.UniqueArguments.{node_arguments}

@@ -1,5 +1,5 @@
 use Rattle.std.proofs.Common.{◌≡◌, ◌++◌, ◌+◌, ◌≤◌, map}
-use Rattle.gql_document_build.proofs.Sizes.{total, inside_field, inside_inline, size}
+use Rattle.gql_document.proofs.Sizes.{total, inside_field, inside_inline, size}
 use Rattle.gql_rules.proofs.untyped_selections.+untyped.Given as goal
 use Rattle.gql_rules.specs.UntypedSelections.{untyped_selection}
 

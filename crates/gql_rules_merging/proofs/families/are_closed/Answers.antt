@@ -1,5 +1,5 @@
 use Rattle.std.proofs.Common.{◌<◌, sym, subst}
-use Rattle.gql_rules_graph.specs.Explored.{class_of}
+use Rattle.gql_graph.specs.Explored.{class_of}
 use Rattle.gql_rules_merging.proofs.Agreement.{families_within, none_break}
 use Rattle.gql_rules_merging.proofs.FamilySets.{fields_length}
 use Rattle.gql_rules_merging.specs.Gathering.{fields_of, numbered_of}

@@ -1,5 +1,5 @@
 use Rattle.std.proofs.Common.{◌≡◌, ◌+◌, length, sym, ap, ◌∙◌, subst, arith}
-use Rattle.gql_rules_graph.specs.Explored.{class_of}
+use Rattle.gql_graph.specs.Explored.{class_of}
 use Rattle.gql_rules_merging.proofs.FamilySets.{AreSelectedBelow, fields_length, selected_all, selected_on, with_length}
 use Rattle.gql_rules_merging.specs.Families.{with_items}
 use Rattle.gql_rules_merging.specs.Gathering.{fields_of}

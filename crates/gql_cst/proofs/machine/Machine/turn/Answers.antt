@@ -1,6 +1,6 @@
 use Rattle.std.proofs.Common.{◌≡◌, ◌-◌, [], ◌∷◌, reverse, sym, arith}
 use Rattle.std.proofs.lemmas.List.{nil_from_length}
-use Rattle.gql_cst_grammar.specs.Row.{level}
+use Rattle.gql_grammar.specs.Row.{level}
 use Rattle.gql_cst.proofs.Laid.{way-loose, closed-turn}
 use Rattle.gql_cst.proofs.machine.Machine.turn.Goals as goal
 

@@ -1,4 +1,4 @@
-use Rattle.gql_cst_grammar.specs.Turns.{turns}
+use Rattle.gql_grammar.specs.Turns.{turns}
 use Rattle.gql_cst.specs.Machine.{Turned, Settles}
 use Rattle.gql_cst.specs.Held.{state}
 use Rattle.gql_cst.proofs.machine.Machine.turn_until_judged.Given as goal

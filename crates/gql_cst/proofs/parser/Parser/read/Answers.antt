@@ -1,5 +1,5 @@
 use Rattle.std.proofs.Common.{◌≡◌, ap, subst, rules}
-use Rattle.gql_cst_lexer.specs.declared.token.TokenKind.TheVariants.{Ignored}
+use Rattle.gql_lexer.specs.declared.token.TokenKind.TheVariants.{Ignored}
 use Rattle.gql_cst.specs.Leaves.{Part, IsLeaf, part_of_token}
 use Rattle.gql_cst.proofs.Ending.{passes_ignored}
 use Rattle.gql_cst.proofs.Judging.{token_limit_judged, ignored_stands}

@@ -1,6 +1,6 @@
 use Rattle.std.proofs.Common.{subst, ap, ◌∙◌}
 use Rattle.std.specs.List.{list_any}
-use Rattle.gql_rules_graph.specs.Chains.{AreJudged}
+use Rattle.gql_graph.specs.Chains.{AreJudged}
 use Rattle.gql_document_types.proofs.Spread.{told}
 use Rattle.gql_document_types.proofs.document.ExecutableDocument.fragments_acyclic.Goals as goal
 

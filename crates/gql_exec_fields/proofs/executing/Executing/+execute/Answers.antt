@@ -3,16 +3,16 @@ use Rattle.std.proofs.lemmas.List.{append-nil, length-map}
 use Rattle.gql_ast_definitions.specs.declared.field_definition.FieldDefinition.{FieldDefinition}
 use Rattle.gql_schema_types.specs.declared.schema.Schema.{Schema}
 use Rattle.gql_schema_types.specs.Schemas.{type_named}
-use Rattle.gql_exec_resolve.specs.Seen.{seen, misfit_seen, IsFitOfObject}
+use Rattle.gql_resolvers.specs.Seen.{seen, misfit_seen, IsFitOfObject}
 use Rattle.jb_tree.specs.declared.value.Value.TheVariants as json
-use Rattle.gql_exec_resolve.specs.Execute.{completed, items_made, one_array, one_object, settled}
-use Rattle.gql_exec_resolve.specs.Resolved.{gives_leaf, gives_list, gives_object, gives_skip}
-use Rattle.gql_exec_resolve.specs.Spot.{item_spot, trail}
-use Rattle.gql_exec_resolve.specs.Types.{item_type}
-use Rattle.gql_exec_resolve.specs.Meaning.{item_by, meaning_by, meanings_by}
-use Rattle.gql_exec_resolve.proofs.Height.{height, height-item}
-use Rattle.gql_exec_resolve.proofs.Views.{meaning_list}
-use Rattle.gql_exec_plan.proofs.Lists.{ok-anyway, map-set}
+use Rattle.gql_resolvers.specs.Execute.{completed, items_made, one_array, one_object, settled}
+use Rattle.gql_resolvers.specs.Resolved.{gives_leaf, gives_list, gives_object, gives_skip}
+use Rattle.gql_resolvers.specs.Spot.{item_spot, trail}
+use Rattle.gql_resolvers.specs.Types.{item_type}
+use Rattle.gql_resolvers.specs.Meaning.{item_by, meaning_by, meanings_by}
+use Rattle.gql_resolvers.proofs.Height.{height, height-item}
+use Rattle.gql_resolvers.proofs.Views.{meaning_list}
+use Rattle.gql_collect.proofs.Lists.{ok-anyway, map-set}
 use Rattle.gql_exec_fields.specs.Executed.{MakesBelow}
 use Rattle.gql_exec_fields.specs.declared.path.Path.TheVariants.{Below}
 use Rattle.gql_exec_fields.specs.Executing.{request_of, world_of}
@@ -36,17 +36,17 @@ use Rattle.gql_exec_fields.proofs.Values.{meaning-leaf, meaning-object, meaning-
 use Rattle.gql_exec_fields.proofs.Ways.{item-place, item_in}
 use Rattle.gql_exec_fields.proofs.executing.Executing.+execute.Goals as goal
 use Rattle.gql_exec_fields.proofs.executing.Executing.+execute.Goals.{complete_items-in-Value+in_ok-add_item-in-Value, complete_items-in-LeftOut, execute_parts-in-Value+in_ok-add_member-in-Value, execute_parts-in-LeftOut}
-use Rattle.gql_exec_plan.specs.Ranks.{AreRanked}
-use Rattle.gql_exec_plan.specs.Plan.{Ground, ground_of, AreNodes, IsTyped, field_in, fields_in, groups_in, sets_below, group_in, most_looks}
-use Rattle.gql_exec_plan.specs.Ways.{ways_to}
-use Rattle.gql_exec_plan.proofs.Growing.{grows-none}
-use Rattle.gql_exec_plan.specs.declared.planned_field.PlannedField.{PlannedField}
-use Rattle.gql_exec_plan.proofs.Nodes.{part-with}
+use Rattle.gql_collect.specs.Ranks.{AreRanked}
+use Rattle.gql_collect.specs.Plan.{Ground, ground_of, AreNodes, IsTyped, field_in, fields_in, groups_in, sets_below, group_in, most_looks}
+use Rattle.gql_collect.specs.Ways.{ways_to}
+use Rattle.gql_collect.proofs.Growing.{grows-none}
+use Rattle.gql_collect.specs.declared.planned_field.PlannedField.{PlannedField}
+use Rattle.gql_collect.proofs.Nodes.{part-with}
 use Rattle.gql_exec_fields.specs.Planning.{ground_in}
 use Rattle.gql_exec_fields.proofs.Views.{views}
 use Rattle.gql_ast_base.specs.Names.{Named}
 use Rattle.gql_exec_fields.specs.RequestWorld.{plain_world}
-use Rattle.gql_exec_plan.proofs.Changes.{with_nodes, changed-field}
+use Rattle.gql_collect.proofs.Changes.{with_nodes, changed-field}
 use Rattle.gql_exec_fields.proofs.Collecting.{views-apart, views-end}
 use Rattle.gql_exec_fields.proofs.Groups.{executing-begun, executing-more, executing-less, executing-stops, executing-ends}
 use Rattle.gql_exec_fields.proofs.Keys.{key-free}

@@ -1,11 +1,11 @@
 use Rattle.std.proofs.Common.{◌≡◌, ◌+◌, ◌*◌, List, drop, length}
 use Rattle.jb_tree.specs.declared.value.Value.{Value}
-use Rattle.gql_exec_resolve.specs.Execute.{Member}
-use Rattle.gql_exec_resolve.specs.Types.{item_type}
-use Rattle.gql_exec_plan.specs.Plan.{AreNodes, HaveNodes, fields_in, groups_in, sets_below}
-use Rattle.gql_exec_plan.specs.Ways.{Turn}
-use Rattle.gql_exec_resolve.specs.Meaning.{meanings_by}
-use Rattle.gql_exec_resolve.proofs.Height.{height}
+use Rattle.gql_resolvers.specs.Execute.{Member}
+use Rattle.gql_resolvers.specs.Types.{item_type}
+use Rattle.gql_collect.specs.Plan.{AreNodes, HaveNodes, fields_in, groups_in, sets_below}
+use Rattle.gql_collect.specs.Ways.{Turn}
+use Rattle.gql_resolvers.specs.Meaning.{meanings_by}
+use Rattle.gql_resolvers.proofs.Height.{height}
 use Rattle.gql_exec_fields.specs.Planning.{ground_in}
 use Rattle.gql_exec_fields.specs.Executing.{world_of}
 use Rattle.gql_exec_fields.specs.Looks.{NodesGrow, PartsGrow}

@@ -1,8 +1,8 @@
 use Rattle.std.proofs.Common.{[], ◌∷◌, Some, refl, sym, ap, ◌∙◌}
-use Rattle.gql_exec_resolve.specs.Fit.{leaf_misfit_at}
-use Rattle.gql_exec_resolve.specs.Seen.{seen, misfit_seen}
-use Rattle.gql_exec_resolve.specs.Execute.{execute}
-use Rattle.gql_exec_resolve.specs.Resolved.{gives_leaf}
+use Rattle.gql_resolvers.specs.Fit.{leaf_misfit_at}
+use Rattle.gql_resolvers.specs.Seen.{seen, misfit_seen}
+use Rattle.gql_resolvers.specs.Execute.{execute}
+use Rattle.gql_resolvers.specs.Resolved.{gives_leaf}
 use Rattle.gql_exec_fields.specs.Executing.{world_of}
 use Rattle.gql_exec_fields.specs.Output.{IsWritten}
 use Rattle.gql_exec_fields.specs.Trails.{spot_of}

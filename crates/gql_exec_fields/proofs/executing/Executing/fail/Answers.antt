@@ -1,8 +1,8 @@
 use Rattle.std.proofs.Common.{refl}
-use Rattle.gql_exec_resolve.specs.Fit.{wrong}
-use Rattle.gql_exec_resolve.specs.Messages as message
-use Rattle.gql_exec_resolve.specs.Fault.{told_at}
-use Rattle.gql_exec_resolve.specs.Resolved.{fails_with}
+use Rattle.gql_resolvers.specs.Fit.{wrong}
+use Rattle.gql_resolvers.specs.Messages as message
+use Rattle.gql_resolvers.specs.Fault.{told_at}
+use Rattle.gql_resolvers.specs.Resolved.{fails_with}
 use Rattle.gql_exec_fields.specs.Executing.{world_of}
 use Rattle.gql_exec_fields.specs.Output.{IsWritten}
 use Rattle.gql_exec_fields.specs.Trails.{spot_of}

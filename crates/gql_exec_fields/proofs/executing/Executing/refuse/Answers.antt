@@ -1,6 +1,6 @@
 use Rattle.std.proofs.Common.{rules, ◌≡◌, [], ◌∷◌, ◌++◌}
-use Rattle.gql_exec_resolve.specs.Seen.{seen}
-use Rattle.gql_exec_resolve.specs.Fault.{fault_error, told_at}
+use Rattle.gql_resolvers.specs.Seen.{seen}
+use Rattle.gql_resolvers.specs.Fault.{fault_error, told_at}
 use Rattle.gql_exec_fields.specs.Executing.{world_of}
 use Rattle.gql_exec_fields.specs.Trails.{spot_of}
 use Rattle.gql_exec_fields.proofs.Done.{null-listed}

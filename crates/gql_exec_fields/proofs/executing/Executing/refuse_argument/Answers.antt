@@ -1,5 +1,5 @@
 use Rattle.std.proofs.Common.{rules, ◌≡◌, [], ◌∷◌, ◌++◌}
-use Rattle.gql_exec_resolve.specs.Fault.{fault_error}
+use Rattle.gql_resolvers.specs.Fault.{fault_error}
 use Rattle.gql_exec_fields.specs.Asks.{fault_of}
 use Rattle.gql_exec_fields.specs.Executing.{world_of}
 use Rattle.gql_exec_fields.specs.Trails.{spot_of}

@@ -1,6 +1,6 @@
 use Rattle.std.proofs.Common.{subst}
 use Rattle.gql_source.specs.declared.file_id.FileId.{FileId}
-use Rattle.gql_cst_grammar.specs.declared.rule.Rule.TheVariants as rule
+use Rattle.gql_grammar.specs.declared.rule.Rule.TheVariants as rule
 use Rattle.gql_parser.specs.Parsers.{given}
 use Rattle.gql_parser.specs.TypesRead.{IsTypeAnswer}
 use Rattle.gql_parser.proofs.Answering.{left, complete, type_answer}

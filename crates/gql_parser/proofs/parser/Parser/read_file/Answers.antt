@@ -1,4 +1,4 @@
-use Rattle.gql_cst_grammar.specs.declared.rule.Rule.TheVariants as rule
+use Rattle.gql_grammar.specs.declared.rule.Rule.TheVariants as rule
 use Rattle.gql_parser.specs.declared.file_read.FileRead.{FileRead}
 use Rattle.gql_parser.specs.FileRead.{IsFileRead, IsFileOfParse}
 use Rattle.gql_parser.specs.Parsers.{given}

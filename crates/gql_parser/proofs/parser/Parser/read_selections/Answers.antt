@@ -1,4 +1,4 @@
-use Rattle.gql_cst_grammar.specs.declared.rule.Rule.TheVariants as rule
+use Rattle.gql_grammar.specs.declared.rule.Rule.TheVariants as rule
 use Rattle.gql_parser.specs.declared.parse_field_set.SelectionsRead.{SelectionsRead}
 use Rattle.gql_parser.specs.FieldSetsRead.{AreSelectionsRead, AreSelectionsOfParse}
 use Rattle.gql_parser.specs.Parsers.{given}

@@ -1,5 +1,5 @@
 use Rattle.std.proofs.Common.{refl}
-use Rattle.gql_cst_grammar.specs.declared.rule.Rule.TheVariants as rule
+use Rattle.gql_grammar.specs.declared.rule.Rule.TheVariants as rule
 use Rattle.gql_parser.proofs.Judging.{judged}
 use Rattle.gql_parser.proofs.parser.Parser.read_type.Goals as goal
 

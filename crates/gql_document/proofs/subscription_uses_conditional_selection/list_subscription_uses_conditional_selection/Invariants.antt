@@ -1,0 +1,9 @@
+use Rattle.std.proofs.Common.{◌≡◌, ◌++◌, drop}
+use Rattle.gql_document.specs.RootWalk.{selections_of}
+use Rattle.gql_document.specs.SubscriptionUsesConditionalSelection as spec
+use Rattle.gql_document.proofs.subscription_uses_conditional_selection.list_subscription_uses_conditional_selection.Given as goal
+
+-- what is there and what is left make the whole
+abbrev pub invariant-loop-root : goal.invariant-loop-root
+invariant-loop-root l = l.faults ++ spec.subscription_uses_conditional_selection l.operation (selections_of (drop l.root-index l.root-items))
+    ≡ l.fn.faults ++ spec.subscription_uses_conditional_selection l.operation (selections_of l.root-items)

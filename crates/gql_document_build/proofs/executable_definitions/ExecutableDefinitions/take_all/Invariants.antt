@@ -1,7 +1,0 @@
-use Rattle.std.proofs.Common.{◌≡◌}
-use Rattle.gql_document_build.specs.Definitions.{with_definitions}
-use Rattle.gql_document_build.proofs.executable_definitions.ExecutableDefinitions.take_all.Given as goal
-
--- what is there and what is left make the whole
-abbrev pub invariant-loop-definition : goal.invariant-loop-definition
-invariant-loop-definition l = with_definitions l.self l.definition-iterator ≡ with_definitions l.fn.self l.fn.definitions

@@ -1,0 +1,13 @@
+pub mod Thing
+pub mod Mapped
+pub mod ThingMeaning
+pub mod Request
+pub mod Restricted
+pub mod Seen
+pub mod Execution
+pub mod Running
+pub mod Partial
+pub use Rattle.gql_exec.specs.Thing
+pub use Rattle.gql_exec.specs.ThingMeaning
+pub use Rattle.gql_exec_fields.specs.Response
+pub use Rattle.gql_collect.specs.Room

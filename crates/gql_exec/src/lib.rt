@@ -1,0 +1,24 @@
+//! Execution of requests (GraphQL October 2021, section 6).
+//!
+//! An [`Execution`] is of one document on one schema. It is told which operation is meant and what its variables are, and
+//! then [`Execution::execute_sync`] asks a resolver for each field that the operation selects, completes what it is given
+//! by the type of the field, and lists an error for each fault.
+//!
+//! With introspection on (section 4), a user's objects and those of introspection are objects of one kind: [`Introspected`] is an
+//! [`ObjectValue`](gql_resolvers::ObjectValue) over those of a user. On the root type of queries it answers `__schema` and
+//! `__type`, and any other field as the object that it stands for.
+#![tactic(auto)]
+
+mod executed;
+mod execution;
+mod introspected;
+pub mod laws;
+mod partial;
+mod running;
+mod standing;
+mod written_response;
+
+pub use execution::Execution;
+pub use introspected::Introspected;
+pub use partial::partial_execute;
+pub use written_response::WrittenResponse;

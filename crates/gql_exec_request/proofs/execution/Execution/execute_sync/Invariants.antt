@@ -1,5 +1,0 @@
--- The counter is over a ledger of its own.
-use Rattle.gql_exec_request.proofs.execution.Execution.execute_sync.Given as goal
-
-abbrev pub ghosts-execute_alone : goal.ghosts-execute_alone
-ghosts-execute_alone g a = record { name = a.blank.name; parts = a.blank.parts }

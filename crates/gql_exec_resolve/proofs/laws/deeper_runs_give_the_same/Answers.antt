@@ -1,5 +1,0 @@
-use Rattle.gql_exec_resolve.proofs.Deeper.{deeper}
-use Rattle.gql_exec_resolve.proofs.laws.deeper_runs_give_the_same.Goals as goal
-
-pub returns : goal.returns
-returns types c = λ w depth U s enough x outer. deeper w depth U s enough x outer

@@ -1,0 +1,13 @@
+use Rattle.std.proofs.Common.{◌≡◌, ◌++◌, map, drop}
+use Rattle.std.specs.List.{filter}
+use Rattle.gql_resolvers.specs.Resolved.{gives_object}
+use Rattle.gql_introspection.specs.Items.{answers_in}
+use Rattle.gql_introspection.specs.Kept.{is_kept}
+use Rattle.gql_introspection.proofs.shown.kept_parts.Given as goal
+
+-- the items so far and those that are left make the whole
+abbrev pub invariant-loop-part : goal.invariant-loop-part
+invariant-loop-part g l =
+    let shows = g.T.Shown.shows l.schema in
+    answers_in l.items ++ map gives_object (map shows (filter (λ part. is_kept l.deprecated_too (g.T.Deprecatable.directives_of part)) (drop l.part-index l.parts)))
+    ≡ map gives_object (map shows (filter (λ part. is_kept l.deprecated_too (g.T.Deprecatable.directives_of part)) l.parts))

@@ -1,0 +1,74 @@
+//! Leaves.
+
+ghost use Rattle.std.specs.Prelude.{◌≡◌};
+ghost use Rattle.std.specs.Option.{option_copied};
+ghost use Rattle.gql_resolvers.specs.Meaning.{meaning_by};
+ghost use Rattle.gql_introspection.specs.Answers as spec;
+ghost use Rattle.gql_introspection.specs.Seen.{Gives, stands_for};
+
+use crate::meta_object::MetaObject;
+use gql_ast_base::Name;
+use gql_resolvers::ResolvedValue;
+use jb_text::{Memory, Text};
+use jb_tree::Value;
+use std::alloc::Global;
+
+/// A text.
+pub(crate) fn text_leaf<'a>(
+    alloc: Global,
+    text: &str,
+) -> Result<ResolvedValue<MetaObject<'a>>, Memory>
+    ensures { Gives result (spec.text_leaf text.now) }
+{
+    Ok(ResolvedValue::Leaf(Value::from_text(alloc, text)?))
+}
+
+/// The text of a name, which is shared and not copied.
+pub(crate) fn name_leaf<'a>(
+    alloc: Global,
+    name: &Name,
+) -> Result<ResolvedValue<MetaObject<'a>>, Memory>
+    ensures { Gives result (spec.text_leaf name.now.text) }
+{
+    Ok(ResolvedValue::Leaf(Value::String(name.text().copy(alloc)?)))
+}
+
+/// A text, or null where there is none.
+pub(crate) fn text_or_null<'a>(
+    alloc: Global,
+    text: Option<&str>,
+) -> Result<ResolvedValue<MetaObject<'a>>, Memory>
+    ensures { Gives result (spec.text_or_null (option_copied text.entry)) }
+{
+    match text {
+        Some(text) => text_leaf(alloc, text),
+        None => Ok(ResolvedValue::Leaf(Value::Null)),
+    }
+}
+
+/// A description, or null where there is none.
+pub(crate) fn description_or_null<'a>(
+    alloc: Global,
+    description: Option<&Text>,
+) -> Result<ResolvedValue<MetaObject<'a>>, Memory>
+    ensures { Gives result (spec.text_or_null (option_copied description.entry)) }
+{
+    match description {
+        Some(text) => text_leaf(alloc, text.as_str()),
+        None => Ok(ResolvedValue::Leaf(Value::Null)),
+    }
+}
+
+/// A truth value.
+pub(crate) fn truth_leaf<'a>(truth: bool) -> ResolvedValue<MetaObject<'a>>
+    ensures { meaning_by stands_for result ≡ spec.truth_leaf truth }
+{
+    ResolvedValue::Leaf(Value::Bool(truth))
+}
+
+/// Null.
+pub(crate) fn null_leaf<'a>() -> ResolvedValue<MetaObject<'a>>
+    ensures { meaning_by stands_for result ≡ spec.null_leaf }
+{
+    ResolvedValue::Leaf(Value::Null)
+}

@@ -1,4 +1,0 @@
-use Rattle.gql_rules_base.proofs.required_argument.is_first.Goals as goal
-
-pub returns : goal.returns
-returns c = c.is_first.ensures c.args.definition.now c.requires.there

@@ -1,7 +1,0 @@
-use Rattle.gql_rules_graph.specs.Chains.{any_marked}
-use Rattle.gql_rules_graph.specs.Cycles.{Told}
-use Rattle.gql_rules_graph.specs.Graph.{row}
-use Rattle.gql_rules_graph.proofs.chains.marks_through.Given as goal
-
-abbrev pub invariant-loop-node : goal.invariant-loop-node
-invariant-loop-node l = Told (λ v. any_marked l.marks (row l.graph v)) l.made.items l.node

@@ -1,6 +1,0 @@
-use Rattle.gql_rules_graph.specs.Cycles.{Told, shares_part}
-use Rattle.gql_rules_graph.specs.Graph.{row}
-use Rattle.gql_rules_graph.proofs.cycles.on_cycles.Given as goal
-
-abbrev pub invariant-loop-node : goal.invariant-loop-node
-invariant-loop-node l = Told (λ v. shares_part l.parts.items v (row l.graph v)) l.marks.items l.node
