@@ -8,7 +8,8 @@ use Rattle.gql_resolvers.specs.declared.resolved_value.ResolvedValue.{ResolvedVa
 use Rattle.gql_introspection.specs.Meta.{Meta, schema_meta, type_def, wrapped, directive_def}
 use Rattle.gql_introspection.specs.Meta.{field_def, enum_value_def, input_value_def}
 use Rattle.gql_introspection.specs.declared.meta_object.MetaObject.{MetaObject}
-use Rattle.gql_introspection.specs.declared.meta_object.MetaObject.TheVariants.{SchemaMeta, TypeDef, Wrapped, DirectiveDef, FieldDef, EnumValueDef, InputValueDef}
+use Rattle.gql_introspection.specs.declared.meta_object.MetaObject.TheVariants.{SchemaMeta, TypeDef, Wrapped, DirectiveDef}
+use Rattle.gql_introspection.specs.declared.meta_object.MetaObject.TheVariants.{FieldDef, EnumValueDef, InputValueDef}
 
 -- what an object stands for, wherever in memory that lies
 abbrev pub stands_for : MetaObject → Meta
