@@ -31,16 +31,16 @@ use Rattle.gql_schema_build.specs.declared.built_in.BuiltIn.{BuiltIn}
 use Rattle.gql_schema_build.specs.declared.type_system.TypeSystem.{TypeSystem}
 use Rattle.gql_parser.specs.BuiltInText.{is_scalar_of}
 use Rattle.gql_coerce_laws.proofs.BuiltInText.{is_input_object}
-use Rattle.gql_schema.specs.Scalars.{input_names, built_in_scalars, validated}
-use Rattle.gql_schema.specs.SchemaFaults.{AreSchemaFaults, parts_faults}
-use Rattle.gql_schema_rules_types.specs.InterfaceRules.{interfaces_faults}
-use Rattle.gql_schema_rules_types.specs.EmptyInputValueSet.{empty_input_value_set}
-use Rattle.gql_schema_rules_types.specs.InputType.{input_type}
-use Rattle.gql_schema_rules_types.specs.InputValues.{type_faults as value_type_faults, default_faults, input_value_faults, input_field_faults, input_fields_faults}
-use Rattle.gql_schema_rules_types.specs.ReservedName.{reserved_name}
-use Rattle.gql_schema_rules_types.specs.SchemaRules.{schema_definition_faults, directive_definitions_faults}
-use Rattle.gql_schema_rules_types.specs.TypeRules.{name_faults, if_written, type_faults, types_faults}
-use Rattle.gql_schema_rules_types.specs.UndefinedDefinition.{undefined_definition}
+use Rattle.gql_schema_rules.specs.Scalars.{input_names, built_in_scalars, validated}
+use Rattle.gql_schema_rules.specs.SchemaFaults.{AreSchemaFaults, parts_faults}
+use Rattle.gql_rules_types.specs.InterfaceRules.{interfaces_faults}
+use Rattle.gql_rules_types.specs.EmptyInputValueSet.{empty_input_value_set}
+use Rattle.gql_rules_types.specs.InputType.{input_type}
+use Rattle.gql_rules_types.specs.InputValues.{type_faults as value_type_faults, default_faults, input_value_faults, input_field_faults, input_fields_faults}
+use Rattle.gql_rules_types.specs.ReservedName.{reserved_name}
+use Rattle.gql_rules_types.specs.SchemaRules.{schema_definition_faults, directive_definitions_faults}
+use Rattle.gql_rules_types.specs.TypeRules.{name_faults, if_written, type_faults, types_faults}
+use Rattle.gql_rules_types.specs.UndefinedDefinition.{undefined_definition}
 use Rattle.gql_schema_types.specs.Types.{type_name, type_called, is_composite}
 use Rattle.gql_schema_types.specs.declared.schema.Schema.{Schema}
 use Rattle.gql_schema_types.specs.declared.types.ExtendedType.{ExtendedType}

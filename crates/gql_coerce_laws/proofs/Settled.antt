@@ -5,7 +5,7 @@ use Rattle.std.specs.List.{list_any}
 use Rattle.std.specs.Str.{bytes_eq}
 use Rattle.std.proofs.lemmas.Slice.Eq.{bytes_eq-Decides}
 use Rattle.gql_ast_definitions.specs.declared.schema_definition.DirectiveDefinition.{DirectiveDefinition}
-use Rattle.gql_schema.specs.Scalars.{input_names, type_names, directive_names, is_named, new_scalar, built_in_scalars, is_missing, with_missing, unless_unused, validated_types}
+use Rattle.gql_schema_rules.specs.Scalars.{input_names, type_names, directive_names, is_named, new_scalar, built_in_scalars, is_missing, with_missing, unless_unused, validated_types}
 use Rattle.gql_schema_types.specs.Entries.{is_called, without}
 use Rattle.gql_schema_types.specs.Types.{type_name, type_called}
 use Rattle.gql_schema_types.specs.declared.types.ExtendedType.{ExtendedType}

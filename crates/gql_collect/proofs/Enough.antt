@@ -12,7 +12,7 @@ use Rattle.gql_document_types.specs.declared.selection.Selection.TheOpen.{Select
 use Rattle.gql_collect.specs.Applies.{applies_if}
 use Rattle.gql_collect.specs.Flat.{Shape, when, contents, body, field_of, opened, flat_within, enough, flat, flat_sets}
 use Rattle.gql_collect.specs.Kept.{is_kept}
-use Rattle.gql_collect.specs.Ranks.{AreRanked}
+use Rattle.gql_document_types.specs.Ranks.{AreRanked}
 use Rattle.gql_collect.specs.Same.{SameFirst}
 use Rattle.gql_collect.specs.Setting.{Setting}
 use Rattle.gql_collect.specs.Sizes.{size, fragments_size}

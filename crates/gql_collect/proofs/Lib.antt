@@ -27,4 +27,3 @@ pub mod Room
 pub mod Totals
 pub mod Ways
 pub mod Weights
-mod Items

@@ -17,7 +17,7 @@ use Rattle.gql_document_types.specs.declared.selection.Selection.TheVariants as 
 use Rattle.gql_document_types.specs.declared.selection.Selection.TheOpen.{Selection-F}
 use Rattle.gql_collect.specs.Applies.{applies}
 use Rattle.gql_collect.specs.Flat.{Shape, when, contents, body}
-use Rattle.gql_collect.specs.Ranks.{AreRanked}
+use Rattle.gql_document_types.specs.Ranks.{AreRanked}
 use Rattle.gql_collect.specs.Setting.{Setting}
 use Rattle.gql_collect.specs.Sizes.{own, size, fragments_size}
 use Rattle.gql_document_types.proofs.Variants.{out-field, out-spread, out-inline, each}

@@ -16,7 +16,7 @@ use Rattle.gql_document_types.specs.declared.selection.Selection.TheOpen.{Select
 use Rattle.gql_collect.specs.Applies.{applies_if}
 use Rattle.gql_collect.specs.Flat.{Shape, when, contents, body, field_of, opened}
 use Rattle.gql_collect.specs.Kept.{is_kept}
-use Rattle.gql_collect.specs.Ranks.{AreRanked}
+use Rattle.gql_document_types.specs.Ranks.{AreRanked}
 use Rattle.gql_collect.specs.Same.{SameFirst}
 use Rattle.gql_collect.specs.Setting.{Setting}
 use Rattle.gql_collect.specs.Walk.{number_of, is_new, mark, marked, gone_into, Walks, walked_all, walked_on, WalksAll, no_more, list_first}

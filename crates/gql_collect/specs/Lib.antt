@@ -4,7 +4,6 @@ pub mod Flat
 pub mod Grouping
 pub mod Groups
 pub mod Kept
-pub mod Ranks
 pub mod Same
 pub mod Setting
 pub mod Sizes
@@ -23,6 +22,3 @@ pub mod Plan
 pub mod Growth
 pub mod Ways
 pub mod RequestErrors
-pub mod Request
-pub mod NotAsked
-pub mod SelfTest

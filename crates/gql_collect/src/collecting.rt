@@ -2,7 +2,7 @@
 
 ghost use Rattle.std.specs.Prelude.{◌≡◌, ◌≤◌, ℕ, ◌+◌, ◌++◌, IfOk, OnOk};
 ghost use Rattle.gql_collect.specs.Flat.{flat_sets};
-ghost use Rattle.gql_collect.specs.Ranks.{AreRanked};
+ghost use Rattle.gql_document_types.specs.Ranks.{AreRanked};
 ghost use Rattle.gql_collect.specs.Same.{SameFirst};
 ghost use Rattle.gql_collect.specs.Sizes.{fragments_size, outer_size, sets_size};
 ghost use Rattle.gql_collect.specs.Standing.{NoneMoreOften, fields_in_all, fields_in_fragments};

@@ -6,7 +6,7 @@ ghost use Rattle.gql_schema_types.specs.Entries.{entry};
 ghost use Rattle.gql_collect.specs.Collected.{setting, sets_of};
 ghost use Rattle.gql_collect.specs.Grouping as step;
 ghost use Rattle.gql_collect.specs.Groups as spec;
-ghost use Rattle.gql_collect.specs.Ranks.{AreRanked};
+ghost use Rattle.gql_document_types.specs.Ranks.{AreRanked};
 ghost use Rattle.gql_collect.specs.Sizes.{fragments_size, outer_size, sets_size};
 ghost use Rattle.gql_collect.specs.Standing.{NoneMoreOften, fields_in_all, fields_in_fragments};
 ghost use Rattle.gql_collect.specs.Walk.{fields_of};

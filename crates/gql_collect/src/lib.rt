@@ -1,8 +1,6 @@
-//! What stands before an execution: its request, the depth of its operation, the values of its variables, the groups of its fields,
-//! and its plan.
+//! What stands before an execution: the depth of its operation, the values of its variables, the groups of its fields, and its
+//! plan.
 //!
-//! - [`decode`] finds what a JSON value asks, or the first reason why it is no request; [`read_message`] tells why bytes are no
-//!   JSON text. [`self_test_text`] is a request of any size, by which a program tries itself.
 //! - The fields `fields`, `interfaces`, `possibleTypes` and `inputFields` lead from a type to further types, so a short query can
 //!   ask for a very long answer (GraphQL October 2021, section 4). [`check_max_depth`] refuses three of them on one chain of nested
 //!   selections.
@@ -32,9 +30,6 @@ mod pieces;
 mod plan;
 mod planned_field;
 mod planner;
-mod request;
-mod request_reading;
-mod self_test;
 mod steps;
 mod variable_values;
 
@@ -46,8 +41,5 @@ pub use pieces::Pieces;
 pub use plan::{Node, Part};
 pub use planned_field::PlannedField;
 pub use planner::Planner;
-pub use request::{Member, Request, RequestFault, decode};
-pub use request_reading::read_message;
-pub use self_test::self_test_text;
 pub use steps::Steps;
 pub use variable_values::coerce_variable_values;

@@ -3,7 +3,7 @@
 ghost use Rattle.std.specs.Prelude.{◌≡◌, ◌≤◌, ◌+◌, [], ℕ, IfOk, OnOk};
 ghost use Rattle.std.specs.List.{position};
 ghost use Rattle.gql_collect.specs.Collected.{sets_of};
-ghost use Rattle.gql_collect.specs.Ranks.{AreRanked};
+ghost use Rattle.gql_document_types.specs.Ranks.{AreRanked};
 ghost use Rattle.gql_collect.specs.Sizes.{outer_size};
 ghost use Rattle.gql_collect.specs.Growth as growth;
 ghost use Rattle.gql_collect.specs.Plan as spec;

@@ -9,3 +9,4 @@ pub mod Judged
 pub mod Reported
 pub mod Walk
 pub mod Refusal
+pub mod Taken

@@ -28,6 +28,7 @@ mod refusal_text;
 mod report;
 mod report_text;
 mod response_laws;
+mod taken;
 mod to_cli_report;
 mod with_errors;
 
@@ -40,8 +41,10 @@ pub use gql_response::{
     ExecutionResponse, GraphQLError, JsonMap, JsonValue, RequestError, ResponseDataPathSegment,
     ResponseFault,
 };
+pub use gql_schema_types::Valid;
 pub use recursion::{RecursionGuard, RecursionStack};
 pub use refusal_text::{refusal_of_diagnostics, refusal_of_message, refusal_of_request};
 pub use report::CliReport;
+pub use taken::take_faults;
 pub use to_cli_report::ToCliReport;
 pub use with_errors::WithErrors;

@@ -40,3 +40,7 @@ pub use distinct::distinct_definitions;
 pub use executable_definitions::ExecutableDefinitions;
 pub use executable_document_builder::ExecutableDocumentBuilder;
 pub use field_set::build_field_set;
+pub use gql_document_types::{
+    ExecutableDocument, ExpandFault, Field, FieldSet, Fragment, FragmentSpread, InlineFragment,
+    Operation, Selection, SelectionSet, expand_fragments,
+};

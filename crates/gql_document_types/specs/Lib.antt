@@ -8,3 +8,4 @@ pub mod ChosenOperation
 pub mod RootFields
 pub mod RootWalk
 pub mod Spreads
+pub mod Ranks

@@ -1,7 +1,7 @@
 -- The outputs of tasks.
 use Rattle.std.proofs.Common.{◌≡◌, ◌<◌, ◌≤◌, ◌+◌, ◌^◌, ℕ, List, length, Result, Ok, Err, IfOk, sym, ap, subst, inl, inr}
 use Rattle.gql_engine.specs.declared.response_bytes.Written.{Written}
-use Rattle.gql_collect.specs.SelfTest.{self_test}
+use Rattle.gql_request.specs.SelfTest.{self_test}
 use Rattle.gql_engine.specs.declared.output.Output.{Output}
 use Rattle.gql_engine.specs.declared.reply.Reply.{Reply}
 use Rattle.gql_engine.specs.declared.reply.Reply.TheVariants.{Response, Passed, Reports, Refusal}

@@ -7,8 +7,8 @@ use Rattle.gql_engine.proofs.Causes.{Laws, none_unanswered}
 use Rattle.gql_engine.proofs.Results.{same_ok, ok_or_err}
 use Rattle.gql_diag.specs.List.{Diagnostics}
 use Rattle.gql_response.specs.declared.graphql_error.GraphQLError.{GraphQLError}
-use Rattle.gql_collect.specs.NotAsked.{IsAsked, NotAsked, no_text, no_request}
-use Rattle.gql_collect.specs.Request.{Asked, asked}
+use Rattle.gql_request.specs.NotAsked.{IsAsked, NotAsked, no_text, no_request}
+use Rattle.gql_request.specs.Request.{Asked, asked}
 use Rattle.gql_engine.specs.Meant.{AreFaults, Meant, no_schema, no_document}
 use Rattle.gql_parser.specs.DocumentText.{DocumentText}
 use Rattle.gql_schema_types.specs.declared.schema.Schema.{Schema}

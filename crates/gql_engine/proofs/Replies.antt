@@ -18,10 +18,10 @@ use Rattle.gql_resolvers.specs.Data.{Data}
 use Rattle.gql_resolvers.specs.DataMeaning.{data_meaning}
 use Rattle.gql_diag.specs.Refusal.{message_error, refusal_value}
 use Rattle.gql_engine.specs.Reports.{reports_of}
-use Rattle.gql_collect.specs.NotAsked.{NotAsked, no_text, no_request, read_message}
-use Rattle.gql_collect.specs.Request.{Asked, asked, asked_in, fault_message}
-use Rattle.gql_collect.specs.declared.request.Request.{Request}
-use Rattle.gql_collect.specs.declared.request.RequestFault.{RequestFault}
+use Rattle.gql_request.specs.NotAsked.{NotAsked, no_text, no_request, read_message}
+use Rattle.gql_request.specs.Request.{Asked, asked, asked_in, fault_message}
+use Rattle.gql_request.specs.declared.request.Request.{Request}
+use Rattle.gql_request.specs.declared.request.RequestFault.{RequestFault}
 use Rattle.gql_engine.specs.Meant.{AreFaults, Meant}
 use Rattle.gql_engine.specs.declared.reply.Reply.{Reply}
 use Rattle.gql_engine.specs.declared.reply.Reply.TheVariants.{Response, Passed, Reports, Refusal}

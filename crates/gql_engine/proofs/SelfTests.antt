@@ -12,15 +12,15 @@ use Rattle.gql_exec.specs.ThingMeaning.{Resolving, thing_meaning}
 use Rattle.gql_exec_fields.specs.Executing.{answers_by}
 use Rattle.gql_resolvers.specs.Data.{Data}
 use Rattle.gql_resolvers.specs.DataMeaning.{data_meaning}
-use Rattle.gql_collect.specs.NotAsked.{IsAsked}
-use Rattle.gql_collect.specs.Request.{Asked}
-use Rattle.gql_collect.specs.SelfTest.{self_test}
+use Rattle.gql_request.specs.NotAsked.{IsAsked}
+use Rattle.gql_request.specs.Request.{Asked}
+use Rattle.gql_request.specs.SelfTest.{self_test}
 use Rattle.gql_parser.specs.SchemaText.{SchemaText}
 use Rattle.gql_schema_types.specs.declared.schema.Schema.{Schema}
 use Rattle.gql_schema_types.specs.declared.types.ObjectType.{ObjectType}
-use Rattle.gql_self_test_laws.specs.Meaning.{IsSelfTest}
-use Rattle.gql_self_test_laws.specs.Texts.{query_text, schema_text}
-use Rattle.gql_self_test_laws.proofs.Ways.{few_looks, few_selections}
+use Rattle.gql_request.specs.Meaning.{IsSelfTest}
+use Rattle.gql_request.specs.Texts.{query_text, schema_text}
+use Rattle.gql_request.proofs.Ways.{few_looks, few_selections}
 use Rattle.gql_engine.specs.Reply.{Answers, root_of}
 
 abbrev pub AsksLaw : Type 0

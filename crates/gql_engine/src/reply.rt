@@ -1,7 +1,7 @@
 //! What is replied to the bytes of a request.
 
 ghost use Rattle.std.specs.Prelude.{ℕ, IfOk};
-ghost use Rattle.gql_collect.specs.Request.{asked_in};
+ghost use Rattle.gql_request.specs.Request.{asked_in};
 ghost use Rattle.gql_engine.specs.declared.task.Wish.TheVariants as wished;
 ghost use Rattle.gql_engine.specs.Reply.{IsRefusedWith, IsReply, IsReplyTo, IsReplyToAsked};
 
@@ -12,8 +12,9 @@ use crate::response_bytes::Written;
 use crate::task::Wish;
 use crate::wanted::Wanted;
 use bytes::Bytes;
-use gql_collect::{Request, Steps, decode, read_message};
+use gql_collect::Steps;
 use gql_diag::refusal_of_message;
+use gql_request::{Request, decode, read_message};
 use gql_resolvers::DataObject;
 use jb_read::from_bytes_whole;
 use jb_tree::{Map, Memory, Refused, Text, Value};

@@ -9,7 +9,7 @@ use Rattle.gql_document_types.specs.declared.selection.Selection.{Selection}
 use Rattle.gql_response.specs.declared.execution_response.ExecutionResponse.{ExecutionResponse}
 use Rattle.gql_response.specs.declared.graphql_error.GraphQLError.{GraphQLError}
 use Rattle.gql_schema_types.specs.declared.types.ObjectType.{ObjectType}
-use Rattle.gql_collect.specs.Ranks.{AreRanked}
+use Rattle.gql_document_types.specs.Ranks.{AreRanked}
 use Rattle.gql_resolvers.specs.Depth.{Suffices}
 use Rattle.gql_resolvers.specs.Execute.{Member, execute}
 use Rattle.gql_resolvers.specs.Trail.{Trail}

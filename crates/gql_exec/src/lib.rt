@@ -19,6 +19,13 @@ mod standing;
 mod written_response;
 
 pub use execution::Execution;
+pub use gql_collect::{
+    Grouped, Pieces, Steps, check_max_depth, coerce_variable_values, collect_fields,
+};
+pub use gql_introspection::MetaObject;
+pub use gql_resolvers::{
+    FieldError, ObjectValue, RequestInfo, ResolveError, ResolveInfo, ResolvedValue,
+};
 pub use introspected::Introspected;
 pub use partial::partial_execute;
 pub use written_response::WrittenResponse;

@@ -24,7 +24,7 @@ use Rattle.gql_collect.specs.Applies.{applies, applies_if}
 use Rattle.gql_collect.specs.Flat.{when, contents, body, field_of, opened, flat_within, enough, flat, flat_sets}
 use Rattle.gql_collect.specs.Groups.{has_key, keys, FieldGroup, group_at, has_field, is_defined, applying, SameGroups, none_same, one_same}
 use Rattle.gql_collect.specs.Kept.{is_kept}
-use Rattle.gql_collect.specs.Ranks.{AreRanked}
+use Rattle.gql_document_types.specs.Ranks.{AreRanked}
 use Rattle.gql_collect.specs.Same.{SameFirst}
 use Rattle.gql_collect.specs.Setting.{Setting}
 use Rattle.gql_collect.proofs.Numbers.{body-is, body-none}

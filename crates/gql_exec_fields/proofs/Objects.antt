@@ -5,7 +5,7 @@ use Rattle.jb_tree.specs.declared.value.Value.TheVariants as json
 use Rattle.gql_document_types.specs.declared.selection.Selection.{Selection}
 use Rattle.gql_response.specs.declared.graphql_error.GraphQLError.{GraphQLError}
 use Rattle.gql_schema_types.specs.declared.types.ObjectType.{ObjectType}
-use Rattle.gql_collect.specs.Ranks.{AreRanked}
+use Rattle.gql_document_types.specs.Ranks.{AreRanked}
 use Rattle.gql_resolvers.specs.Execute.{Member, one_object, settled}
 use Rattle.gql_resolvers.specs.Spot.{trail}
 use Rattle.gql_collect.specs.Plan.{Ground, AreNodes, ArePartsOf, HaveNodes, IsNodeOf, fields_in, groups_in, most_looks, parts_in, sets_below}

@@ -14,7 +14,7 @@ use Rattle.gql_schema_types.specs.declared.types.ExtendedType.{ExtendedType}
 use Rattle.gql_schema_types.specs.declared.types.ExtendedType.TheVariants.{Scalar, Object, Interface, Union, Enum, InputObject}
 use Rattle.gql_schema_types.specs.declared.types.ObjectType.{ObjectType}
 use Rattle.gql_collect.specs.Grouping.{groups_seen}
-use Rattle.gql_collect.specs.Ranks.{AreRanked}
+use Rattle.gql_document_types.specs.Ranks.{AreRanked}
 use Rattle.gql_collect.specs.declared.group.Group.{Group as FieldsOfKey}
 use Rattle.gql_resolvers.specs.Execute.{Member}
 use Rattle.gql_resolvers.specs.Trail.{Trail}

@@ -1,7 +1,7 @@
 //! The cycle of execution: ExecuteSelectionSet, ExecuteField and CompleteValue (GraphQL October 2021, sections 6.3 and 6.4).
 
 ghost use Rattle.std.specs.Prelude.{◌≡◌, ℕ, List, map, is_some, true, IfOk, OnOk};
-ghost use Rattle.gql_collect.specs.Ranks.{AreRanked};
+ghost use Rattle.gql_document_types.specs.Ranks.{AreRanked};
 ghost use Rattle.gql_resolvers.specs.Lists.{is_list};
 ghost use Rattle.gql_resolvers.specs.Execute.{completed, field_made, items_made, one_array, one_object, settled, settled_item, unless_misfit, value_made};
 ghost use Rattle.gql_resolvers.specs.Resolved.{gives_list, gives_object};

@@ -3,7 +3,7 @@
 ghost use Rattle.std.specs.Prelude.{◌≡◌, ℕ, List};
 ghost use Rattle.gql_document_types.specs.declared.selection.Selection.{Selection};
 ghost use Rattle.gql_collect.specs.Groups.{FieldGroup, SameGroups, applying};
-ghost use Rattle.gql_collect.specs.Ranks.{AreRanked};
+ghost use Rattle.gql_document_types.specs.Ranks.{AreRanked};
 ghost use Rattle.gql_collect.specs.Same.{SameFirst};
 ghost use Rattle.gql_resolvers.specs.Depth.{Suffices};
 ghost use Rattle.gql_resolvers.specs.Execute.{execute};

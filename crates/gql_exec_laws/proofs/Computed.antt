@@ -7,7 +7,7 @@ use Rattle.gql_document_types.specs.declared.selection.Field.{Field}
 use Rattle.gql_document_types.specs.declared.selection.Selection.{Selection}
 use Rattle.gql_collect.specs.Flat.{flat, flat_sets}
 use Rattle.gql_collect.specs.Groups.{groups_of, is_defined}
-use Rattle.gql_collect.specs.Ranks.{AreRanked}
+use Rattle.gql_document_types.specs.Ranks.{AreRanked}
 use Rattle.gql_resolvers.specs.Depth.{Suffices}
 use Rattle.gql_resolvers.specs.Execute.{Made, Member, execute, groups_made}
 use Rattle.gql_resolvers.specs.Trail.{Trail}

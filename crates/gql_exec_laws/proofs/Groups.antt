@@ -13,7 +13,7 @@ use Rattle.gql_document_types.specs.Expanded.{expanded, expanded_field}
 use Rattle.gql_collect.specs.Flat.{enough, flat, flat_within, flat_sets}
 use Rattle.gql_collect.specs.Groups.{response_key, has_key, distinct_after, keys, FieldGroup, group_at, groups_of, is_defined, applying}
 use Rattle.gql_collect.specs.Kept.{Variables}
-use Rattle.gql_collect.specs.Ranks.{AreRanked}
+use Rattle.gql_document_types.specs.Ranks.{AreRanked}
 use Rattle.gql_collect.specs.Setting.{Setting}
 use Rattle.gql_exec_fields.specs.Group.{Group, piece_of, pieces_of, started, group_from, groups_from}
 use Rattle.gql_exec_laws.proofs.Flats.{flat-agrees}

@@ -7,7 +7,7 @@ use Rattle.gql_document_types.specs.declared.selection.Selection.{Selection}
 use Rattle.gql_schema_types.specs.declared.types.ObjectType.{ObjectType}
 use Rattle.gql_document_types.specs.Contents.{HaveContents}
 use Rattle.gql_document_types.specs.Expanded.{expanded}
-use Rattle.gql_collect.specs.Ranks.{AreRanked}
+use Rattle.gql_document_types.specs.Ranks.{AreRanked}
 use Rattle.gql_resolvers.specs.Depth.{AllGroups, Suffices}
 use Rattle.gql_resolvers.specs.Execute.{Made, Member, then_rest, settled, settled_item, unless_misfit}
 use Rattle.gql_resolvers.specs.Execute.{one_array, one_object, with_key, Below, object_made, value_made, items_made, field_made, groups_made, execute}

@@ -4,7 +4,7 @@ use Rattle.std.specs.List.{list_all}
 use Rattle.gql_ast.specs.declared.definition.Definition.{Definition}
 use Rattle.gql_ast_laws.specs.Meant.{IsDocumentOf}
 use Rattle.gql_schema.specs.BuiltInSchema.{IsBuiltIn, built_in_file}
-use Rattle.gql_schema.specs.Scalars.{built_in_scalars}
+use Rattle.gql_schema_rules.specs.Scalars.{built_in_scalars}
 use Rattle.gql_schema.proofs.Known.{SoundLaw, known, known_definitions, tokens_computed, trees_computed}
 use Rattle.gql_schema_build.specs.TypeSystems.{with_definitions, no_definitions}
 use Rattle.gql_schema_build.specs.declared.built_in.BuiltIn.{BuiltIn}

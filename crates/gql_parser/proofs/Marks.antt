@@ -6,8 +6,8 @@ use Rattle.gql_diag_messages.specs.declared.diagnostic_data.DiagnosticData.{Diag
 use Rattle.gql_diag_messages.specs.declared.rule.Rule.{Rule}
 use Rattle.gql_graph.specs.Cycles.{AreMarked}
 use Rattle.gql_graph.specs.Graph.{Graph}
-use Rattle.gql_schema.specs.SchemaFaults.{AreSchemaFaults, parts_faults}
-use Rattle.gql_schema.specs.CycleFaults.{IsTold, faults_from}
+use Rattle.gql_schema_rules.specs.SchemaFaults.{AreSchemaFaults, parts_faults}
+use Rattle.gql_schema_rules.specs.CycleFaults.{IsTold, faults_from}
 use Rattle.gql_schema_types.specs.declared.schema.Schema.{Schema}
 
 same_mark : (a b : Bool) → (Some a ≡ Some true → Some b ≡ Some true) → (Some b ≡ Some true → Some a ≡ Some true) → a ≡ b

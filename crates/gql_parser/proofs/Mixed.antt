@@ -9,8 +9,8 @@ use Rattle.gql_diag.specs.Order.{list_order}
 use Rattle.gql_diag_messages.specs.declared.diagnostic_data.DiagnosticData.{DiagnosticData}
 use Rattle.gql_document_types.specs.declared.document.ExecutableDocument.{ExecutableDocument}
 use Rattle.gql_rules.specs.DocumentFaults.{AreDocumentFaults, AreFirstOrAll}
-use Rattle.gql_schema.specs.Scalars.{validated}
-use Rattle.gql_schema.specs.SchemaFaults.{AreSchemaFaults}
+use Rattle.gql_schema_rules.specs.Scalars.{validated}
+use Rattle.gql_schema_rules.specs.SchemaFaults.{AreSchemaFaults}
 use Rattle.gql_schema_types.specs.declared.schema.Schema.{Schema}
 use Rattle.gql_parser.specs.MixedRead.{AreMixedFaults, AreRuleFaults, AreTold, IsHeld, IsMixed, IsMixedAnswer}
 use Rattle.gql_parser.specs.Parsers.{ParserState, Given}

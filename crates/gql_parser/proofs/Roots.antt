@@ -22,17 +22,17 @@ use Rattle.gql_schema_build.specs.Considered.{considered}
 use Rattle.gql_schema_build.specs.BuiltInScalarTypeRedefinition.{without_redefinitions}
 use Rattle.gql_schema_build.specs.declared.built_in.BuiltIn.{BuiltIn}
 use Rattle.gql_schema_build.specs.declared.type_system.TypeSystem.{TypeSystem}
-use Rattle.gql_schema.specs.Scalars.{built_in_scalars, validated}
-use Rattle.gql_schema.specs.SchemaFaults.{AreSchemaFaults, parts_faults}
+use Rattle.gql_schema_rules.specs.Scalars.{built_in_scalars, validated}
+use Rattle.gql_schema_rules.specs.SchemaFaults.{AreSchemaFaults, parts_faults}
 use Rattle.gql_rules_values.specs.Directives.{directive_faults}
-use Rattle.gql_schema_rules_types.specs.InterfaceRules.{interfaces_faults}
-use Rattle.gql_schema_rules_types.specs.DuplicateRootOperationType.{duplicate_root_operation_type}
-use Rattle.gql_schema_rules_types.specs.QueryRootOperationType.{query_root_operation_type}
-use Rattle.gql_schema_rules_types.specs.ObjectTypes.{is_another_kind}
-use Rattle.gql_schema_rules_types.specs.RootOperationObjectType.{root_operation_object_type}
-use Rattle.gql_schema_rules_types.specs.UndefinedDefinition.{undefined_definition}
-use Rattle.gql_schema_rules_types.specs.SchemaRules.{root_name_faults, root_faults, roots_faults, schema_definition_faults, directive_definitions_faults}
-use Rattle.gql_schema_rules_types.specs.TypeRules.{types_faults}
+use Rattle.gql_rules_types.specs.InterfaceRules.{interfaces_faults}
+use Rattle.gql_rules_types.specs.DuplicateRootOperationType.{duplicate_root_operation_type}
+use Rattle.gql_rules_types.specs.QueryRootOperationType.{query_root_operation_type}
+use Rattle.gql_rules_types.specs.ObjectTypes.{is_another_kind}
+use Rattle.gql_rules_types.specs.RootOperationObjectType.{root_operation_object_type}
+use Rattle.gql_rules_types.specs.UndefinedDefinition.{undefined_definition}
+use Rattle.gql_rules_types.specs.SchemaRules.{root_name_faults, root_faults, roots_faults, schema_definition_faults, directive_definitions_faults}
+use Rattle.gql_rules_types.specs.TypeRules.{types_faults}
 use Rattle.gql_schema_types.specs.Implementers.{is_object}
 use Rattle.gql_schema_types.specs.Schemas.{root_of, object_of}
 use Rattle.gql_schema_types.specs.Types.{type_called, as_object}

@@ -14,7 +14,7 @@ use Rattle.gql_document.specs.UndefinedRootOperation.{root_type}
 use Rattle.gql_document_types.specs.Spreads.{spread_graph, spreads_in, AreAcyclic}
 use Rattle.gql_document_types.specs.declared.document.ExecutableDocument.{ExecutableDocument}
 use Rattle.gql_document_types.specs.declared.fragment.Fragment.{Fragment}
-use Rattle.gql_collect.specs.Ranks.{AreRanked}
+use Rattle.gql_document_types.specs.Ranks.{AreRanked}
 use Rattle.gql_rules.specs.DocumentFaults.{AreDocumentFaults, AreFirstOrAll, AreOtherFaults}
 use Rattle.gql_rules_values.specs.Faults.{only_if}
 use Rattle.gql_rules_nodes.specs.RecursiveFragmentDefinition.{AreRecursive, long_from, recursive_fault, recursive_from}

@@ -22,8 +22,8 @@ use Rattle.gql_parser.specs.Readings.{IsSentenceWithin}
 use Rattle.gql_schema.specs.BuiltInSchema.{IsBuiltIn, built_in_sources}
 use Rattle.gql_schema.specs.Builders.{Taken, built, all_faults, nothing_taken}
 use Rattle.gql_schema_build.specs.declared.built_in.BuiltIn.{BuiltIn}
-use Rattle.gql_schema.specs.Scalars.{validated}
-use Rattle.gql_schema.specs.SchemaFaults.{AreSchemaFaults, HasListedAllFaults}
+use Rattle.gql_schema_rules.specs.Scalars.{validated}
+use Rattle.gql_schema_rules.specs.SchemaFaults.{AreSchemaFaults, HasListedAllFaults}
 use Rattle.gql_schema_types.specs.declared.schema.Schema.{Schema}
 use Rattle.gql_source.specs.File.{Files, joined}
 use Rattle.gql_parser.specs.SchemaAnswers.{IsBuildRead, IsBuiltBy, IsBuilt, IsUnbuilt, IsBuiltOf, IsReadOf, IsStoppedOf, HasTaken, IsRuled, IsSchemaRead, AreRulesBroken}

@@ -14,7 +14,7 @@ use Rattle.gql_parser.specs.Parsers.{ParserState, Given}
 use Rattle.gql_schema.specs.Builders as schema
 use Rattle.gql_schema.specs.BuiltInSchema.{IsBuiltIn}
 use Rattle.gql_schema_build.specs.declared.built_in.BuiltIn.{BuiltIn}
-use Rattle.gql_schema.specs.Scalars.{validated}
+use Rattle.gql_schema_rules.specs.Scalars.{validated}
 use Rattle.gql_schema_types.specs.declared.schema.Schema.{Schema}
 use Rattle.gql_source.specs.File.{Files}
 use Rattle.gql_parser.specs.MixedBuilt.{IsDocumentBuilt, IsDocumentRuled, IsSchemaBuilt}

@@ -11,7 +11,7 @@ use Rattle.gql_schema.specs.Builders as schema
 use Rattle.gql_schema.specs.BuiltInSchema.{IsBuiltIn}
 use Rattle.gql_schema_build.specs.declared.built_in.BuiltIn.{BuiltIn}
 use Rattle.gql_schema_types.specs.declared.schema.Schema.{Schema}
-use Rattle.gql_schema.specs.Scalars.{validated}
+use Rattle.gql_schema_rules.specs.Scalars.{validated}
 use Rattle.gql_parser.specs.MixedRead.{AreMixedFaults, IsHeld, document_taken, schema_taken}
 
 -- the schema of a file, and every fault of its build, in order

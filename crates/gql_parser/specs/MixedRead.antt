@@ -13,8 +13,8 @@ use Rattle.gql_rules.specs.DocumentFaults.{AreDocumentFaults, AreFirstOrAll}
 use Rattle.gql_schema.specs.Builders as schema
 use Rattle.gql_schema.specs.BuiltInSchema.{IsBuiltIn, built_in_sources}
 use Rattle.gql_schema_build.specs.declared.built_in.BuiltIn.{BuiltIn}
-use Rattle.gql_schema.specs.Scalars.{validated}
-use Rattle.gql_schema.specs.SchemaFaults.{AreSchemaFaults}
+use Rattle.gql_schema_rules.specs.Scalars.{validated}
+use Rattle.gql_schema_rules.specs.SchemaFaults.{AreSchemaFaults}
 use Rattle.gql_schema_types.specs.declared.schema.Schema.{Schema}
 use Rattle.gql_parser.specs.FileRead.{IsFileRead, no_faults}
 use Rattle.gql_parser.specs.Parsers.{ParserState, Given}

@@ -13,8 +13,8 @@ use Rattle.gql_parser.specs.Parsers.{its_file}
 use Rattle.gql_schema.specs.BuiltInSchema.{IsBuiltIn}
 use Rattle.gql_schema.specs.Builders.{Taken, built, all_faults}
 use Rattle.gql_schema_build.specs.declared.built_in.BuiltIn.{BuiltIn}
-use Rattle.gql_schema.specs.Scalars.{validated}
-use Rattle.gql_schema.specs.SchemaFaults.{AreSchemaFaults}
+use Rattle.gql_schema_rules.specs.Scalars.{validated}
+use Rattle.gql_schema_rules.specs.SchemaFaults.{AreSchemaFaults}
 use Rattle.gql_schema_types.specs.declared.schema.Schema.{Schema}
 use Rattle.gql_parser.specs.SchemaText.{AreDefinitions, SchemaText, all_of, its_given}
 use Rattle.gql_parser.specs.SchemaFaults.{SchemaFaults}

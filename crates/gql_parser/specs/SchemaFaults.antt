@@ -10,7 +10,7 @@ use Rattle.gql_parser.specs.Parsers.{its_file}
 use Rattle.gql_parser.specs.Sentences.{StopsAt}
 use Rattle.gql_schema.specs.BuiltInSchema.{built_in_sources}
 use Rattle.gql_schema.specs.Builders.{Taken, built, all_faults}
-use Rattle.gql_schema.specs.SchemaFaults.{AreSchemaFaults}
+use Rattle.gql_schema_rules.specs.SchemaFaults.{AreSchemaFaults}
 use Rattle.gql_parser.specs.SchemaText.{AreDefinitions, its_given}
 
 -- the file of the built-in definitions, and the text's

@@ -9,8 +9,8 @@ use Rattle.gql_parser.specs.Sentences.{IsSentence}
 use Rattle.gql_schema.specs.BuiltInSchema.{IsBuiltIn, built_in_sources}
 use Rattle.gql_schema.specs.Builders.{Taken, with_document, nothing_taken, built, all_faults}
 use Rattle.gql_schema_build.specs.declared.built_in.BuiltIn.{BuiltIn}
-use Rattle.gql_schema.specs.Scalars.{validated}
-use Rattle.gql_schema.specs.SchemaFaults.{AreSchemaFaults}
+use Rattle.gql_schema_rules.specs.Scalars.{validated}
+use Rattle.gql_schema_rules.specs.SchemaFaults.{AreSchemaFaults}
 use Rattle.gql_schema_types.specs.declared.schema.Schema.{Schema}
 
 -- the text as the file of number 3

@@ -16,11 +16,11 @@ ghost use Rattle.gql_parser.specs.SchemaText.{SchemaText};
 ghost use Rattle.gql_parser.specs.Selecting.{SelectSomething};
 ghost use Rattle.gql_document_types.specs.Spreads.{AreAcyclic};
 ghost use Rattle.gql_document_types.specs.declared.document.ExecutableDocument.{ExecutableDocument as DocumentOf};
-ghost use Rattle.gql_collect.specs.Ranks.{AreRanked};
+ghost use Rattle.gql_document_types.specs.Ranks.{AreRanked};
 ghost use Rattle.gql_schema.specs.BuiltInSchema.{IsBuiltIn, built_in_file};
 ghost use Rattle.gql_schema_build.specs.declared.built_in.BuiltIn.{BuiltIn};
-ghost use Rattle.gql_schema.specs.Scalars.{built_in_scalars};
-ghost use Rattle.gql_schema.specs.SchemaFaults.{AreSchemaFaults};
+ghost use Rattle.gql_schema_rules.specs.Scalars.{built_in_scalars};
+ghost use Rattle.gql_schema_rules.specs.SchemaFaults.{AreSchemaFaults};
 ghost use Rattle.gql_schema_types.specs.declared.schema.Schema.{Schema as SchemaOf};
 
 use gql_ast_laws::laws as tree_laws;

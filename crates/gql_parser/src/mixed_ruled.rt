@@ -6,12 +6,13 @@ ghost use Rattle.gql_diag.specs.Order.{list_order};
 ghost use Rattle.gql_diag_messages.specs.declared.diagnostic_data.DiagnosticData as item;
 ghost use Rattle.gql_parser.specs.MixedRead.{AreMixedFaults, AreRuleFaults, IsHeld};
 ghost use Rattle.gql_rules.specs.DocumentFaults.{AreDocumentFaults};
-ghost use Rattle.gql_schema.specs.Scalars.{validated};
+ghost use Rattle.gql_schema_rules.specs.Scalars.{validated};
 
 use gql_diag::DiagnosticList;
 use gql_document_types::ExecutableDocument;
 use gql_rules::validate_document;
-use gql_schema::{Schema, validate_schema};
+use gql_schema::Schema;
+use gql_schema_rules::validate_schema;
 use jb_text::Refused;
 use std::alloc::Global;
 

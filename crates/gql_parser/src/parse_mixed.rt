@@ -20,7 +20,7 @@ impl Parser {
     /// The schema and the executable document that one text means together: its definitions of a type system with the built-in
     /// ones, and its operations and fragments against these (GraphQL October 2021, sections 2, 3 and 5). The schema's files are the
     /// built-in one and the text's, which takes the next of the numbers; the document has the text's alone. Built-in scalars
-    /// are as [`validate_schema`](gql_schema::validate_schema) leaves them.
+    /// are as [`validate_schema`](gql_schema_rules::validate_schema) leaves them.
     ///
     /// The numbers stand one further afterwards, in any case. There must be one left.
     ///

@@ -9,7 +9,8 @@ ghost use Rattle.gql_parser.specs.SchemaAnswers.{HasTaken, IsBuildRead, IsBuiltB
 use crate::parser::Parser;
 use gql_ast::Document;
 use gql_diag::{DiagnosticData, DiagnosticList};
-use gql_schema::{SchemaBuilder, validate_schema};
+use gql_schema::SchemaBuilder;
+use gql_schema_rules::validate_schema;
 use gql_schema_types::Schema;
 use gql_source::{FileIds, SourceMap};
 use jb_text::{Memory, Refused};

@@ -1,7 +1,7 @@
 -- What a list has where memory ran out.
 use Rattle.std.proofs.Common.{◌≡◌, ◌⊎◌, inl, inr, Result, Ok, Err, OnErr, List}
 use Rattle.gql_diag_messages.specs.declared.diagnostic_data.DiagnosticData.{DiagnosticData}
-use Rattle.gql_schema.specs.Taken.{HasTakenSome, HasListedSome}
+use Rattle.gql_diag.specs.Taken.{HasTakenSome, HasListedSome}
 
 -- what has taken some of the faults lists some of them
 pub some_listed : (AreFaults : List DiagnosticData → Type 0) (faults old new : List DiagnosticData) → AreFaults faults → HasTakenSome old faults new

@@ -9,7 +9,7 @@ use Rattle.gql_rules_nodes.specs.SpreadFaults.{AreSpreadFaults}
 use Rattle.gql_rules_nodes.specs.UnusedFragment.{AreUnused}
 use Rattle.gql_rules_merging.specs.FieldSelectionMerging.{AreConflicts}
 use Rattle.gql_rules.specs.VariableFaults.{AreVariableFaults}
-use Rattle.gql_schema.specs.Taken.{HasListedSome}
+use Rattle.gql_diag.specs.Taken.{HasListedSome}
 use Rattle.gql_schema_types.specs.declared.schema.Schema.{Schema}
 
 -- What the rules say of a document whose spreads are right. Each of them stands alone: what one lists, no other leaves out.

@@ -5,7 +5,7 @@ use Rattle.gql_diag.specs.List.{IsStableSort}
 use Rattle.gql_diag.specs.Order.{list_order}
 use Rattle.gql_diag_messages.specs.declared.diagnostic_data.DiagnosticData.{DiagnosticData}
 use Rattle.gql_rules.specs.UntypedFaults.{AreUntypedFaults}
-use Rattle.gql_schema.specs.Taken.{HasListedSome}
+use Rattle.gql_diag.specs.Taken.{HasListedSome}
 
 -- a list that had the first diagnostics and now has the second, with all the faults of the document
 abbrev pub HasListedAllUntyped : Document → List DiagnosticData → List DiagnosticData → Type 0

@@ -5,8 +5,7 @@ ghost use Rattle.gql_rules.specs.StandaloneFaults.{HasListedAllUntyped, HasListe
 
 use crate::untyped_faults::list_untyped_faults;
 use gql_ast::Document;
-use gql_diag::DiagnosticList;
-use gql_schema::take_faults;
+use gql_diag::{DiagnosticList, take_faults};
 use jb_text::Memory;
 use std::alloc::Global;
 

@@ -4,9 +4,8 @@ ghost use Rattle.std.specs.Prelude.{◌≡◌, OnOk, OnErr};
 ghost use Rattle.gql_rules.specs.DocumentFaults.{HasListedAllFaults, HasListedSomeFaults};
 
 use crate::document_faults::document_faults;
-use gql_diag::DiagnosticList;
+use gql_diag::{DiagnosticList, take_faults};
 use gql_document_types::ExecutableDocument;
-use gql_schema::take_faults;
 use gql_schema_types::Schema;
 use jb_text::Memory;
 use std::alloc::Global;

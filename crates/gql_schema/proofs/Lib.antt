@@ -1,4 +1,3 @@
-pub mod Added
 pub mod Cut
 pub mod Types
 pub mod Known

@@ -1,10 +1,3 @@
-pub mod CycleFaults
-pub mod RecursiveDirectiveDefinition
-pub mod RecursiveInputObjectDefinition
-pub mod RecursiveInterfaceDefinition
-pub mod Scalars
-pub mod SchemaFaults
-pub mod Taken
 pub mod Rows
 pub mod BuiltInSchema
 pub mod Builders

@@ -1,4 +1,4 @@
-use Rattle.gql_collect.specs.Request.{asked_in}
+use Rattle.gql_request.specs.Request.{asked_in}
 use Rattle.gql_engine.proofs.Replies.{passed, wrong_schema}
 use Rattle.gql_engine.proofs.reply.checked.Goals as goal
 

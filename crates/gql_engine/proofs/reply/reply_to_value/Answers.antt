@@ -1,4 +1,4 @@
-use Rattle.gql_collect.specs.Request.{asked_in}
+use Rattle.gql_request.specs.Request.{asked_in}
 use Rattle.gql_engine.proofs.Replies.{refused_value, replied}
 use Rattle.gql_engine.proofs.reply.reply_to_value.Goals as goal
 

@@ -2,7 +2,7 @@ use Rattle.std.proofs.Common.{arith, ℕ, List, [], ◌∷◌}
 use Rattle.std.proofs.lemmas.List.{length-map}
 use Rattle.gql_document_types.specs.Spreads.{spreads_in, spread_graph}
 use Rattle.gql_document_types.specs.declared.fragment.Fragment.{Fragment}
-use Rattle.gql_collect.specs.Ranks.{AreRanked}
+use Rattle.gql_document_types.specs.Ranks.{AreRanked}
 use Rattle.gql_graph.specs.Ranks.{IsRanked}
 use Rattle.gql_exec_laws.proofs.Runs.{run-same, executed-alike}
 use Rattle.gql_exec_laws.proofs.laws.expansion_changes_nothing.Goals as goal

@@ -1,4 +1,4 @@
-use Rattle.gql_schema.specs.SchemaFaults.{AreSchemaFaults}
+use Rattle.gql_schema_rules.specs.SchemaFaults.{AreSchemaFaults}
 use Rattle.gql_parser.specs.MixedRead.{AreRuleFaults}
 use Rattle.gql_parser.proofs.Mixed.{broken, no_memory, none_listed, not_empty, settled_so, some_listed}
 use Rattle.gql_parser.proofs.mixed_ruled.check_rules.Goals as goal

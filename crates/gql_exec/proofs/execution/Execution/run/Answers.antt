@@ -1,6 +1,6 @@
 use Rattle.std.proofs.Common.{◌≡◌, ◌≤◌, ◌+◌, [], ◌∷◌, sym, subst}
 use Rattle.gql_document_types.specs.Spreads.{spread_graph}
-use Rattle.gql_collect.specs.Ranks.{AreRanked}
+use Rattle.gql_document_types.specs.Ranks.{AreRanked}
 use Rattle.gql_collect.specs.Collected.{sets_of}
 use Rattle.gql_collect.specs.Plan.{Ground, ArePartsOf, IsWithin, groups_in, most_looks}
 use Rattle.gql_collect.specs.Room.{HasRoom}

@@ -36,7 +36,7 @@ use Rattle.gql_exec_fields.proofs.Values.{meaning-leaf, meaning-object, meaning-
 use Rattle.gql_exec_fields.proofs.Ways.{item-place, item_in}
 use Rattle.gql_exec_fields.proofs.executing.Executing.+execute.Goals as goal
 use Rattle.gql_exec_fields.proofs.executing.Executing.+execute.Goals.{complete_items-in-Value+in_ok-add_item-in-Value, complete_items-in-LeftOut, execute_parts-in-Value+in_ok-add_member-in-Value, execute_parts-in-LeftOut}
-use Rattle.gql_collect.specs.Ranks.{AreRanked}
+use Rattle.gql_document_types.specs.Ranks.{AreRanked}
 use Rattle.gql_collect.specs.Plan.{Ground, ground_of, AreNodes, IsTyped, field_in, fields_in, groups_in, sets_below, group_in, most_looks}
 use Rattle.gql_collect.specs.Ways.{ways_to}
 use Rattle.gql_collect.proofs.Growing.{grows-none}

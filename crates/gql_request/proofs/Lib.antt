@@ -1,0 +1,10 @@
+mod Computed
+mod Query
+mod Schema
+mod BuiltIn
+mod Leaves
+mod Facts
+mod Documents
+mod Requests
+pub mod Ways
+mod Items

@@ -1,0 +1,6 @@
+pub mod CycleFaults
+pub mod RecursiveDirectiveDefinition
+pub mod RecursiveInputObjectDefinition
+pub mod RecursiveInterfaceDefinition
+pub mod Scalars
+pub mod SchemaFaults

@@ -1,9 +1,0 @@
-mod Computed
-mod Query
-mod Schema
-mod BuiltIn
-mod Leaves
-mod Facts
-mod Documents
-mod Requests
-pub mod Ways
