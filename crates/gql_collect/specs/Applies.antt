@@ -1,16 +1,13 @@
 -- Does a fragment's type condition hold of an object type? DoesFragmentTypeApply, section 6.3.2 of GraphQL October 2021.
 use Rattle.std.specs.Prelude.{ℕ, Bool, true, false, ◌||◌, List, Option, Some}
-use Rattle.std.specs.List.{list_any}
 use Rattle.std.specs.Option.{option_map_or}
 use Rattle.std.specs.Str.{bytes_eq}
 use Rattle.gql_ast_base.specs.Names.{Named}
+use Rattle.gql_schema_types.specs.Called.{is_among}
 use Rattle.gql_schema_types.specs.Types.{type_called}
 use Rattle.gql_schema_types.specs.declared.types.ExtendedType.{ExtendedType}
 use Rattle.gql_schema_types.specs.declared.types.ExtendedType.TheVariants.{Union}
 use Rattle.gql_schema_types.specs.declared.types.ObjectType.{ObjectType}
-
-abbrev pub is_among : List ℕ → List Named → Bool
-is_among name names = list_any (λ (other : Named). bytes_eq name other.text) names
 
 -- is this a union that has the type of the name?
 abbrev pub has_member : Option ExtendedType → List ℕ → Bool

@@ -4,23 +4,17 @@ use Rattle.std.specs.Option.{unwrap_or, option_and_then}
 use Rattle.std.specs.Str.{bytes_eq}
 use Rattle.std.specs.Map.{lookup}
 use Rattle.jb_tree.specs.declared.value.Value.{Value as JsonValue, Bool as JsonBool}
-use Rattle.gql_ast_base.specs.Names.{Named}
 use Rattle.gql_ast_base.specs.declared.directive.Argument.{Argument}
 use Rattle.gql_ast_base.specs.declared.directive.Directive.{Directive}
 use Rattle.gql_ast_base.specs.declared.value.Value.{Value}
 use Rattle.gql_ast_base.specs.declared.value.ValueKind.{ValueKind, out-ValueKind}
 use Rattle.gql_ast_base.specs.declared.value.ValueKind.TheOpen.{ValueKind-F}
+use Rattle.gql_schema_types.specs.Called.{argument_name, directive_name}
 use Rattle.gql_schema_types.specs.Entries.{entry}
 
 -- the values of an operation's variables, by their names
 abbrev pub Variables : Type 0
 Variables = List (List ℕ × JsonValue)
-
-abbrev pub directive_name : Directive → Named
-directive_name directive = directive.name
-
-abbrev pub argument_name : Argument → Named
-argument_name argument = argument.name
 
 -- what a JSON value says, where it is true or false
 abbrev pub told : Option JsonValue → Option Bool

@@ -5,7 +5,7 @@ ghost use Rattle.std.specs.Option.{option_copied};
 ghost use Rattle.gql_collect.specs.Applies as spec;
 
 use gql_ast_base::Name;
-use gql_schema_types::{ExtendedType, ObjectType, Table};
+use gql_schema_types::{ExtendedType, ObjectType, Table, is_among};
 
 /// Whether a fragment on the type of this name applies to the object type (GraphQL October 2021, section 6.3.2,
 /// DoesFragmentTypeApply): it is the type itself, an interface that the type lists, or a union that has it.
@@ -39,11 +39,4 @@ fn has_member(ty: Option<&ExtendedType>, name: &str) -> bool
         Some(ExtendedType::Union(union)) => is_among(name, union.members.as_slice()),
         _ => false,
     }
-}
-
-/// Whether one of these is the name.
-fn is_among(name: &str, names: &[Name]) -> bool
-    ensures { result ≡ spec.is_among name.now names.now }
-{
-    names.iter().any(|other| name == other.as_str())
 }

@@ -2,10 +2,10 @@
 
 ghost use Rattle.std.specs.Prelude.{◌≡◌};
 ghost use Rattle.std.specs.Option.{option_copied};
-ghost use Rattle.gql_schema_types.specs.Entries.{entry};
 ghost use Rattle.gql_collect.specs.Kept as spec;
 
-use gql_ast_base::{Argument, Directive, Value as Literal, ValueKind};
+use gql_ast_base::{Directive, Value as Literal, ValueKind};
+use gql_schema_types::{argument_called, directive_called};
 use jb_tree::{Map, Value};
 
 /// Whether a selection with these directives is kept (GraphQL October 2021, section 6.3.2): it is not where the `if` of
@@ -57,22 +57,4 @@ fn told(value: Option<&Value>) -> Option<bool>
         Some(Value::Bool(truth)) => Some(*truth),
         _ => None,
     }
-}
-
-/// The first of these directives that has the name.
-fn directive_called<'a>(name: &str, directives: &'a [Directive]) -> Option<&'a Directive>
-    ensures { option_copied result ≡ entry spec.directive_name name.now directives.now }
-{
-    directives
-        .iter()
-        .find(|directive| name == directive.name.as_str())
-}
-
-/// The first of these arguments that has the name.
-fn argument_called<'a>(name: &str, arguments: &'a [Argument]) -> Option<&'a Argument>
-    ensures { option_copied result ≡ entry spec.argument_name name.now arguments.now }
-{
-    arguments
-        .iter()
-        .find(|argument| name == argument.name.as_str())
 }

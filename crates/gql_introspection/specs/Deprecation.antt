@@ -9,14 +9,9 @@ use Rattle.gql_ast_base.specs.declared.directive.Directive.{Directive}
 use Rattle.gql_ast_base.specs.declared.value.Value.{Value}
 use Rattle.gql_ast_base.specs.declared.value.ValueKind.{ValueKind, out-ValueKind}
 use Rattle.gql_ast_base.specs.declared.value.ValueKind.TheOpen.{ValueKind-F}
+use Rattle.gql_schema_types.specs.Called.{argument_name, directive_name}
 use Rattle.gql_schema_types.specs.Entries.{entry}
 use Rattle.gql_schema_types.specs.declared.schema.Schema.{Schema}
-
-abbrev pub directive_name : Directive → Named
-directive_name directive = directive.name
-
-abbrev pub argument_name : Argument → Named
-argument_name argument = argument.name
 
 abbrev pub input_name : InputValueDefinition → Named
 input_name value = value.name

@@ -5,9 +5,9 @@ ghost use Rattle.std.specs.Option.{option_copied};
 ghost use Rattle.gql_schema_types.specs.Entries.{entry};
 ghost use Rattle.gql_introspection.specs.Deprecation as spec;
 
-use gql_ast_base::{Argument, Directive, Value, ValueKind};
+use gql_ast_base::{Directive, Value, ValueKind};
 use gql_ast_definitions::{DirectiveDefinition, InputValueDefinition};
-use gql_schema_types::Schema;
+use gql_schema_types::{Schema, argument_called, directive_called};
 
 /// Whether `@deprecated` is among the directives (GraphQL October 2021, section 3.13.3).
 pub(crate) fn is_deprecated(directives: &[Directive]) -> bool
@@ -88,24 +88,6 @@ fn text_of(value: &Value) -> Option<&str>
         ValueKind::String(text) => Some(text.as_str()),
         _ => None,
     }
-}
-
-/// The first of these directives that has the name.
-fn directive_called<'s>(name: &str, directives: &'s [Directive]) -> Option<&'s Directive>
-    ensures { option_copied result ≡ entry spec.directive_name name.now directives.now }
-{
-    directives
-        .iter()
-        .find(|directive| name == directive.name.as_str())
-}
-
-/// The first of these arguments that has the name.
-fn argument_called<'s>(name: &str, arguments: &'s [Argument]) -> Option<&'s Argument>
-    ensures { option_copied result ≡ entry spec.argument_name name.now arguments.now }
-{
-    arguments
-        .iter()
-        .find(|argument| name == argument.name.as_str())
 }
 
 /// The first of these definitions of arguments that has the name.

@@ -2,9 +2,6 @@
 
 ghost use Rattle.std.specs.Prelude.{◌≡◌, ◌++◌, [], ◌∷◌, OnOk, if◌then◌else◌};
 ghost use Rattle.std.specs.Option.{option_copied};
-ghost use Rattle.std.specs.List.{list_any};
-ghost use Rattle.std.specs.Str.{bytes_eq};
-ghost use Rattle.gql_ast_base.specs.Names.{Named as NameSeen};
 ghost use Rattle.gql_resolvers.specs.Resolved.{gives_object};
 ghost use Rattle.gql_introspection.specs.Items.{answers_in};
 ghost use Rattle.gql_introspection.specs.Meta as meta;
@@ -18,9 +15,8 @@ use crate::leaves::{description_or_null, name_leaf, null_leaf, text_leaf, text_o
 use crate::meta_object::MetaObject;
 use crate::named_types::named_types;
 use crate::shown::kept;
-use gql_ast_base::Name;
 use gql_resolvers::ResolvedValue;
-use gql_schema_types::{ExtendedType, Named, Schema, Valid};
+use gql_schema_types::{ExtendedType, Named, Schema, Valid, is_among};
 use jb_text::{Memory, Text};
 use std::alloc::Global;
 
@@ -165,13 +161,6 @@ fn is_implementing(interface: &str, ty: &ExtendedType) -> bool
         ExtendedType::Object(it) => is_among(interface, it.implements_interfaces.as_slice()),
         _ => false,
     }
-}
-
-/// Whether one of these is the name.
-fn is_among(name: &str, names: &[Name]) -> bool
-    ensures { result ≡ list_any (λ (other : NameSeen). bytes_eq name.now other.text) names.now }
-{
-    names.iter().any(|other| name == other.as_str())
 }
 
 /// The values of an enum, or null for another kind.

@@ -1,6 +1,5 @@
 -- What is wrong with an answer of a resolver at a type, its parts aside: CompleteValue, section 6.4.3 of GraphQL October 2021.
 use Rattle.std.specs.Prelude.{ℕ, ℤ, Bool, true, false, if◌then◌else◌, List, Option, Some, None, codes}
-use Rattle.std.specs.List.{list_any}
 use Rattle.std.specs.Str.{bytes_eq}
 use Rattle.jb_tree.specs.declared.value.Value.{Value}
 use Rattle.jb_tree.specs.Value.{is_null, whole_number}
@@ -8,6 +7,7 @@ use Rattle.gql_ast_base.specs.Names.{Named}
 use Rattle.gql_ast_base.specs.declared.type_ref.TypeRef.{TypeRef}
 use Rattle.gql_ast_definitions.specs.declared.field_definition.EnumValueDefinition.{EnumValueDefinition}
 use Rattle.gql_ast_base.specs.TypeParts.{named_type, is_non_null}
+use Rattle.gql_schema_types.specs.Called.{is_among}
 use Rattle.gql_schema_types.specs.Schemas.{object_of, type_named}
 use Rattle.gql_schema_types.specs.declared.schema.Schema.{Schema}
 use Rattle.gql_schema_types.specs.declared.types.ExtendedType.{ExtendedType}
@@ -76,9 +76,6 @@ abbrev pub list_misfit : TypeRef → Option Misfit
 list_misfit ty = unless (is_list ty) (wrong (message.list_at_other ty))
 
 -- ---- Objects, by the names of their types
-
-abbrev pub is_among : List ℕ → List Named → Bool
-is_among name names = list_any (λ (other : Named). bytes_eq name other.text) names
 
 -- at the interface T: the object type that the object names lists it
 abbrev pub implementing_misfit : Option ObjectType → List ℕ → List ℕ → Option Misfit

@@ -12,7 +12,7 @@ use crate::messages::{
 };
 use crate::misfit::{Misfit, refuse, suspect, wrong};
 use gql_ast_base::{Name, TypeRef};
-use gql_schema_types::{ExtendedType, ObjectType, Schema};
+use gql_schema_types::{ExtendedType, ObjectType, Schema, is_among};
 use jb_text::{Listed, Memory, Refused};
 use std::alloc::Global;
 
@@ -104,11 +104,4 @@ fn member<'s>(
         Some(it) if is_among(found, members.as_slice()) => Ok(it),
         Some(_) => refuse(no_member(alloc, found, name)),
     }
-}
-
-/// Whether one of these is the name.
-fn is_among(name: &str, names: &[Name]) -> bool
-    ensures { result ≡ spec.is_among name.now names.now }
-{
-    names.iter().any(|other| name == other.as_str())
 }

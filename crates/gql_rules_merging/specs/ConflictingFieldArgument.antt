@@ -3,18 +3,15 @@
 use Rattle.std.specs.Prelude.{Bool, not, false, ◌&&◌, ◌==◌, List, [], ◌∷◌, length}
 use Rattle.std.specs.List.{list_all}
 use Rattle.std.specs.Option.{option_map_or}
-use Rattle.gql_ast_base.specs.Names.{Named}
 use Rattle.gql_ast_base.specs.declared.directive.Argument.{Argument}
 use Rattle.gql_diag_messages.specs.declared.rule.Rule.TheVariants.{ConflictingFieldArgument}
 use Rattle.gql_diag_messages.specs.declared.diagnostic_data.DiagnosticData.{DiagnosticData}
 use Rattle.gql_rules_values.specs.Faults.{fault}
+use Rattle.gql_schema_types.specs.Called.{argument_name}
 use Rattle.gql_schema_types.specs.Entries.{entry}
 use Rattle.gql_rules_merging.specs.Numbering.{Selected}
 use Rattle.gql_rules_merging.specs.ResponseKeys.{key_of}
 use Rattle.gql_rules_merging.specs.SameValue.{same_value}
-
-abbrev pub argument_name : Argument → Named
-argument_name argument = argument.name
 
 -- an argument has the value of the first of its name
 abbrev pub is_given : List Argument → Argument → Bool

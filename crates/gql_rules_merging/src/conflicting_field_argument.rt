@@ -2,8 +2,6 @@
 
 ghost use Rattle.std.specs.Prelude.{◌≡◌, ◌++◌, ◌∷◌, [], OnOk};
 ghost use Rattle.std.specs.List.{list_all};
-ghost use Rattle.std.specs.Option.{option_copied};
-ghost use Rattle.gql_schema_types.specs.Entries.{entry};
 ghost use Rattle.gql_rules_merging.specs.ConflictingFieldArgument as spec;
 ghost use Rattle.gql_rules_merging.specs.Gathering.{selected_of};
 
@@ -12,6 +10,7 @@ use crate::same_value::same_value;
 use gql_ast_base::Argument;
 use gql_diag_messages::{DiagnosticData, Rule};
 use gql_rules_values::list_fault;
+use gql_schema_types::argument_called;
 use jb_text::{Listed, Memory};
 use std::alloc::Global;
 
@@ -43,19 +42,10 @@ fn are_given(others: &[Argument], arguments: &[Argument]) -> bool
 fn is_given(others: &[Argument], argument: &Argument) -> bool
     ensures { result ≡ spec.is_given others.now argument.now }
 {
-    match argument_called(others, argument.name.as_str()) {
+    match argument_called(argument.name.as_str(), others) {
         Some(other) => same_value(&argument.value, &other.value),
         None => false,
     }
-}
-
-/// The first of these arguments that has the name.
-fn argument_called<'a>(arguments: &'a [Argument], name: &str) -> Option<&'a Argument>
-    ensures { option_copied result ≡ entry spec.argument_name name.now arguments.now }
-{
-    arguments
-        .iter()
-        .find(|argument| name == argument.name.as_str())
 }
 
 /// Lists that two fields have different arguments.

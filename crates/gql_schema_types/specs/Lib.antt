@@ -1,3 +1,4 @@
+pub mod Called
 pub mod Entries
 pub mod Implementers
 pub mod MetaFields

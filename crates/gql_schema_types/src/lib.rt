@@ -5,6 +5,7 @@
 //! to each type ([`MetaFields`]) too, and [`Schema::implementers_map`] says which types implement an interface.
 #![tactic(auto)]
 
+mod called;
 mod implementers;
 mod meta_fields;
 mod named;
@@ -14,6 +15,7 @@ mod table;
 mod types;
 mod valid;
 
+pub use called::{argument_called, directive_called, is_among};
 pub use implementers::{Implementers, ImplementersMap};
 pub use meta_fields::MetaFields;
 pub use named::Named;
