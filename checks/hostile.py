@@ -11,6 +11,7 @@ import subprocess
 import sys
 
 from shared.hostile_requests import ANSWERED, REFUSED, REQUESTS, changed, cut, fields, large, of_some_size
+from shared.hostile_texts import texts
 from shared.trying import PATIENCE, built, try_cases
 
 NO_MEMORY, SOURCE_FAILED, SINK_FAILED = 3, 4, 5
@@ -30,7 +31,9 @@ def engine_cases(step):
     yield from cut(step)
     yield from changed(step)
     # `rt try` cuts an output of more than a MiB off.
-    yield from large(100_000 if built("gql_program") else 50_000)
+    count = 100_000 if built("gql_program") else 50_000
+    yield from large(count)
+    yield from texts(count)
 
 
 def syntax_cases():
