@@ -25,7 +25,7 @@ or_true : (a b c : Bool) → (b ≡ true → c ≡ true) → (a || b) ≡ true �
 or_true true b c f h = refl
 or_true false b c f h = f h
 
-begins-append : (a b : List Symbol) (w : Word) → begins a w ≡ true → begins (a ++ b) w ≡ true
+pub begins-append : (a b : List Symbol) (w : Word) → begins a w ≡ true → begins (a ++ b) w ≡ true
 begins-append [] b w h = cc
 begins-append (Token t ∷ a) b w h = h
 begins-append (One r ∷ a) b w h = h
@@ -35,7 +35,7 @@ begins-append (Eager r ∷ a) b w h = or_true (starts r w) _ _ (begins-append a 
 begins-append (Wrap k ∷ a) b w h = begins-append a b w h
 begins-append (Close k ∷ a) b w h = begins-append a b w h
 
-way_begins : (r : Rule) (w : Word) (a : List Symbol) → way r w ≡ Some a → begins a w ≡ true
+pub way_begins : (r : Rule) (w : Word) (a : List Symbol) → way r w ≡ Some a → begins a w ≡ true
 way_begins r w a h =
     let p = way-some r w a h in
     subst (λ (x : List Symbol). begins x w ≡ true) p.1 (implied (starts r) (λ v. begins (chosen_way r v) v) (begins_ok r) w p.0)
@@ -47,7 +47,7 @@ Opens w d (taken s) = Unit {0}
 Opens w d (refused s) = s.deepest ≡ d
 Opens w d (finished s) = s.deepest ≡ d
 
-entered_begins : (k : Option SyntaxKind) (a : List Symbol) (s : State) (w : Word) → begins a w ≡ true → begins (entered k a s).stack w ≡ true
+pub entered_begins : (k : Option SyntaxKind) (a : List Symbol) (s : State) (w : Word) → begins a w ≡ true → begins (entered k a s).stack w ≡ true
 entered_begins None a s w h = begins-append a s.stack w h
 entered_begins (Some k) a s w h = begins-append a _ w h
 
@@ -75,7 +75,7 @@ turn_opens w (Wrap k ∷ stack) s = inr refl
 turn_opens w (Close k ∷ stack) s = inr (closed_same k s.rows (record s { stack = stack }))
 
 -- a word that the stack begins with is not refused
-abbrev Goes : Word → Turned → Type 0
+abbrev pub Goes : Word → Turned → Type 0
 Goes w (again s) = begins s.stack w ≡ true
 Goes w (taken s) = Unit {0}
 Goes w (refused s) = ⊥
@@ -112,7 +112,7 @@ turn_goes w (Repeated r ∷ stack) s h = enter_goes (way r w) (kind_of r) _ w _ 
 turn_goes w (Wrap k ∷ stack) s h = h
 turn_goes w (Close k ∷ stack) s h = closed_goes k s.rows (record s { stack = stack }) w h
 
-settles_goes : (w : Word) (s : State) (end : Turned) → begins s.stack w ≡ true → Settles (Some w) s end → Goes w end
+pub settles_goes : (w : Word) (s : State) (end : Turned) → begins s.stack w ≡ true → Settles (Some w) s end → Goes w end
 settles_goes w s _ h (takes_it e) = tt
 settles_goes w s _ h (refuses_it e) = subst (λ (t : Turned). Goes w t) e (turn_goes w s.stack s h)
 settles_goes w s _ h (finishes e) = subst (λ (t : Turned). Goes w t) e (turn_goes w s.stack s h)

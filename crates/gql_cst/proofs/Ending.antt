@@ -13,17 +13,20 @@ use Rattle.gql_cst.specs.declared.machine.Machine.{Machine}
 use Rattle.gql_cst.specs.declared.parser.Parser.{Parser}
 use Rattle.gql_cst.specs.declared.tree.Tree.{Tree}
 use Rattle.gql_cst.specs.Forest.{Plain, plain, nothing}
-use Rattle.gql_cst.specs.Leaves.{Leaf, ignored, leaves_of, IsLeaf}
+use Rattle.gql_grammar.specs.declared.syntax_kind.SyntaxKind.{SyntaxKind}
+use Rattle.gql_cst.specs.Leaves.{Part, word, ignored, node, part_of, Leaf, leaves_of, IsLeaf}
 use Rattle.gql_cst.specs.Nesting.{nesting_of}
 use Rattle.gql_grammar.specs.declared.symbol.Symbol.{Symbol}
 use Rattle.gql_grammar.specs.declared.symbol.Symbol.TheVariants.{Token, One, Optional, Repeated, Eager, Wrap, Close}
 use Rattle.gql_cst.specs.Machine.{State, Turned, closed_in, turned_at, Settles, takes_it, refuses_it, finishes, later, Judges, told, grown}
 use Rattle.gql_cst.specs.Held.{state}
-use Rattle.gql_cst.specs.Sound.{IsSound}
+use Rattle.gql_cst.specs.Sound.{is_node, IsSound}
+use Rattle.gql_cst.specs.Spans.{Spans, AllSpanIn}
 use Rattle.gql_cst.specs.Outcome.{IsWithin}
 use Rattle.gql_cst.specs.Progress.{IsRead, IsUnderway, HasStopped, SameText, word_leaf}
 use Rattle.std.proofs.lemmas.List.{map-append}
 use Rattle.gql_cst.proofs.Rows.{nesting_of-append}
+use Rattle.gql_cst.proofs.Spans.{spans-append}
 use Rattle.gql_cst.proofs.Sounds.{Keeps, state_of, along, judges_keep, grown_keeps}
 use Rattle.gql_cst.proofs.Held.{held, tiles-then, held-keeps, held-ignored, held-grown}
 
@@ -42,6 +45,7 @@ limit_stops p range h l = record {
   tiles = h.tiles;
   sound = h.sound;
   flat = h.flat;
+  spans = h.spans;
   stops = (inr (l, h.counted), h.within);
 }
 
@@ -51,6 +55,7 @@ limit_ends p h = record {
   tiles = h.tiles;
   sound = h.sound;
   flat = h.flat;
+  spans = h.spans;
   stops = (inl ((refl, refl, refl), h.counted), h.within);
 }
 
@@ -60,14 +65,14 @@ pub judged : (p : Parser) (m : Machine) (b : Bool) (t : Turn) (next : Option Wor
 judged p m b t next place h j =
     let k = keeps_told p.start next p.begun t (state p.machine) (state m) h.sound j in
     let e = held-keeps (state p.machine) (state m) (map plain p.ignored.items) k in
-    record { tiles = rw e h.tiles; counted = rw e h.counted; within = h.within; sound = k.sound; flat = h.flat }
+    record { tiles = rw e h.tiles; counted = rw e h.counted; within = h.within; sound = k.sound; flat = h.flat; spans = h.spans }
 
 pub judged_end : (p : Parser) (m : Machine) (b : Bool) (t : Turn) (place : ℕ) → IsRead p place
     → Judges p.start None p.begun (state p.machine) (told t (state m)) → IsRead (record p { machine = m; begun = b }) place
 judged_end p m b t place h j =
     let k = keeps_told p.start None p.begun t (state p.machine) (state m) h.sound j in
     let e = held-keeps (state p.machine) (state m) (map plain p.ignored.items) k in
-    record { tiles = rw e h.tiles; counted = rw e h.counted; within = h.within; sound = k.sound; flat = h.flat }
+    record { tiles = rw e h.tiles; counted = rw e h.counted; within = h.within; sound = k.sound; flat = h.flat; spans = h.spans }
 
 pub bad_stops : (p : Parser) (range : Range ℕ) → IsUnderway p range.start → IsLeaf p.text.now range.start (word_leaf range)
     → HasStopped p range.start (Some (Syntax BadToken range))
@@ -75,11 +80,24 @@ bad_stops p range h l = record {
   tiles = h.tiles;
   sound = h.sound;
   flat = h.flat;
+  spans = h.spans;
   stops = ((l, h.counted), h.within);
 }
 
 length-one : (ls : List Leaf) (l : Leaf) → length (ls ++ (l ∷ [])) ≡ length ls + 1
 length-one ls l = omega (arith, length-append ls (l ∷ []))
+
+-- a token has no children
+pub spans-then : (trees : List Plain) (t : Plain) (k : SyntaxKind) (range : Range ℕ) → AllSpanIn trees → t ≡ record { kind = k; start = range.start; end = range.end; children = nothing }
+    → is_node (part_of k) ≡ false → AllSpanIn (trees ++ (t ∷ []))
+spans-then trees t k range h e token =
+    let leaf : Plain = record { kind = k; start = range.start; end = range.end; children = nothing } in
+    spans-append trees (t ∷ []) h (subst (λ (u : Plain). AllSpanIn (u ∷ [])) (sym e) (bare (part_of k) token, (tt, tt)))
+  where
+    bare : (p : Part) → is_node p ≡ false → Spans p range.start range.end nothing
+    bare word h = refl
+    bare ignored h = refl
+    bare node h = cc
 
 -- a word was taken
 pub takes_word : (p q : Parser) (tree : Tree) (range : Range ℕ) → IsUnderway p range.start → IsLeaf p.text.now range.start (word_leaf range)
@@ -98,8 +116,9 @@ takes_word p q tree range h l e g none =
       tiles = rw f (tiles-then p.text.now 0 (held (state p.machine) ignored) range.start leaf h.tiles l);
       counted = rw f (h.counted ∙ sym (length-one (held (state p.machine) ignored) leaf));
       within = h.within;
-      sound = subst (λ (s : State). IsSound s) (sym g) (grown_keeps trees (state p.machine) flat h.sound);
+      sound = subst (λ (s : State). IsSound s) (sym g) (grown_keeps trees (state p.machine) flat (spans-then ignored (plain tree) kind.Token range h.spans e refl) h.sound);
       flat = ap (λ i. nesting_of (map plain i)) none;
+      spans = subst (λ (i : List Tree). AllSpanIn (map plain i)) (sym none) tt;
     }
 
 -- an ignored token was read
@@ -120,6 +139,7 @@ passes_ignored p q tree range n h l e more counted within =
       within = within;
       sound = h.sound;
       flat = ap nesting_of m ∙ none_more;
+      spans = subst (λ (ts : List Plain). AllSpanIn ts) (sym m) (spans-then old (plain tree) kind.Ignored range h.spans e refl);
     }
 
 -- ---- the end of the text
@@ -158,6 +178,7 @@ ends_at p m b t h j =
       tiles = r.tiles;
       sound = r.sound;
       flat = r.flat;
+      spans = r.spans;
       stops = (refl, r.counted, r.within);
     }
 
@@ -166,7 +187,7 @@ pub cut_at : (p : Parser) (m : Machine) (b : Bool) (t : Turn) → IsRead p (leng
     → HasStopped (record p { machine = m; begun = b }) (length p.text.now) (Some (Syntax EndOfText (record { start = length p.text.now; end = length p.text.now })))
 cut_at p m b t h j =
     let e = ends_at p m b t h j in
-    record { tiles = e.tiles; sound = e.sound; flat = e.flat; stops = (((refl, refl, refl), e.stops.1), e.stops.2) }
+    record { tiles = e.tiles; sound = e.sound; flat = e.flat; spans = e.spans; stops = (((refl, refl, refl), e.stops.1), e.stops.2) }
 
 -- what changed is the machine, and whether the rule of the whole text has begun
 abbrev pub Moved : Parser → Parser → Type 0

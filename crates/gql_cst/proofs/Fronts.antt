@@ -18,6 +18,7 @@ use Rattle.gql_grammar.specs.Row.{Row, joined, with_leaf, with_node, level}
 use Rattle.gql_grammar.proofs.Turns.{Sentence-ends}
 use Rattle.gql_grammar.proofs.Rooted.{closes-more}
 use Rattle.gql_cst.specs.Forest.{Plain}
+use Rattle.gql_cst.specs.Late.{is_late}
 use Rattle.gql_cst.specs.Leaves.{part_of}
 use Rattle.gql_cst.specs.Levels.{raised, levels, AreLevels}
 use Rattle.gql_cst.specs.Machine.{State, node_of, ended, all_ended}
@@ -151,10 +152,10 @@ made_flat : (ss : List Symbol) (k : SyntaxKind) → list_all makes_node ss ≡ t
 made_flat [] k h = refl
 made_flat (Close j ∷ ss) k h = made_flat ss k (both (is_node (part_of j)) _ h).1
 made_flat (Wrap j ∷ ss) k h =
-    let p = both (is_node (part_of j) && level j == 0) (list_all makes_node ss) h in
-    let q = both (is_node (part_of j)) (level j == 0) p.0 in
+    let p = both (is_node (part_of j) && (level j == 0 && is_late j)) (list_all makes_node ss) h in
+    let q = both (level j == 0) (is_late j) (both (is_node (part_of j)) _ p.0).1 in
     let more = made_flat ss k p.1 in
-    rw (q.1, more) refl
+    rw (q.0, more) refl
 made_flat (Token t ∷ ss) k h = made_flat ss k h
 made_flat (One r ∷ ss) k h = made_flat ss k h
 made_flat (Optional r ∷ ss) k h = made_flat ss k h
@@ -173,7 +174,7 @@ ended-up text k (Close j ∷ stack) trees (outer ∷ rows) root h e =
     let even : closes stack ≡ length rows = omega (arith, e) in
     let more = ended-up text k stack (outer ++ (node_of j trees ∷ [])) rows root p.1 even in
     subst (λ (x : Row). levels (up (stack ++ (Close k ∷ [])) x (map (shown_of text) rows ++ (row.nothing ∷ []))) ≡ around text (ended stack (outer ++ (node_of j trees ∷ [])) rows)) same more
-ended-up text k (Wrap j ∷ stack) trees rows root h e = ended-up text k stack trees rows root (both (is_node (part_of j) && level j == 0) (list_all makes_node stack) h).1 e
+ended-up text k (Wrap j ∷ stack) trees rows root h e = ended-up text k stack trees rows root (both (is_node (part_of j) && (level j == 0 && is_late j)) (list_all makes_node stack) h).1 e
 ended-up text k (Token t ∷ stack) trees rows root h e = ended-up text k stack trees rows root h e
 ended-up text k (One r ∷ stack) trees rows root h e = ended-up text k stack trees rows root h e
 ended-up text k (Optional r ∷ stack) trees rows root h e = ended-up text k stack trees rows root h e

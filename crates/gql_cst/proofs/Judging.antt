@@ -24,17 +24,21 @@ use Rattle.gql_cst.specs.declared.turn.Turn.TheVariants as turn
 use Rattle.gql_cst.specs.declared.machine.Machine.{Machine}
 use Rattle.gql_cst.specs.declared.parser.Parser.{Parser}
 use Rattle.gql_cst.specs.declared.tree.Tree.{Tree}
-use Rattle.gql_cst.specs.Forest.{plain, nothing}
+use Rattle.gql_cst.specs.Cut.{is_filled, IsCut}
+use Rattle.gql_cst.specs.Forest.{Plain, plain, nothing}
 use Rattle.gql_cst.specs.Leaves.{Leaf, leaves_of}
 use Rattle.gql_cst.specs.Held.{state}
-use Rattle.gql_cst.specs.Judged.{words_of, word_in, IsStood, IsJudged}
+use Rattle.gql_cst.specs.Judged.{words_of, word_in, IsFilled, IsStood, IsJudged}
 use Rattle.gql_cst.specs.Machine.{State, Turned, again, taken, refused, finished, Settles, takes_it, refuses_it, finishes, later, Begins, Judges, told, ended, all_ended, grown}
+use Rattle.gql_cst.specs.Progress.{trees}
 use Rattle.gql_cst.specs.Sentences.{words, own_word, shown_of, root_kind, Stood}
 use Rattle.gql_cst.specs.Sound.{IsSound}
 use Rattle.gql_cst.specs.Words.{word_of}
 use Rattle.gql_cst.proofs.Ending.{Moved, keeps_told}
 use Rattle.gql_cst.proofs.Held.{held, held-keeps, held-ignored, held-grown}
 use Rattle.gql_cst.proofs.Begun.{Closed, judges_closed}
+use Rattle.gql_cst.proofs.Cutting.{CutAt, CutTold, stood_cut, judges_cut}
+use Rattle.gql_cst.proofs.Cuts.{filled_leaf}
 use Rattle.gql_cst.proofs.Deeper.{deeper}
 use Rattle.gql_cst.proofs.Shown.{shown_of-append}
 use Rattle.gql_cst.proofs.Verdicts.{Verdict, judges_verdict}
@@ -65,26 +69,41 @@ begins_at start text false s before h stood = subst (λ (ws : List Word). IsBegi
 pub begins : (p : Parser) → IsStood p → IsBeginning p.start (words_of p)
 begins p h = begins_at p.start p.text.now p.begun (state p.machine) (words_of p) h.starts h.stood
 
+with_ignored : (start : Rule) (text : List ℕ) (s : State) (ignored : List Plain) (before : List Word) → shown_of text ignored ≡ row.nothing
+    → CutAt start text before s → IsCut start before (shown_of text (all_ended s ++ ignored))
+with_ignored start text s ignored before hidden c =
+    let trees = all_ended s in
+    let same : shown_of text (trees ++ ignored) ≡ shown_of text trees =
+    shown_of-append text trees ignored ∙ ap (λ x. joined (shown_of text trees) x) hidden ∙ joined-nothing (shown_of text trees) in
+    subst (λ (x : Row). IsCut start before x) (sym same) c
+
+-- its trees are those of a sentence, cut there
+pub cuts : (p : Parser) → IsSound (state p.machine) → IsStood p → IsCut p.start (words_of p) (shown_of p.text.now (trees p))
+cuts p sound h =
+    with_ignored p.start p.text.now (state p.machine) (map plain p.ignored.items) (words_of p) h.hidden
+    (stood_cut p.start p.text.now p.begun (state p.machine) (words_of p) h.starts sound h.filled h.stood)
+
 pub limit_judged : (p : Parser) (range : Range ℕ) → IsSound (state p.machine) → IsStood p → p.limits.recursion < p.machine.deepest → IsJudged p (Some (RecursionLimit range))
 limit_judged p range sound h past = record {
   begins = begins p h;
+  cut = cuts p sound h;
   judged = λ more other d.
       omega (arith, past, deeper p.start p.text.now p.begun (state p.machine) (words_of p) sound h.stood more other d);
 }
 
-pub token_limit_judged : (p : Parser) (n : ℕ) (range : Range ℕ) → IsStood p → IsJudged (record p { tokens = n }) (Some (TokenLimit range))
-token_limit_judged p n range h = record { begins = begins p h; judged = tt }
+pub token_limit_judged : (p : Parser) (n : ℕ) (range : Range ℕ) → IsSound (state p.machine) → IsStood p → IsJudged (record p { tokens = n }) (Some (TokenLimit range))
+token_limit_judged p n range sound h = record { begins = begins p h; cut = cuts p sound h; judged = tt }
 
 -- a fault of the text itself
-pub fault_judged : (p : Parser) (old new : Reading) (error : CstError) → IsStood p → ReadsError old new error → IsJudged p (Some error)
-fault_judged p old new (Syntax BadCharacter range) h f = record { begins = begins p h; judged = tt }
-fault_judged p old new (Syntax OpenString range) h f = record { begins = begins p h; judged = tt }
-fault_judged p old new (Syntax BadEscape range) h f = record { begins = begins p h; judged = tt }
-fault_judged p old new (Syntax BadNumber range) h f = record { begins = begins p h; judged = tt }
-fault_judged p old new (Syntax EndOfText range) h f = absurd f.stands
-fault_judged p old new (Syntax BadToken range) h f = absurd f.stands
-fault_judged p old new (RecursionLimit range) h f = absurd f
-fault_judged p old new (TokenLimit range) h f = absurd f
+pub fault_judged : (p : Parser) (old new : Reading) (error : CstError) → IsSound (state p.machine) → IsStood p → ReadsError old new error → IsJudged p (Some error)
+fault_judged p old new (Syntax BadCharacter range) sound h f = record { begins = begins p h; cut = cuts p sound h; judged = tt }
+fault_judged p old new (Syntax OpenString range) sound h f = record { begins = begins p h; cut = cuts p sound h; judged = tt }
+fault_judged p old new (Syntax BadEscape range) sound h f = record { begins = begins p h; cut = cuts p sound h; judged = tt }
+fault_judged p old new (Syntax BadNumber range) sound h f = record { begins = begins p h; cut = cuts p sound h; judged = tt }
+fault_judged p old new (Syntax EndOfText range) sound h f = absurd f.stands
+fault_judged p old new (Syntax BadToken range) sound h f = absurd f.stands
+fault_judged p old new (RecursionLimit range) sound h f = absurd f
+fault_judged p old new (TokenLimit range) sound h f = absurd f
 
 -- ---- a judged word
 
@@ -115,6 +134,22 @@ refuses start k text before w turn.Taken s end not v = absurd (not refl)
 refuses start k text before w turn.Refused s end not v = v
 refuses start k text before w turn.Finished s end not v = v
 
+told_cut : (start : Rule) (text : List ℕ) (before : List Word) (t : Turn) (s : State) → IsEnd (told t s) → (t ≡ turn.Taken → ⊥) → CutTold start text before (told t s)
+    → CutAt start text before s
+told_cut start text before turn.Again s end not c = absurd end
+told_cut start text before turn.Taken s end not c = absurd (not refl)
+told_cut start text before turn.Refused s end not c = c
+told_cut start text before turn.Finished s end not c = c
+
+-- the trees are cut where they were, also behind the nodes that ended
+judged_cuts : (p : Parser) (m : Machine) (t : Turn) (next : Option Word) → IsSound (state p.machine) → IsStood p → (t ≡ turn.Taken → ⊥)
+    → Judges p.start next p.begun (state p.machine) (told t (state m)) → IsCut p.start (words_of p) (shown_of p.text.now (all_ended (state m) ++ map plain p.ignored.items))
+judged_cuts p m t next sound h not j =
+    let end = told t (state m) in
+    with_ignored p.start p.text.now (state m) (map plain p.ignored.items) (words_of p) h.hidden
+    (told_cut p.start p.text.now (words_of p) t (state m) (judges_end p.start next p.begun (state p.machine) end j) not
+    (judges_cut p.start p.text.now next p.begun (state p.machine) (words_of p) end h.starts sound h.filled h.stood j))
+
 bad_at : (p : Parser) (m : Machine) (b : Bool) (t : Turn) (w : Word) (range : Range ℕ) → IsSound (state p.machine) → IsStood p → w ≡ word_in p.text.now range
     → (t ≡ turn.Taken → ⊥) → Judges p.start (Some w) p.begun (state p.machine) (told t (state m)) → IsJudged (record p { machine = m; begun = b }) (Some (Syntax BadToken range))
 bad_at p m b t w range sound h is not j =
@@ -126,6 +161,7 @@ bad_at p m b t w range sound h is not j =
     ap (λ ls. words p.text.now ls) (sym (held-keeps (state p.machine) (state m) (map plain p.ignored.items) (keeps_told p.start (Some w) p.begun t (state p.machine) (state m) sound j))) in
     record {
       begins = subst (λ (ws : List Word). IsBeginning p.start ws) same (begins p h);
+      cut = subst (λ (ws : List Word). IsCut p.start ws (shown_of p.text.now (all_ended (state m) ++ map plain p.ignored.items))) same (judged_cuts p m t (Some w) sound h not j);
       judged = subst (λ (ws : List Word). IsBeginning p.start (ws ++ (word_in p.text.now range ∷ [])) → ⊥) same no;
     }
 
@@ -148,6 +184,17 @@ same_deepest p q t w not j =
 
 -- ---- a taken word
 
+taken_row : (p : Parser) (s : State) (tree : Tree) (w : Word) (range : Range ℕ) → IsStood p → w ≡ word_in p.text.now range
+    → plain tree ≡ record { kind = kind.Token; start = range.start; end = range.end; children = nothing }
+    → shown_of p.text.now (s.row ++ (map plain p.ignored.items ++ (plain tree ∷ []))) ≡ with_leaf (shown_of p.text.now s.row) w
+taken_row p s tree w range h is leaf =
+    let text = p.text.now in
+    let ignored = map plain p.ignored.items in
+    let one : shown_of text (plain tree ∷ []) ≡ row.leaf w row.nothing = ap (λ t. shown_of text (t ∷ [])) leaf ∙ ap (λ u. row.leaf u row.nothing) (sym is) in
+    let both : shown_of text (ignored ++ (plain tree ∷ [])) ≡ row.leaf w row.nothing =
+    shown_of-append text ignored (plain tree ∷ []) ∙ ap (λ x. joined x (shown_of text (plain tree ∷ []))) h.hidden ∙ one in
+    shown_of-append text s.row (ignored ++ (plain tree ∷ [])) ∙ ap (λ x. joined (shown_of text s.row) x) both
+
 took_at : (p : Parser) (s : State) (m : Machine) (tree : Tree) (w : Word) (range : Range ℕ) → IsSound (state p.machine) → IsStood p → w ≡ word_in p.text.now range
     → Judges p.start (Some w) p.begun (state p.machine) (taken s) → plain tree ≡ record { kind = kind.Token; start = range.start; end = range.end; children = nothing }
     → state m ≡ grown (map plain p.ignored.items ++ (plain tree ∷ [])) s
@@ -158,11 +205,7 @@ took_at p s m tree w range sound h is j leaf g before b =
     let ignored = map plain p.ignored.items in
     let v : BetweenIn p.start (root_kind p.start) (words_of p ++ (w ∷ [])) s.stack (with_leaf (shown_of text s.row) w) (map (shown_of text) s.rows) =
     judges_verdict p.start text (Some w) p.begun (state p.machine) (words_of p) (taken s) h.starts sound h.stood j in
-    let one : shown_of text (plain tree ∷ []) ≡ row.leaf w row.nothing = ap (λ t. shown_of text (t ∷ [])) leaf ∙ ap (λ u. row.leaf u row.nothing) (sym is) in
-    let both : shown_of text (ignored ++ (plain tree ∷ [])) ≡ row.leaf w row.nothing =
-    shown_of-append text ignored (plain tree ∷ []) ∙ ap (λ x. joined x (shown_of text (plain tree ∷ []))) h.hidden ∙ one in
-    let all : shown_of text (s.row ++ (ignored ++ (plain tree ∷ []))) ≡ with_leaf (shown_of text s.row) w =
-    shown_of-append text s.row (ignored ++ (plain tree ∷ [])) ∙ ap (λ x. joined (shown_of text s.row) x) both in
+    let all = taken_row p s tree w range h is leaf in
     let v2 = subst (λ (x : Row). BetweenIn p.start (root_kind p.start) (words_of p ++ (w ∷ [])) s.stack x (map (shown_of text) s.rows)) (sym all) v in
     let v3 = subst (λ (ws : List Word). BetweenIn p.start (root_kind p.start) ws s.stack (shown_of text (s.row ++ (ignored ++ (plain tree ∷ [])))) (map (shown_of text) s.rows)) (sym b) v2 in
     subst (λ (x : State). Stood p.start text true x before) (sym g) v3
@@ -181,6 +224,14 @@ words-grown p q m tree w range s sound is j leaf mm e g none =
     let one : words text (leaves_of (plain tree ∷ [])) ≡ w ∷ [] = ap (λ t. words text (leaves_of (t ∷ []))) leaf ∙ ap (λ u. u ∷ []) (sym is) in
     ap (λ ls. words text ls) f ∙ words-append text (held (state p.machine) ignored) (leaves_of (plain tree ∷ [])) ∙ ap (λ z. words_of p ++ z) one
 
+took_filled : (p : Parser) (s : State) (m : Machine) (tree : Tree) (w : Word) (range : Range ℕ) → IsStood p → w ≡ word_in p.text.now range
+    → plain tree ≡ record { kind = kind.Token; start = range.start; end = range.end; children = nothing } → state m ≡ grown (map plain p.ignored.items ++ (plain tree ∷ [])) s
+    → is_filled (shown_of p.text.now (state m).row) ≡ true
+took_filled p s m tree w range h is leaf g =
+    let text = p.text.now in
+    let all : shown_of text (s.row ++ (map plain p.ignored.items ++ (plain tree ∷ []))) ≡ with_leaf (shown_of text s.row) w = taken_row p s tree w range h is leaf in
+    subst (λ (x : State). is_filled (shown_of text x.row) ≡ true) (sym g) (subst (λ (x : Row). is_filled x ≡ true) (sym all) (filled_leaf (shown_of text s.row) w))
+
 took_in : (p q : Parser) (m : Machine) (b : Bool) (tree : Tree) (w : Word) (range : Range ℕ) → b ≡ true → IsSound (state p.machine) → IsStood p → w ≡ word_in p.text.now range
     → Judges p.start (Some w) p.begun (state p.machine) (taken (state m)) → plain tree ≡ record { kind = kind.Token; start = range.start; end = range.end; children = nothing }
     → state q.machine ≡ grown (map plain p.ignored.items ++ (plain tree ∷ [])) (state m) → q.ignored.items ≡ []
@@ -192,6 +243,7 @@ took_in p q m b tree w range begun sound h is j leaf g none =
       starts = h.starts;
       hidden = ap (λ i. shown_of p.text.now (map plain i)) none;
       stood = subst (λ (x : Bool). Stood p.start p.text.now x (state q.machine) before) (sym begun) stood;
+      filled = subst (λ (x : Bool). IsFilled x p.text.now (state q.machine)) (sym begun) (took_filled p (state m) q.machine tree w range h is leaf g);
     }
 
 pub took_stands : (p q r : Parser) (t : Turn) (tree : Tree) (w : Word) (range : Range ℕ) → Moved p q → t ≡ turn.Taken → q.begun ≡ true → IsSound (state p.machine) → IsStood p → w ≡ word_in p.text.now range
@@ -229,6 +281,7 @@ ignored_stands p q tree range n h leaf more =
       starts = h.starts;
       hidden = hidden;
       stood = subst (λ (ws : List Word). Stood p.start text p.begun (state p.machine) ws) f h.stood;
+      filled = h.filled;
     }
 
 -- ---- the end of the text
@@ -243,6 +296,8 @@ cut_at p m b t range sound h not j =
     ap (λ ls. words p.text.now ls) (sym (held-keeps (state p.machine) (state m) (map plain p.ignored.items) (keeps_told p.start None p.begun t (state p.machine) (state m) sound j))) in
     record {
       begins = subst (λ (ws : List Word). IsBeginning p.start ws) same (begins p h);
+      cut = subst (λ (ws : List Word). IsCut p.start ws (shown_of p.text.now (all_ended (state m) ++ map plain p.ignored.items))) same
+          (judged_cuts p m t None sound h (untaken p.start (root_kind p.start) p.text.now (words_of p) t (state m) v) j);
       judged = subst (λ (ws : List Word). (f : Row) → Sentence p.start ws f → ⊥) same no;
     }
   where
@@ -253,9 +308,18 @@ cut_at p m b t range sound h not j =
     too_short start k text before turn.Refused s end not v = v
     too_short start k text before turn.Finished s end not v = absurd (not refl)
 
+    untaken : (start : Rule) (k : SyntaxKind) (text : List ℕ) (before : List Word) (t : Turn) (s : State) → Verdict start k text before None (told t s) → t ≡ turn.Taken → ⊥
+    untaken start k text before turn.Again s v e = cc
+    untaken start k text before turn.Taken s v e = v
+    untaken start k text before turn.Refused s v e = cc
+    untaken start k text before turn.Finished s v e = cc
+
 pub cut_judged : (p q : Parser) (t : Turn) (range : Range ℕ) → Moved p q → IsSound (state p.machine) → IsStood p
     → (t ≡ turn.Finished → ⊥) → Judges p.start None p.begun (state p.machine) (told t (state q.machine)) → IsJudged q (Some (Syntax EndOfText range))
 cut_judged p q t range e sound h not j = subst (λ (r : Parser). IsJudged r (Some (Syntax EndOfText range))) (sym e) (cut_at p q.machine q.begun t range sound h not j)
+
+finished_untaken : turn.Finished ≡ turn.Taken → ⊥
+finished_untaken e = cc
 
 whole_at : (p : Parser) (m : Machine) (b : Bool) → IsSound (state p.machine) → IsStood p
     → Judges p.start None p.begun (state p.machine) (finished (state m)) → IsJudged (record p { machine = m; begun = b }) None
@@ -274,6 +338,7 @@ whole_at p m b sound h j =
     let s3 = subst (λ (ws : List Word). Sentence p.start ws (row.node k (shown_of text (all_ended (state m) ++ ignored)) row.nothing)) same s2 in
     record {
       begins = subst (λ (ws : List Word). IsBeginning p.start ws) same (begins p h);
+      cut = subst (λ (ws : List Word). IsCut p.start ws (shown_of text (all_ended (state m) ++ ignored))) same (judged_cuts p m turn.Finished None sound h finished_untaken j);
       judged = (s3, λ other d. Sentence-unique d s3);
     }
 

@@ -4,6 +4,7 @@ pub mod Filled
 pub mod Parsing
 pub mod Ways
 pub mod Rows
+pub mod Spans
 pub mod Laid
 pub mod Shown
 pub mod Levels
@@ -12,6 +13,8 @@ pub mod Held
 pub mod Ending
 pub mod Falls
 pub mod Verdicts
+pub mod Cuts
+pub mod Cutting
 pub mod Judging
 pub mod Begun
 pub mod Deeper
@@ -19,3 +22,4 @@ pub mod Fronts
 pub mod Rises
 pub mod Nested
 pub mod Whole
+pub mod OneError

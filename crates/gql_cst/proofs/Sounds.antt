@@ -1,6 +1,6 @@
 -- Each turn keeps the machine sound, and the tokens of its trees as they are.
 use Rattle.std.proofs.Common.{◌≡◌, ℕ, Bool, true, false, List, [], ◌∷◌, ◌++◌, Option, Some, None, refl, ◌∙◌, sym, ap, append_assoc, arith}
-use Rattle.std.specs.Prelude.{if◌then◌else◌}
+use Rattle.std.specs.Prelude.{◌==◌, if◌then◌else◌}
 use Rattle.std.specs.List.{list_all}
 use Rattle.gql_grammar.specs.declared.word.Word.{Word}
 use Rattle.gql_grammar.specs.declared.rule.Rule.{Rule}
@@ -19,8 +19,10 @@ use Rattle.gql_cst.specs.Machine.{State, Turned, again, taken, refused, finished
 use Rattle.gql_cst.specs.Sound.{is_node, depth, IsSound}
 use Rattle.gql_cst.proofs.Levels.{around, around-alike, around-opened, around-wrapped}
 use Rattle.gql_cst.specs.Laid.{is_loose}
+use Rattle.gql_cst.specs.Spans.{AllSpanIn}
 use Rattle.gql_cst.proofs.Ways.{both, makes, kind_node, way_loose}
 use Rattle.gql_cst.proofs.Rows.{leaves_of-append, nesting_of-append, leaves_of-node, nesting_of-node, ended-loose, leaves_of-ended, nesting_of-ended, depth-loose, makes_node-loose, join, append_nil}
+use Rattle.gql_cst.proofs.Spans.{spans-append, spans-node, spans-closed}
 
 pub record Keeps (s new : State) : Type 0 where
   pub sound : IsSound new
@@ -47,6 +49,8 @@ pushed_keeps way s loose h =
         nodes = makes_node-loose way s.stack loose h.nodes;
         level = h.level ∙ sym (depth-loose way s.stack loose);
         deepest = h.deepest ∙ ap nesting_of (sym e);
+        spans = h.spans;
+        outer = h.outer;
       };
       leaves = ap leaves_of e;
       levels = λ text. ap (around text) e;
@@ -61,6 +65,8 @@ opened_keeps kind s node h =
         nodes = join _ _ node h.nodes;
         level = omega (arith, h.level);
         deepest = omega (arith, h.level, h.deepest, nesting_of-ended s.stack row s.rows h.nodes, nesting_of-ended s.stack s.row s.rows h.nodes, nesting_of-append s.row (node_of kind [] ∷ []), nesting_of-node kind [] node);
+        spans = tt;
+        outer = (h.spans, h.outer);
       };
       leaves = leaves_of-ended s.stack row s.rows h.nodes ∙ ap (λ z. leaves_of (ended s.stack [] s.rows) ++ z) e ∙ sym (leaves_of-ended s.stack s.row s.rows h.nodes);
       levels = λ text. around-alike text s.stack row s.row s.rows h.nodes (around-opened text kind s.row node);
@@ -105,7 +111,7 @@ along from a b e p = rw e p
 popped : (symbol : Symbol) (stack : List Symbol) (row : List Plain) (rows : List (List Plain)) (l d : ℕ) → depth (symbol ∷ stack) ≡ depth stack
     → ended (symbol ∷ stack) row rows ≡ ended stack row rows → IsSound (made (symbol ∷ stack) row rows l d) → Keeps (made (symbol ∷ stack) row rows l d) (made stack row rows l d)
 popped symbol stack row rows l d e f h = record {
-  sound = record { nodes = (both _ _ h.nodes).1; level = h.level ∙ e; deepest = h.deepest ∙ ap nesting_of f };
+  sound = record { nodes = (both _ _ h.nodes).1; level = h.level ∙ e; deepest = h.deepest ∙ ap nesting_of f; spans = h.spans; outer = h.outer };
   leaves = ap leaves_of (sym f);
   levels = λ text. ap (around text) (sym f);
 }
@@ -116,6 +122,8 @@ wrapped_keeps kind s node flat h = record {
     nodes = h.nodes;
     level = h.level;
     deepest = omega (arith, h.deepest, nesting_of-ended s.stack s.row s.rows h.nodes, nesting_of-ended s.stack (node_of kind s.row ∷ []) s.rows h.nodes, nesting_of-node kind s.row node);
+    spans = spans-node kind s.row node h.spans;
+    outer = h.outer;
   };
   leaves = leaves_of-ended s.stack (node_of kind s.row ∷ []) s.rows h.nodes ∙ ap (λ z. leaves_of (ended s.stack [] s.rows) ++ z) (leaves_of-node kind s.row node)
       ∙ sym (leaves_of-ended s.stack s.row s.rows h.nodes);
@@ -125,12 +133,18 @@ wrapped_keeps kind s node flat h = record {
 closed_keeps : (kind : SyntaxKind) (stack : List Symbol) (row : List Plain) (rows : List (List Plain)) (l d : ℕ) → IsSound (made (Close kind ∷ stack) row rows l d)
     → Keeps (made (Close kind ∷ stack) row rows l d) (closed_in kind rows (made stack row rows l d))
 closed_keeps kind stack row [] l d h = record {
-  sound = record { nodes = (both _ _ h.nodes).1; level = omega (arith, h.level); deepest = h.deepest };
+  sound = record { nodes = (both _ _ h.nodes).1; level = omega (arith, h.level); deepest = h.deepest; spans = spans-node kind row (both _ _ h.nodes).0 h.spans; outer = tt };
   leaves = refl;
   levels = λ text. refl;
 }
 closed_keeps kind stack row (outer ∷ rows) l d h = record {
-  sound = record { nodes = (both _ _ h.nodes).1; level = omega (arith, h.level); deepest = h.deepest };
+  sound = record {
+    nodes = (both _ _ h.nodes).1;
+    level = omega (arith, h.level);
+    deepest = h.deepest;
+    spans = spans-closed outer kind row (both _ _ h.nodes).0 h.outer.0 h.spans;
+    outer = h.outer.1;
+  };
   leaves = refl;
   levels = λ text. refl;
 }
@@ -155,7 +169,7 @@ at_keeps next (Repeated r ∷ stack) row rows l d h =
 at_keeps next (Wrap kind ∷ stack) row rows l d h =
     let p = popped (Wrap kind) stack row rows l d refl refl h in
     let k = both _ _ (both _ _ h.nodes).0 in
-    then_keeps _ _ _ p (wrapped_keeps kind (made stack row rows l d) k.0 (eqb-true (level kind) 0 k.1) p.sound)
+    then_keeps _ _ _ p (wrapped_keeps kind (made stack row rows l d) k.0 (eqb-true (level kind) 0 (both (level kind == 0) _ k.1).0) p.sound)
 at_keeps next (Close kind ∷ stack) row rows l d h = closed_keeps kind stack row rows l d h
 
 pub turn_keeps : (next : Option Word) (s : State) → IsSound s → Keeps s (state_of (turned next s))
@@ -180,11 +194,13 @@ judges_keep start next true s end h j = settles_keep next s end h j
 judges_keep start next false s end h j = begins_keep (way_at start next) next s end (way_at_loose start next) h j
 
 -- a token opens no level
-pub grown_keeps : (trees : List Plain) (s : State) → nesting_of trees ≡ 0 → IsSound s → IsSound (grown trees s)
-grown_keeps trees s flat h = record {
+pub grown_keeps : (trees : List Plain) (s : State) → nesting_of trees ≡ 0 → AllSpanIn trees → IsSound s → IsSound (grown trees s)
+grown_keeps trees s flat span h = record {
   nodes = h.nodes;
   level = h.level;
   deepest = omega (arith, h.deepest, flat, nesting_of-ended s.stack s.row s.rows h.nodes, nesting_of-ended s.stack (s.row ++ trees) s.rows h.nodes, nesting_of-append s.row trees);
+  spans = spans-append s.row trees h.spans span;
+  outer = h.outer;
 }
 
 pub leaves_of-grown : (trees : List Plain) (s : State) → IsSound s → leaves_of (all_ended (grown trees s)) ≡ leaves_of (all_ended s) ++ leaves_of trees

@@ -6,7 +6,7 @@ use Rattle.gql_cst.specs.Leaves.{Part, Leaf, part_of_token, IsLeaf, Tiles}
 made : Part → ℕ → ℕ → Leaf
 made part start end = record { part = part; start = start; end = end }
 
-same_leaf : ((at : List ℕ) → StandsOne at) → (text : List ℕ) (place : ℕ) (a b : Leaf) → IsLeaf text place a → IsLeaf text place b → a ≡ b
+pub same_leaf : ((at : List ℕ) → StandsOne at) → (text : List ℕ) (place : ℕ) (a b : Leaf) → IsLeaf text place a → IsLeaf text place b → a ≡ b
 unfolding made
 same_leaf stands text place a b l m =
     let starts : a.start ≡ b.start = l.starts ∙ sym m.starts in

@@ -77,7 +77,7 @@ nil : (xs : List Leaf) → xs ++ [] ≡ xs
 nil [] = refl
 nil (x ∷ xs) = ap (λ ys. x ∷ ys) (nil xs)
 
-too_many : (limit : Option ℕ) (n m : ℕ) → n ≤ m → Passes limit n → IsWithin limit m → ⊥
+pub too_many : (limit : Option ℕ) (n m : ℕ) → n ≤ m → Passes limit n → IsWithin limit m → ⊥
 too_many None n m h p w = p
 too_many (Some limit) n m h p w = omega (arith, h, p, w)
 

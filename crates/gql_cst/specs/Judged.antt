@@ -1,5 +1,5 @@
 -- What an error, or none, tells of the sentences of the grammar.
-use Rattle.std.specs.Prelude.{◌≡◌, ℕ, ◌<◌, true, List, [], ◌∷◌, ◌++◌, map, slice_range, Option, Some, None, is_some}
+use Rattle.std.specs.Prelude.{◌≡◌, ℕ, ◌<◌, Bool, true, false, List, [], ◌∷◌, ◌++◌, map, slice_range, Option, Some, None, is_some}
 use Rattle.std.specs.declared.ops.Range.{Range}
 use Rattle.gql_lexer.specs.declared.error.CstError.{CstError}
 use Rattle.gql_lexer.specs.declared.error.CstError.TheVariants.{Syntax, RecursionLimit, TokenLimit}
@@ -12,8 +12,10 @@ use Rattle.gql_grammar.specs.Row as row
 use Rattle.gql_grammar.specs.Row.{Row}
 use Rattle.gql_grammar.specs.Rule.{kind_of}
 use Rattle.gql_cst.specs.declared.parser.Parser.{Parser}
+use Rattle.gql_cst.specs.Cut.{is_filled, IsCut}
 use Rattle.gql_cst.specs.Forest.{plain}
 use Rattle.gql_cst.specs.Held.{state}
+use Rattle.gql_cst.specs.Machine.{State}
 use Rattle.gql_cst.specs.Progress.{trees, tokens_of}
 use Rattle.gql_cst.specs.Sentences.{words, shown_of, root_kind, Stood}
 use Rattle.gql_cst.specs.Words.{word_of}
@@ -60,11 +62,18 @@ spoken p = record {
   recursion = p.limits.recursion;
 }
 
+-- once the rule of the whole text has begun, the innermost open node holds something
+abbrev pub IsFilled : Bool → List ℕ → State → Type 0
+IsFilled true text s = is_filled (shown_of text s.row) ≡ true
+IsFilled false text s = Unit {0}
+
 pub record IsStood (p : Parser) : Type 0 where
   pub starts : is_some (kind_of p.start) ≡ true
   pub hidden : shown_of p.text.now (map plain p.ignored.items) ≡ row.nothing
   pub stood : Stood p.start p.text.now p.begun (state p.machine) (words_of p)
+  pub filled : IsFilled p.begun p.text.now (state p.machine)
 
 pub record IsJudged (p : Parser) (error : Option CstError) : Type 0 where
   pub begins : IsBeginning p.start (words_of p)
+  pub cut : IsCut p.start (words_of p) (shown_of p.text.now (trees p))
   pub judged : Judged (spoken p) error

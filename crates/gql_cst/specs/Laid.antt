@@ -9,14 +9,15 @@ use Rattle.gql_grammar.specs.Row.{level}
 use Rattle.gql_grammar.specs.Stands.{way_at}
 use Rattle.gql_cst.specs.declared.frame.Frame.{Frame}
 use Rattle.gql_cst.specs.Forest.{Plain}
+use Rattle.gql_cst.specs.Late.{is_late}
 use Rattle.gql_cst.specs.Leaves.{part_of}
 use Rattle.gql_cst.specs.Machine.{State, node_of}
 use Rattle.gql_cst.specs.Sound.{is_node}
 
--- no node ends there, and what is wrapped is a node that opens no level
+-- no node ends there, and what is wrapped is a node that is made late and opens no level
 abbrev pub is_loose : Symbol → Bool
 is_loose (Close kind) = false
-is_loose (Wrap kind) = is_node (part_of kind) && level kind == 0
+is_loose (Wrap kind) = is_node (part_of kind) && (level kind == 0 && is_late kind)
 is_loose (Token terminal) = true
 is_loose (One rule) = true
 is_loose (Optional rule) = true

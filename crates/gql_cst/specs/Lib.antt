@@ -18,6 +18,9 @@ pub mod Words
 pub mod Leaves
 pub mod Nesting
 pub mod Levels
+pub mod Spans
+pub mod Late
+pub mod Cut
 pub mod Sound
 pub mod Outcome
 pub mod Progress

@@ -8,6 +8,7 @@ use Rattle.std.specs.declared.ops.Range.{Range}
 use Rattle.gql_cst.specs.Leaves.{word, Leaf, leaves_of, Tiles, part_of_token}
 use Rattle.gql_cst.specs.Nesting.{nesting_of}
 use Rattle.gql_cst.specs.Machine.{all_ended}
+use Rattle.gql_cst.specs.Spans.{AllSpanIn}
 use Rattle.gql_cst.specs.Held.{state}
 use Rattle.gql_cst.specs.Sound.{IsSound}
 use Rattle.gql_cst.specs.Outcome.{IsWithin, Reached, Stops}
@@ -26,6 +27,7 @@ pub record IsRead (p : Parser) (place : ℕ) : Type 0 where
   pub within : IsWithin p.limits.tokens p.tokens
   pub sound : IsSound (state p.machine)
   pub flat : nesting_of (map plain p.ignored.items) ≡ 0
+  pub spans : AllSpanIn (map plain p.ignored.items)
 
 abbrev pub reached : Parser → ℕ → Reached
 reached p place = record {
@@ -40,6 +42,7 @@ pub record HasStopped (p : Parser) (place : ℕ) (error : Option CstError) : Typ
   pub tiles : Tiles p.text.now 0 (tokens_of p) place
   pub sound : IsSound (state p.machine)
   pub flat : nesting_of (map plain p.ignored.items) ≡ 0
+  pub spans : AllSpanIn (map plain p.ignored.items)
   pub stops : Stops p.limits (reached p place) error
 
 abbrev pub leaf_of : Token → Leaf
@@ -52,6 +55,7 @@ pub record IsUnderway (p : Parser) (place : ℕ) : Type 0 where
   pub within : IsWithin p.limits.tokens p.tokens
   pub sound : IsSound (state p.machine)
   pub flat : nesting_of (map plain p.ignored.items) ≡ 0
+  pub spans : AllSpanIn (map plain p.ignored.items)
 
 abbrev pub word_leaf : Range ℕ → Leaf
 word_leaf range = record { part = word; start = range.start; end = range.end }

@@ -1,4 +1,5 @@
-//! Laws of the definitions alone: a text has one list of tokens and, ignored tokens aside, one tree.
+//! Laws of the definitions alone: a text has one list of tokens and, ignored tokens aside, one tree, and what a parse tells
+//! of it is one.
 
 ghost use Rattle.std.specs.Prelude.{◌≡◌, ℕ, List, None};
 ghost use Rattle.gql_grammar.specs.declared.rule.Rule.{Rule};
@@ -43,3 +44,17 @@ pub fn parses_are_trees()
     ensures kind { (start : Rule) (text : List ℕ) (limits : Limits) (parsed : Parsed)
         → IsParse start text limits parsed → (plain parsed.tree).kind ≡ root_kind start }
 {}
+
+/// What a parse tells of a text is one: two parses of a text within the same limits end by the same error, or both by none,
+/// and have the same counts.
+pub fn parses_tell_the_same()
+    ensures error { (start : Rule) (text : List ℕ) (limits : Limits) (one other : Parsed)
+        → IsParse start text limits one → IsParse start text limits other → one.error ≡ other.error }
+    ensures levels { (start : Rule) (text : List ℕ) (limits : Limits) (one other : Parsed)
+        → IsParse start text limits one → IsParse start text limits other → one.recursion_reached ≡ other.recursion_reached }
+    ensures tokens { (start : Rule) (text : List ℕ) (limits : Limits) (one other : Parsed)
+        → IsParse start text limits one → IsParse start text limits other → one.tokens_reached ≡ other.tokens_reached }
+{
+    lexer_laws::one_thing_stands();
+    grammar_laws::sentences_have_one_tree();
+}

@@ -1,11 +1,13 @@
 //! Reads a whole text: a document, a selection set, or a reference to a type.
 
 ghost use Rattle.std.specs.Prelude.{◌≡◌, true, IfOk, OnOk, is_some};
+ghost use Rattle.gql_cst.specs.Cut.{IsCutTree};
 ghost use Rattle.gql_cst.specs.Progress.{IsRead, SameText};
 ghost use Rattle.gql_cst.specs.Judged.{IsStood, IsJudged};
 ghost use Rattle.gql_cst.specs.Nested.{IsNested, EndsNested};
 ghost use Rattle.gql_cst.specs.Parses.{Accepts, Ended, IsParse};
 ghost use Rattle.gql_cst.specs.Sentences.{root_kind};
+ghost use Rattle.gql_cst.specs.Spans.{IsSpanned};
 ghost use Rattle.gql_grammar.specs.Row as rows;
 ghost use Rattle.gql_grammar.specs.Rule.{kind_of};
 
@@ -52,6 +54,8 @@ fn parse(
     requires kind { kind ≡ root_kind start }
     ensures parse { IfOk result (IsParse start text.now limits.now) }
     ensures accepts { IfOk result (Accepts start text.now limits.now) }
+    ensures cut { IfOk result (IsCutTree start text.now) }
+    ensures spans { IfOk result IsSpanned }
 {
     let mut parser = Parser::new(alloc, start, text, *limits);
     let error = read_all(&mut parser, text)?;
@@ -74,6 +78,8 @@ fn parse(
 pub fn parse_document(alloc: Global, text: &str, limits: &Limits) -> Result<Parsed, Memory>
     ensures parse { IfOk result (IsParse Rule.Document text.now limits.now) }
     ensures accepts { IfOk result (Accepts Rule.Document text.now limits.now) }
+    ensures cut { IfOk result (IsCutTree Rule.Document text.now) }
+    ensures spans { IfOk result IsSpanned }
 {
     parse(alloc, Rule::Document, SyntaxKind::Document, text, limits)
 }
@@ -83,6 +89,8 @@ pub fn parse_document(alloc: Global, text: &str, limits: &Limits) -> Result<Pars
 pub fn parse_selection_set(alloc: Global, text: &str, limits: &Limits) -> Result<Parsed, Memory>
     ensures parse { IfOk result (IsParse Rule.FieldSet text.now limits.now) }
     ensures accepts { IfOk result (Accepts Rule.FieldSet text.now limits.now) }
+    ensures cut { IfOk result (IsCutTree Rule.FieldSet text.now) }
+    ensures spans { IfOk result IsSpanned }
 {
     parse(alloc, Rule::FieldSet, SyntaxKind::FieldSet, text, limits)
 }
@@ -92,6 +100,8 @@ pub fn parse_selection_set(alloc: Global, text: &str, limits: &Limits) -> Result
 pub fn parse_type(alloc: Global, text: &str, limits: &Limits) -> Result<Parsed, Memory>
     ensures parse { IfOk result (IsParse Rule.TypeReference text.now limits.now) }
     ensures accepts { IfOk result (Accepts Rule.TypeReference text.now limits.now) }
+    ensures cut { IfOk result (IsCutTree Rule.TypeReference text.now) }
+    ensures spans { IfOk result IsSpanned }
 {
     parse(
         alloc,

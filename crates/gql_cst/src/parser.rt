@@ -49,10 +49,12 @@ fn is_past(count: usize, limit: Option<usize>) -> bool
 }
 
 impl<'a> Parser<'a> {
+    ghost use Rattle.gql_cst.specs.Cut.{IsCutTree};
     ghost use Rattle.gql_cst.specs.Held.{state};
     ghost use Rattle.gql_cst.specs.Judged.{IsStood, IsJudged};
     ghost use Rattle.gql_cst.specs.Nested.{IsNested, EndsNested};
     ghost use Rattle.gql_cst.specs.Parses.{Accepts, Ended, IsParse};
+    ghost use Rattle.gql_cst.specs.Spans.{IsSpanned};
     ghost use Rattle.gql_cst.specs.Progress.{IsRead, IsUnderway, HasStopped, SameText, leaf_of, word_leaf};
 
     /// At the beginning of the text, which is read by the rule.
@@ -190,6 +192,8 @@ impl<'a> Parser<'a> {
         requires kind { kind ≡ root_kind self.start }
         ensures parse { IfOk result (IsParse self.entry.start self.entry.text.now self.entry.limits) }
         ensures accepts { IfOk result (Accepts self.entry.start self.entry.text.now self.entry.limits) }
+        ensures cut { IfOk result (IsCutTree self.entry.start self.entry.text.now) }
+        ensures spans { IfOk result IsSpanned }
     {
         let Parser {
             alloc: _,

@@ -53,7 +53,8 @@ impl Tree {
         self.kind
     }
 
-    /// The bytes of the text from the tree's first token to its last, those that the grammar ignores included.
+    /// The bytes of the text from the tree's first token to its last, those that the grammar ignores included; `0..0` of a
+    /// node without children, as that of an empty text.
     #[must_use]
     pub fn range(&self) -> Range<usize>
         ensures { result ≡ record { start = (plain self.now).start; end = (plain self.now).end } }

@@ -34,7 +34,7 @@ mark_within : (at : Text) → is_mark at ≡ true → 3 ≤ length at
 mark_within at h =
     omega (arith, equal_within at 2 0xBF (omega arith) (both (get_or at 0 0 == 0xEF && get_or at 1 0 == 0xBB) (get_or at 2 0 == 0xBF) h).1)
 
-quote_within : (at : Text) (from : ℕ) → is_block_quote at from ≡ true → from + 3 ≤ length at
+pub quote_within : (at : Text) (from : ℕ) → is_block_quote at from ≡ true → from + 3 ≤ length at
 quote_within at from h =
     omega (arith, equal_within at (from + 2) 0x22 (omega arith) (both (get_or at from 0 == 0x22 && get_or at (from + 1) 0 == 0x22) (get_or at (from + 2) 0 == 0x22) h).1)
 

@@ -1,5 +1,6 @@
 pub mod BlockLines
 pub mod BlockValue
+pub mod Blocks
 pub mod Bounds
 pub mod Choices
 pub mod Cuts

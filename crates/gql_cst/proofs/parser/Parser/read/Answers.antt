@@ -17,7 +17,7 @@ returns-then-eq-clause-goes_on c =
     c.leaf-leaf.ensures c.in_ok-push.ensures.items c.in_ok-self.ensures c.if-is_past.ensures
 
 pub returns-then-is_past-clause-judged : goal.returns-then-is_past-clause-judged
-returns-then-is_past-clause-judged c = token_limit_judged c.args.self.now c.in_ok-self.field-0 c.args.token.range c.requires.stood
+returns-then-is_past-clause-judged c = token_limit_judged c.args.self.now c.in_ok-self.field-0 c.args.token.range c.requires.read.sound c.requires.stood
 
 pub returns-then-eq-clause-stands : goal.returns-then-eq-clause-stands
 returns-then-eq-clause-stands c =
