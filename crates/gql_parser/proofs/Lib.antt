@@ -11,7 +11,6 @@ pub mod SchemaKept
 pub mod Scalars
 mod Roots
 mod OneDocument
-mod OneError
 mod OneTelling
 mod Phases
 mod Running

@@ -8,7 +8,7 @@ use Rattle.gql_diag_messages.specs.declared.diagnostic_data.DiagnosticData.{Diag
 use Rattle.gql_grammar.specs.declared.rule.Rule.TheVariants as rule
 use Rattle.gql_lexer.specs.declared.error.CstError.{CstError}
 use Rattle.gql_parser.specs.Diagnosed.{diagnostic}
-use Rattle.gql_parser.specs.Parsers.{its_file}
+use Rattle.gql_parser.specs.Parsers.{fresh, its_file}
 use Rattle.gql_schema.specs.BuiltInSchema.{IsBuiltIn, built_in_file}
 use Rattle.gql_schema.specs.Builders.{Taken, built, all_faults}
 use Rattle.gql_schema_build.specs.TypeSystems.{with_definitions, no_definitions}
@@ -21,7 +21,7 @@ use Rattle.gql_parser.specs.SchemaFaults.{SchemaFaults, no_sentence, no_build, b
 use Rattle.gql_parser.specs.Sentences.{StopsAt}
 use Rattle.gql_parser.specs.SchemaText.{AreDefinitions, SchemaText, all_of, its_given}
 use Rattle.gql_parser.proofs.Marks.{one_list}
-use Rattle.gql_parser.proofs.OneError.{OneStands, WordsLaw, one_error}
+use Rattle.gql_cst.proofs.OneError.{OneStands, WordsLaw, told_alike}
 
 abbrev pub OneDocument : Type 0
 OneDocument = (text : List ℕ) (file : FileId) (one other : List Definition) → IsDocumentOf text file one → IsDocumentOf text file other → one ≡ other
@@ -67,7 +67,7 @@ one_sorted law text faults found one other same h k =
 
 pub one_stop : OneStands → WordsLaw → (text : List ℕ) (one other : CstError) → StopsAt text one → StopsAt text other → one ≡ other
 one_stop stands words text one other h k =
-    let e : Some one ≡ Some other = sym h.stands ∙ one_error stands words rule.Document text 500 h.parsed k.parsed h.parse k.parse ∙ k.stands in cc
+    let e : Some one ≡ Some other = sym h.stands ∙ (told_alike stands words rule.Document text fresh.limits h.parsed k.parsed h.parse k.parse).error ∙ k.stands in cc
 
 pub one_faults : OneDocument → OneSort → OneStands → WordsLaw → (text : List ℕ) (one other : Diagnostics) → SchemaFaults text one → SchemaFaults text other → one ≡ other
 one_faults law sort stands words text one other (no_sentence e h) (no_sentence f k) =

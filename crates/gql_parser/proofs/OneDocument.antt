@@ -21,7 +21,7 @@ use Rattle.gql_parser.specs.Sentences.{StopsAt}
 use Rattle.gql_parser.specs.DocumentText.{AreDefinitions, DocumentText, all_of, its_given}
 use Rattle.gql_parser.specs.SameFaults.{TellTheSame}
 use Rattle.gql_parser.proofs.One.{one_stop}
-use Rattle.gql_parser.proofs.OneError.{OneStands, WordsLaw}
+use Rattle.gql_cst.proofs.OneError.{OneStands, WordsLaw}
 use Rattle.gql_parser.proofs.OneTelling.{faults_once}
 use Rattle.gql_parser.proofs.Phases.{empty_back}
 use Rattle.gql_parser.proofs.Tied.{same_listing}
