@@ -144,3 +144,31 @@ fn names(rt: HostRuntime) {
         same(&rt, text, name_text(&Name::new(rt.alloc(), text)), name);
     }
 }
+
+/// What a definition is, of those that the test below has.
+fn definition_text(definition: Option<&Definition>) -> &str {
+    match definition {
+        Some(Definition::ObjectTypeDefinition(_)) => "object type",
+        Some(Definition::OperationDefinition(_)) => "operation",
+        Some(_) => "another",
+        None => "none",
+    }
+}
+
+/// What was read before a fault, definition by definition.
+const BEFORE_A_FAULT: &[&str] = &["object type", "operation", "none"];
+
+#[test]
+fn definitions_before_a_fault(rt: HostRuntime) -> Result<(), Fail> {
+    let text = "type A { a: Int } query Q { b } type B { c ]";
+    let parsed = parse_document(rt.alloc(), text, &LIMITS)?;
+    if parsed.error.is_none() {
+        return Err("the text is a document".into());
+    }
+    let made = converted(rt.alloc(), text, &parsed.tree)?;
+    for (place, wanted) in BEFORE_A_FAULT.iter().enumerate() {
+        let found = definition_text(made.definitions.get(place));
+        same(&rt, text, found, wanted);
+    }
+    Ok(())
+}
