@@ -1,4 +1,5 @@
 pub mod Equality
+pub mod Identity
 pub mod Levels
 pub mod Members
 pub mod Put

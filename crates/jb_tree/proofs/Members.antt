@@ -1,27 +1,10 @@
 -- A key among the pairs of an object, once it was put there; an item of an array.
-use Rattle.std.proofs.Common.{◌≡◌, ℕ, zero, suc, ◌<◌, length, slice_get, subst, arith, rules, Bool, true, false, cond, List, [], ◌∷◌, ◌++◌, Option, Some, None, IsSome, is_some, if◌then◌else◌, position, refl, sym, ap, ◌∙◌}
+use Rattle.std.proofs.Common.{◌≡◌, ℕ, zero, suc, ◌<◌, length, slice_get, subst, arith, rules, true, List, [], ◌∷◌, ◌++◌, Option, Some, None, IsSome, is_some, if◌then◌else◌, position, refl, sym, ap, ◌∙◌}
 use Rattle.std.specs.Str.{bytes_eq}
-use Rattle.std.specs.Map.{keys_of, lookup}
-use Rattle.std.proofs.lemmas.Slice.Eq.{bytes_eq-Decides}
+use Rattle.std.specs.Map.{keys_of}
 use Rattle.indexmap.proofs.MapLemmas.{some_index}
 use Rattle.jb_tree.specs.Index.{with_key, item_at}
 use Rattle.jb_tree.specs.declared.value.Value.{Value, Null, Array, the_lemmas}
-
-lookup-chosen : (b : Bool) (v : Value) (r : Option Value) → is_some r ≡ true → is_some (cond b (Some v) r) ≡ true
-lookup-chosen true v r h = refl
-lookup-chosen false v r h = h
-
--- a pair that was put last is found by its key
-lookup-pushed : (key : List ℕ) (es : List (List ℕ × Value)) (v : Value) → is_some (lookup (bytes_eq key) (es ++ (key, v) ∷ [])) ≡ true
-lookup-pushed key [] v = ap (λ b. is_some (cond b (Some v) None)) ((bytes_eq-Decides key key).1 refl)
-lookup-pushed key (e ∷ es) v = lookup-chosen (bytes_eq key e.0) e.1 (lookup (bytes_eq key) (es ++ (key, v) ∷ [])) (lookup-pushed key es v)
-
-chosen : (b : Bool) (key : List ℕ) (es fs : List (List ℕ × Value)) → is_some (lookup (bytes_eq key) es) ≡ b → is_some (lookup (bytes_eq key) fs) ≡ true → is_some (lookup (bytes_eq key) (if b then es else fs)) ≡ true
-chosen true key es fs p q = p
-chosen false key es fs p q = q
-
-pub there-with_key : (key : List ℕ) (es : List (List ℕ × Value)) → IsSome (lookup (bytes_eq key) (with_key key es))
-there-with_key key es = (chosen (is_some (lookup (bytes_eq key) es)) key es (es ++ (key, Null) ∷ []) refl (lookup-pushed key es Null))
 
 module _ (key : List ℕ) (es : List (List ℕ × Value)) where
   pub with_key-present : (i : ℕ) → Some i ≡ position (bytes_eq key) (keys_of es) → es ≡ with_key key es

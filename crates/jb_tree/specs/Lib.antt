@@ -1,4 +1,5 @@
 pub mod Index
+pub mod Places
 pub mod Pointer
 pub mod Rows
 pub mod Same

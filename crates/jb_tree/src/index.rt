@@ -1,10 +1,11 @@
 //! Places in a value, named by a number or a key.
-ghost use Rattle.std.specs.Prelude.{◌≡◌, List, Option, Result, [], ◌∷◌, string_bytes, IsSome, IfOk, OnOk, OnErr, slice_get, slice_set};
+ghost use Rattle.std.specs.Prelude.{◌≡◌, List, Option, Result, Ok, Some, [], ◌∷◌, string_bytes, IsSome, IfOk, OnOk, OnErr, slice_get, slice_set};
 ghost use Rattle.std.specs.Option.{option_copied, option_copied_mut};
 ghost use Rattle.std.specs.Str.{bytes_eq};
 ghost use Rattle.std.specs.Map.{lookup, set_value};
 ghost use Rattle.jb_tree.specs.declared.index.IndexError.{IndexError as Fault};
 ghost use Rattle.jb_tree.specs.declared.value.Value.{Value as Tree, Null};
+ghost use Rattle.jb_tree.specs.Places.{item_put_found, item_made_found, item_found_kept, member_put_found, member_made_found, member_found_kept};
 ghost use Rattle.jb_tree.specs.Index.{item_at, member_at, with_item, with_member, with_key, item_put, member_put, HasPlace, IsMade, IsLent, IsPut};
 
 use crate::value::{Map, Value};
@@ -58,6 +59,20 @@ pub trait Index: Drop {
     /// hands the value back, and nothing changes.
     fn put_into(&self, v: &mut Value, value: Value) -> Result<Value, Value>
         ensures { IsPut result value (finds self.now v.old) v.old (puts self.now v.old value) v.new };
+
+    /// Makes the place where there is none, as `index_or_insert` does, and lends nothing. A refused call leaves the value as
+    /// it was.
+    fn make_in(&self, alloc: Global, v: &mut Value) -> Result<(), Refused<IndexError>>
+        ensures { IsMade result v.old v.new (makes self.now v.old) };
+
+    // What was put in a place is found there.
+    ghost put_is_found: { (index : Self) (v w : Tree) → IsSome (finds index v) → finds index (puts index v w) ≡ Some w };
+
+    // A place that was made is there.
+    ghost made_is_found: { (index : Self) (v made : Tree) → makes index v ≡ Ok made → IsSome (finds index made) };
+
+    // Where there is a place already, making it changes nothing.
+    ghost found_is_kept: { (index : Self) (v : Tree) → IsSome (finds index v) → makes index v ≡ Ok v };
 }
 
 impl Index for usize {
@@ -66,6 +81,12 @@ impl Index for usize {
     ghost makes = { with_item };
 
     ghost puts = { item_put };
+
+    ghost put_is_found = { item_put_found };
+
+    ghost made_is_found = { item_made_found };
+
+    ghost found_is_kept = { item_found_kept };
 
     fn index_into<'v>(&self, v: &'v Value) -> Option<&'v Value> {
         match v {
@@ -98,6 +119,13 @@ impl Index for usize {
             _ => Err(value),
         }
     }
+
+    fn make_in(&self, _alloc: Global, v: &mut Value) -> Result<(), Refused<IndexError>> {
+        match test_item(v, *self) {
+            Ok(()) => Ok(()),
+            Err(fault) => Err(Refused::Fault(fault)),
+        }
+    }
 }
 
 impl Index for &str {
@@ -106,6 +134,12 @@ impl Index for &str {
     ghost makes = { λ key. with_member key.now };
 
     ghost puts = { λ key. member_put key.now };
+
+    ghost put_is_found = { λ key. member_put_found key.now };
+
+    ghost made_is_found = { λ key. member_made_found key.now };
+
+    ghost found_is_kept = { λ key. member_found_kept key.now };
 
     fn index_into<'v>(&self, v: &'v Value) -> Option<&'v Value> {
         match v {
@@ -138,6 +172,10 @@ impl Index for &str {
             _ => Err(value),
         }
     }
+
+    fn make_in(&self, alloc: Global, v: &mut Value) -> Result<(), Refused<IndexError>> {
+        make_member(alloc, v, *self)
+    }
 }
 
 impl Index for &String {
@@ -146,6 +184,12 @@ impl Index for &String {
     ghost makes = { λ key. with_member (string_bytes key.now) };
 
     ghost puts = { λ key. member_put (string_bytes key.now) };
+
+    ghost put_is_found = { λ key. member_put_found (string_bytes key.now) };
+
+    ghost made_is_found = { λ key. member_made_found (string_bytes key.now) };
+
+    ghost found_is_kept = { λ key. member_found_kept (string_bytes key.now) };
 
     fn index_into<'v>(&self, v: &'v Value) -> Option<&'v Value> {
         self.as_str().index_into(v)
@@ -165,6 +209,10 @@ impl Index for &String {
 
     fn put_into(&self, v: &mut Value, value: Value) -> Result<Value, Value> {
         self.as_str().put_into(v, value)
+    }
+
+    fn make_in(&self, alloc: Global, v: &mut Value) -> Result<(), Refused<IndexError>> {
+        self.as_str().make_in(alloc, v)
     }
 }
 
@@ -190,6 +238,19 @@ impl Value {
         ensures { IsPut result value (I.Index.finds index self.old) self.old (I.Index.puts index self.old value) self.new }
     {
         index.put_into(self, value)
+    }
+
+    /// Makes the place at the index where there is none, and nothing else: by key a null becomes an empty object, and a
+    /// missing key is added last with null; by number nothing is added. A refused call leaves the value as it was.
+    ///
+    /// # Errors
+    ///
+    /// - [`Refused::Fault`]: by number `NotArray` and `NoPlace`, by key `NotObject`.
+    /// - [`Refused::Memory`] when out of memory.
+    pub fn make<I: Index>(&mut self, alloc: Global, index: I) -> Result<(), Refused<IndexError>>
+        ensures { IsMade result self.old self.new (I.Index.makes index self.old) }
+    {
+        index.make_in(alloc, self)
     }
 }
 

@@ -7,6 +7,7 @@
 
 mod compare;
 mod convert;
+mod identical;
 mod index;
 mod kinds;
 pub mod laws;

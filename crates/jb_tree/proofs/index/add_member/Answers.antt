@@ -2,7 +2,8 @@ use Rattle.std.proofs.Common.{List, ℕ, IsSome, [], ◌∷◌, ◌++◌, sym, a
 use Rattle.std.specs.Str.{bytes_eq}
 use Rattle.std.specs.Map.{lookup}
 use Rattle.jb_tree.specs.declared.value.Value.{Value, Null}
-use Rattle.jb_tree.proofs.Members.{there-with_key, with_key-present, with_key-absent}
+use Rattle.jb_tree.specs.Places.{there-with_key}
+use Rattle.jb_tree.proofs.Members.{with_key-present, with_key-absent}
 use Rattle.jb_tree.proofs.index.add_member.Goals as goal
 
 abbrev Found : List ℕ → List (List ℕ × Value) → Type 0
