@@ -1,3 +1,5 @@
+pub mod Nesting
+pub mod PrettyPrinted
 pub mod Printed
 pub mod Settled
 pub mod Strings

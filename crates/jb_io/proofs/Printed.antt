@@ -16,9 +16,9 @@ use Rattle.jb_io.specs.Proper.{IsProper, AreProperItems, AreProperMembers, depth
 use Rattle.jb_io.proofs.Strings.{string_spelled}
 
 -- what may follow a number
-record Ends (rest : List ℕ) : Type 0 where
-  no_digit : begins is_digit rest ≡ false
-  no_mark : begins is_mark rest ≡ false
+pub record Ends (rest : List ℕ) : Type 0 where
+  pub no_digit : begins is_digit rest ≡ false
+  pub no_mark : begins is_mark rest ≡ false
 
 -- ---- no piece begins with white space
 
@@ -34,7 +34,7 @@ number_start z rest whole =
     no_white : (b : ℕ) → 45 ≤ b → is_white b ≡ false
     no_white b low = grind (arith, nat_tests)
 
-tree_start : (t : Tree) (rest : List ℕ) → IsProper t → skip_white (compact_tree t ++ rest) ≡ compact_tree t ++ rest
+pub tree_start : (t : Tree) (rest : List ℕ) → IsProper t → skip_white (compact_tree t ++ rest) ≡ compact_tree t ++ rest
 tree_start null rest p = refl
 tree_start (boolean true) rest p = refl
 tree_start (boolean false) rest p = refl
@@ -45,7 +45,7 @@ tree_start (object pairs) rest p = refl
 
 -- ---- pieces behind the first, a comma before each, and a closing bracket
 
-abbrev later : List (List ℕ) → List ℕ
+abbrev pub later : List (List ℕ) → List ℕ
 later = flat_map (λ piece. codes "," ++ piece)
 
 record Closes (close : ℕ) : Type 0 where

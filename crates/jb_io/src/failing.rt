@@ -1,6 +1,6 @@
 //! The calls of a stream in memory that are to fail.
 
-ghost use Rattle.std.specs.Prelude.{◌≡◌, ◌≤◌, IsTrue};
+ghost use Rattle.std.specs.Prelude.{◌≡◌, ◌≤◌, IsFalse, IsTrue};
 ghost use Rattle.jb_io.specs.Memory.{fails_next, next_call};
 ghost use Rattle.jb_io.specs.Stream.{HasFailed};
 
@@ -39,6 +39,7 @@ impl Failing {
     pub(crate) fn fails(&mut self) -> bool
         ensures exact { result ≡ fails_next self.old }
         ensures failed { IsTrue result → HasFailed self.old.faults self.new.faults }
+        ensures steady { IsFalse result → self.new.faults ≡ self.old.faults }
         ensures later { self.old.faults ≤ self.new.faults }
         ensures call { self.new ≡ record self.old { calls = next_call self.old; faults = self.new.faults } }
     {

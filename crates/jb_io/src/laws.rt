@@ -3,6 +3,7 @@
 ghost use Rattle.std.specs.Prelude.{◌≡◌, ◌≤◌, Ok};
 ghost use Rattle.jb_io.specs.Proper.{IsProper, depth};
 ghost use Rattle.jb_print.specs.Compact.{compact};
+ghost use Rattle.jb_print.specs.Pretty.{pretty};
 ghost use Rattle.jb_read.specs.Spelling.{JsonText};
 ghost use Rattle.jb_read.specs.Texts.{text_value};
 ghost use Rattle.jb_tree.specs.Tree.{tree};
@@ -16,4 +17,10 @@ pub use jb_shape::laws::{Faithful, FaithfulKey, comes_back};
 pub fn compact_reads_back()
     ensures spells { (v : Value) → IsProper (tree v) → depth (tree v) ≤ 127 → JsonText (compact v) v }
     ensures reads { (v : Value) → IsProper (tree v) → depth (tree v) ≤ 127 → text_value (compact v) ≡ Ok v }
+{}
+
+/// The same of what is printed over several lines.
+pub fn pretty_reads_back()
+    ensures spells { (v : Value) → IsProper (tree v) → depth (tree v) ≤ 127 → JsonText (pretty v) v }
+    ensures reads { (v : Value) → IsProper (tree v) → depth (tree v) ≤ 127 → text_value (pretty v) ≡ Ok v }
 {}

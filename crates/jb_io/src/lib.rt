@@ -16,6 +16,7 @@ mod failing;
 pub mod laws;
 mod memory_sink;
 mod memory_source;
+mod proper;
 mod serving;
 mod sink;
 mod source;
@@ -32,6 +33,7 @@ pub use jb_shape::{
 pub use jb_tree::Memory;
 pub use memory_sink::MemorySink;
 pub use memory_source::MemorySource;
+pub use proper::holds_proper;
 pub use serving::{
     ANSWERED, MISUSED, NO_MEMORY, REFUSED, SINK_FAILED, SOURCE_FAILED, TOO_LONG, serve,
 };

@@ -1,6 +1,6 @@
 //! A sink in memory that fails where it is to.
 
-ghost use Rattle.std.specs.Prelude.{◌≡◌, ◌-◌, ◌<◌, ◌≤◌, ◌⊎◌, true, [], Some, IsTrue, IfOk, OnErr, is_err, vec_len, vec_capacity};
+ghost use Rattle.std.specs.Prelude.{◌≡◌, ◌-◌, ◌<◌, ◌≤◌, ◌⊎◌, true, [], Some, IsTrue, IfOk, OnErr, OnOk, is_err, vec_len, vec_capacity};
 ghost use Rattle.jb_io.specs.Memory.{FindsNoRoom, fails_next, next_call};
 ghost use Rattle.jb_io.specs.Sink.{TakesSome, WriteTakes};
 ghost use Rattle.jb_io.specs.Stream.{HasFailed, IsWithin, MovesAtMost};
@@ -83,6 +83,7 @@ impl Sink for MemorySink {
             (Some (record { bytes = self.new.held.items; room = self.new.room - vec_len self.new.held })) result bytes.now }
         ensures later { self.old.failing.faults ≤ self.new.failing.faults }
         ensures cause { OnErr result (HasFailed self.old.failing.faults self.new.failing.faults) }
+        ensures steady { OnOk result (self.new.failing.faults ≡ self.old.failing.faults) }
         // It fails just where it is to, and where there is no room for any byte.
         ensures failed { OnErr result (IsTrue (fails_next self.old.failing)
             ⊎ FindsNoRoom (self.old.room - vec_len self.old.held) bytes.now) }
@@ -90,6 +91,7 @@ impl Sink for MemorySink {
         ensures full { FindsNoRoom (self.old.room - vec_len self.old.held) bytes.now → is_err result ≡ true }
         ensures piece { MovesAtMost self.old.piece result }
         ensures same_piece { self.new.piece ≡ self.old.piece }
+        ensures same_room { self.new.room ≡ self.old.room }
         ensures call { self.new.failing.calls ≡ next_call self.old.failing }
         ensures at { self.new.failing.at ≡ self.old.failing.at }
     {

@@ -1,6 +1,6 @@
 //! A source in memory that fails where it is to.
 
-ghost use Rattle.std.specs.Prelude.{◌≡◌, ◌<◌, ◌≤◌, Some, OnErr, is_err};
+ghost use Rattle.std.specs.Prelude.{◌≡◌, ◌<◌, ◌≤◌, Some, OnErr, OnOk, is_err};
 ghost use Rattle.std.specs.Io.KnownBytes.{ReadConsumes};
 ghost use Rattle.jb_io.specs.Memory.{fails_next, next_call};
 ghost use Rattle.jb_io.specs.Stream.{HasFailed, IsWithin, MovesAtMost};
@@ -56,6 +56,7 @@ impl Source for MemorySource {
         ensures bytes { ReadConsumes (Some self.old.rest) (Some self.new.rest) result buffer.new }
         ensures later { self.old.failing.faults ≤ self.new.failing.faults }
         ensures cause { OnErr result (HasFailed self.old.failing.faults self.new.failing.faults) }
+        ensures steady { OnOk result (self.new.failing.faults ≡ self.old.failing.faults) }
         // It fails just where it is to.
         ensures exact { is_err result ≡ fails_next self.old.failing }
         ensures piece { MovesAtMost self.old.piece result }
