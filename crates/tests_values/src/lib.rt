@@ -14,6 +14,8 @@ mod map;
 #[cfg(test)]
 mod members;
 #[cfg(test)]
+mod places;
+#[cfg(test)]
 mod text;
 #[cfg(test)]
 mod tree;

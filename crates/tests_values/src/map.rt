@@ -123,10 +123,18 @@ fn enter(alloc: Global, map: &mut Pairs<u64>) -> Result<(), Memory> {
     Ok(())
 }
 
+/// Gives what is at a key, after 6 was put there where there is none.
+fn enter_with(alloc: Global, map: &mut Pairs<u64>, number: u64) -> Result<u64, Memory> {
+    let place = map.entry(key(alloc, number)?).or_insert_with(|| 6)?;
+    Ok(*place)
+}
+
 fn check_entry(rt: &impl Abort, alloc: Global, map: &mut Pairs<u64>) -> Result<(), Memory> {
     enter(alloc, map)?;
+    assert_eq!(*rt; enter_with(alloc, map, 7)?, 8);
+    assert_eq!(*rt; enter_with(alloc, map, 4)?, 6);
     map.sort_keys()?;
-    assert_shows(rt, alloc, map, "key 3=3;key 7=8;key 9=9;")
+    assert_shows(rt, alloc, map, "key 3=3;key 4=6;key 7=8;key 9=9;")
 }
 
 #[test]

@@ -105,9 +105,17 @@ fn check_additions(rt: &impl Abort, alloc: Global, members: &mut Map) -> Result<
     assert_shows(rt, alloc, members, "{\"a\":3,\"b\":4}")
 }
 
+/// The text of the object of these members, made in one call.
+fn made_shown(alloc: Global, members: &[(&str, u64)]) -> Result<Text, Memory> {
+    let made = Value::from_pairs(alloc, pairs_of(alloc, members)?)?;
+    text_of(alloc, &made)
+}
+
 #[test]
 fn the_last_pair_of_a_key_counts(rt: HostRuntime) -> Result<(), Memory> {
     let alloc = rt.alloc();
+    let made = made_shown(alloc, &[("a", 1), ("b", 2), ("a", 3)])?;
+    assert_eq!(rt; made.as_str(), "{\"a\":3,\"b\":2}");
     assert!(rt; Map::with_capacity(alloc, 4)?.is_empty());
     let mut members = object(alloc, &[("a", 1), ("a", 2)])?;
     check_additions(&rt, alloc, &mut members)
