@@ -11,7 +11,7 @@ use Rattle.gql_document_types.specs.declared.selection.Selection.{Selection}
 use Rattle.gql_schema_types.specs.declared.schema.Schema.{Schema}
 use Rattle.gql_schema_types.specs.declared.types.ObjectType.{ObjectType}
 use Rattle.gql_source.specs.File.{Files}
-use Rattle.gql_resolvers.specs.Execute.{Made, Member, then_rest, settled, settled_item, unless_misfit, one_array, one_object, with_key, Below, object_made, value_made, items_made, field_made, groups_made, execute}
+use Rattle.gql_resolvers.specs.Execute.{Made, Member, then_rest, settled, unless_misfit, one_array, one_object, with_key, Below, object_made, value_made, items_made, field_made, groups_made, execute}
 use Rattle.gql_resolvers.specs.Resolved.{Meaning, Meanings, gives_leaf, gives_object, gives_list, gives_skip, fails_with, no_answer, answer_then, Misfit, Outcome, answered, refused}
 use Rattle.gql_resolvers.specs.Spot.{Spot, trail, item_spot, field_spot}
 use Rattle.gql_resolvers.specs.Trail.{Trail}
@@ -91,13 +91,6 @@ module _ {X Y : Type 0} (schema : Schema) (sources : Files) (fragments : List Fr
   misfit-same ty own gives_skip = refl
   misfit-same ty own (fails_with text) = refl
 
-  settled-same : (spot : Spot Group) (own : Schema) (m : Meaning Meta) (made : Made Value) → settled_item spot (told_of {X = X} own m) made ≡ settled_item spot (told_of {X = Y} own m) made
-  settled-same spot own (gives_leaf v) made = refl
-  settled-same spot own (gives_object m) made = refl
-  settled-same spot own (gives_list ms) made = refl
-  settled-same spot own gives_skip made = refl
-  settled-same spot own (fails_with text) made = refl
-
   unless-same : (spot : Spot Group) (o : Option Misfit) (made : Made Value) → unless_misfit one spot o made ≡ unless_misfit two spot o made
   unless-same spot None made = refl
   unless-same spot (Some misfit) made = refl
@@ -130,10 +123,9 @@ module _ {X Y : Type 0} (schema : Schema) (sources : Files) (fragments : List Fr
       items-same list i own no_answer = refl
       items-same list i own (answer_then m ms) =
           let spot = item_spot list i in
-          let first = settled-same spot own m (unless_misfit one spot (one.misfit spot.type (told_of own m)) (value_made one run spot (told_of own m)))
-          ∙ ap (λ (v : Made Value). settled_item spot (told_of {X = Y} own m) v) (fit-same spot own m (value-same spot own m)) in
+          let first = ap (λ (v : Made Value). settled spot v) (fit-same spot own m (value-same spot own m)) in
           ap (λ (v : Made Value). then_rest v (items_made one run list (i + 1) (all_mapped (of_library own) ms))) first
-          ∙ ap (λ (r : Made Value). then_rest (settled_item spot (told_of {X = Y} own m) (unless_misfit two spot (two.misfit spot.type (told_of own m)) (value_made two other spot (told_of own m)))) r)
+          ∙ ap (λ (r : Made Value). then_rest (settled spot (unless_misfit two spot (two.misfit spot.type (told_of own m)) (value_made two other spot (told_of own m)))) r)
           (items-same list (i + 1) own ms)
 
     pub field-same : (spot : Spot Group) (own : Schema) (o : Outcome Meta) → field_made one run spot (outcome_of own o) ≡ field_made two other spot (outcome_of own o)

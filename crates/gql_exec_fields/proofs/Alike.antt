@@ -17,7 +17,7 @@ use Rattle.gql_resolvers.specs.Depth.{AllGroups, Suffices}
 use Rattle.gql_resolvers.specs.World.{World, key_of, DistinctKeys}
 use Rattle.gql_resolvers.specs.Trail.{Segment, Trail}
 use Rattle.gql_resolvers.specs.Spot.{Spot, item_spot, field_spot}
-use Rattle.gql_resolvers.specs.Execute.{Made, Member, then_rest, settled, settled_item, unless_misfit}
+use Rattle.gql_resolvers.specs.Execute.{Made, Member, then_rest, settled, unless_misfit}
 use Rattle.gql_resolvers.specs.Execute.{one_array, one_object, with_key, Below, object_made, value_made, items_made, field_made, groups_made, execute}
 use Rattle.gql_exec_fields.specs.Group.{Group, piece_of, started, groups_from}
 use Rattle.gql_exec_fields.specs.Request.{Request}
@@ -84,8 +84,8 @@ module _ {X : Type 0} (r : Request X) where
         alike_items a s t i (answer_then m ms) =
             let it = item_spot (at a s t (one f ps)) i in
             let other = item_spot (at a s t (one f qs)) i in
-            ap (λ (v : Made Value). then_rest (settled_item it m (unless_misfit w it (w.misfit it.type m) v)) (items_made w run (at a s t (one f ps)) (i + 1) ms)) (alike_value it.around it.step it.type m)
-            ∙ ap (λ (rest : Made Value). then_rest (settled_item other m (unless_misfit w other (w.misfit other.type m) (value_made w run other m))) rest) (alike_items a s t (i + 1) ms)
+            ap (λ (v : Made Value). then_rest (settled it (unless_misfit w it (w.misfit it.type m) v)) (items_made w run (at a s t (one f ps)) (i + 1) ms)) (alike_value it.around it.step it.type m)
+            ∙ ap (λ (rest : Made Value). then_rest (settled other (unless_misfit w other (w.misfit other.type m) (value_made w run other m))) rest) (alike_items a s t (i + 1) ms)
 
       alike_field : (a : Trail) (s : Segment) (t : TypeRef) (outcome : Outcome X) → field_made w run (at a s t (one f ps)) outcome ≡ field_made w run (at a s t (one f qs)) outcome
       alike_field a s t (answered m) =

@@ -1,32 +1,25 @@
 -- What a function of the cycle answers, told of the place that its caller knows.
-use Rattle.std.proofs.Common.{◌≡◌, List, [], ◌∷◌, ◌++◌, Option, Some, None, Result, Ok, Err, IfOk, refl, sym, ap, ◌∙◌, subst}
+use Rattle.std.proofs.Common.{◌≡◌, List, [], ◌∷◌, ◌++◌, Option, Some, None, Result, IfOk, refl, sym, subst}
 use Rattle.std.proofs.lemmas.Result.{IfOk-weaker}
 use Rattle.jb_tree.specs.declared.value.Value.{Value}
 use Rattle.gql_ast_base.specs.declared.type_ref.TypeRef.{TypeRef}
 use Rattle.gql_document_types.specs.declared.selection.Selection.{Selection}
 use Rattle.gql_response.specs.declared.graphql_error.GraphQLError.{GraphQLError}
 use Rattle.gql_schema_types.specs.declared.types.ObjectType.{ObjectType}
-use Rattle.gql_resolvers.specs.Fit.{wrong}
-use Rattle.gql_resolvers.specs.Messages as message
-use Rattle.gql_resolvers.specs.Execute.{Made, Below, settled, settled_item, unless_misfit, value_made, completed, field_made, one_object, execute}
+use Rattle.gql_resolvers.specs.Execute.{Made, Below, settled, value_made, completed, field_made, one_object, execute}
 use Rattle.gql_resolvers.specs.Fault.{told_at, fault_error}
 use Rattle.gql_resolvers.specs.Resolved.{Meaning, gives_object, Misfit, Fault, answered, refused}
 use Rattle.gql_resolvers.specs.Spot.{Spot, trail, field_spot}
 use Rattle.gql_resolvers.specs.Trail.{Trail}
 use Rattle.gql_resolvers.specs.World.{World}
-use Rattle.gql_resolvers.specs.Meaning.{meaning_by, item_by}
-use Rattle.gql_resolvers.specs.declared.resolve_error.FieldError.{FieldError}
-use Rattle.gql_resolvers.specs.declared.resolved_value.ResolvedValue.{ResolvedValue}
 use Rattle.gql_exec_fields.specs.Group.{Group}
-use Rattle.gql_exec_fields.specs.Request.{Request}
-use Rattle.gql_exec_fields.specs.RequestWorld.{plain_world}
 use Rattle.gql_exec_fields.specs.Executed.{IsMade, Makes, MakesBelow}
 use Rattle.gql_exec_fields.specs.Output.{Finds, IsWritten}
 use Rattle.gql_exec_fields.specs.Trails.{null_at}
 use Rattle.gql_exec_fields.specs.declared.completed.Completed.{Completed}
 use Rattle.gql_exec_fields.proofs.Outputs.{finds-as}
 use Rattle.gql_exec_fields.proofs.Completing.{made-as, completed-fits}
-use Rattle.gql_exec_fields.proofs.Places.{made-misfit, made-fitting, field-answered, field-refused, item-answered, item-failed}
+use Rattle.gql_exec_fields.proofs.Places.{made-misfit, made-fitting, field-answered, field-refused}
 
 module _ {X V E : Type 0} (w : World X ObjectType Group (List (List Selection))) (before after : List GraphQLError) (Are : V → Option (List Value) → Type 0) (result : Result V E) where
   -- what is made, unless out of memory
@@ -90,30 +83,11 @@ module _ {X V E : Type 0} (w : World X ObjectType Group (List (List Selection)))
       refused-as spot fault g (λ run. field_made w run (field_spot w U outer g) (w.asks U x g))
       (λ found made. field-refused w U x outer g before after spot fault found there is made)
 
-  -- at the place of an item
-  pub done-item : {O : Type 0} (see : O → X) (here there : Spot Group) (resolved : ResolvedValue O) (item : Result (ResolvedValue O) FieldError) → here ≡ there → item ≡ Ok resolved
-      → IsDone here.group (λ run. completed w run here (meaning_by see resolved))
-      → IsDone there.group (λ run. settled_item there (item_by see item) (unless_misfit w there (w.misfit there.type (item_by see item)) (value_made w run there (item_by see item))))
-  done-item see here there resolved item same is done =
-      let moved = subst (λ s. IsDone s.group (λ run. completed w run s (meaning_by see resolved))) same done in
-      subst (λ i. IsDone there.group (λ run. settled_item there (item_by see i) (unless_misfit w there (w.misfit there.type (item_by see i)) (value_made w run there (item_by see i)))))
-      (sym is)
-      (done-as there.group there.group (λ run. completed w run there (meaning_by see resolved))
-      (λ run. settled_item there (meaning_by see resolved) (unless_misfit w there (w.misfit there.type (meaning_by see resolved)) (value_made w run there (meaning_by see resolved))))
-      (λ found makes. item-answered see w there before after resolved found makes) moved)
-
--- an item that failed
-pub done-failed : {O X : Type 0} (see : O → X) (r : Request X) (here there : Spot Group) (before after : List GraphQLError) (item : Result (ResolvedValue O) FieldError) (error : FieldError)
-    → here ≡ there → item ≡ Err error
-    → after ≡ before ++ fault_error (plain_world r) here (told_at here.group.first.name.location (wrong (message.resolver_error error.message))) ∷ []
-    → let w = plain_world r in
-    MakesBelow w there.group None before after (λ run.
-    settled_item there (item_by see item) (unless_misfit w there (w.misfit there.type (item_by see item)) (value_made w run there (item_by see item))))
-done-failed see r here there before after item error same is listed =
-    let w = plain_world r in
-    let moved = listed ∙ ap (λ s. before ++ fault_error w s (told_at s.group.first.name.location (wrong (message.resolver_error error.message))) ∷ []) same in
-    subst (λ i. MakesBelow w there.group None before after (λ run. settled_item there (item_by see i) (unless_misfit w there (w.misfit there.type (item_by see i)) (value_made w run there (item_by see i)))))
-    (sym is) (item-failed r there before after error.message moved)
+  -- the same answer at the same place, both in other words
+  pub done-there : (here there : Spot Group) (m n : Meaning X) → here ≡ there → n ≡ m → IsDone here.group (λ run. completed w run here m)
+      → IsDone there.group (λ run. completed w run there n)
+  done-there here there m n same is done =
+      done-meant there n m is (subst (λ s. IsDone s.group (λ run. completed w run s m)) same done)
 
 -- a null at a place below which nothing is left in the output
 pub null-done : {X S V E : Type 0} (w : World X ObjectType Group (List (List Selection))) (before after : List GraphQLError) (is_made : S → S → V → Value → Type 0)

@@ -5,7 +5,7 @@ use Rattle.jb_tree.specs.declared.value.Value.TheVariants as json
 use Rattle.gql_document_types.specs.declared.selection.Selection.{Selection}
 use Rattle.gql_response.specs.declared.graphql_error.GraphQLError.{GraphQLError}
 use Rattle.gql_schema_types.specs.declared.types.ObjectType.{ObjectType}
-use Rattle.gql_resolvers.specs.Execute.{Made, Below, null_or_pass, items_made, one_array, settled, settled_item, unless_misfit, value_made, execute}
+use Rattle.gql_resolvers.specs.Execute.{Made, Below, null_or_pass, items_made, one_array, settled, completed, execute}
 use Rattle.gql_resolvers.specs.Resolved.{Meaning, Meanings, no_answer, answer_then}
 use Rattle.gql_resolvers.specs.Spot.{Spot, item_spot}
 use Rattle.gql_ast_base.specs.TypeParts.{is_non_null}
@@ -17,8 +17,7 @@ use Rattle.gql_exec_fields.proofs.Steps.{IsOnWay, begun, goes_on, stops, ends}
 
 module _ {X : Type 0} (w : World X ObjectType Group (List (List Selection))) (list : Spot Group) where
   abbrev pub item_made : Below w → ℕ → Meaning X → Made Value
-  item_made run i m =
-      let spot = item_spot list i in settled_item spot m (unless_misfit w spot (w.misfit spot.type m) (value_made w run spot m))
+  item_made run i m = completed w run (item_spot list i) m
 
   abbrev made_at : ℕ → ℕ → Meanings X → Made Value
   made_at depth i ms = items_made w (execute w depth) list i ms

@@ -1,27 +1,20 @@
 -- What is made at a place, from what is made of its parts.
-use Rattle.std.proofs.Common.{◌≡◌, ℕ, List, [], ◌∷◌, ◌++◌, Option, Some, None, refl, sym, ap, ◌∙◌, subst}
+use Rattle.std.proofs.Common.{◌≡◌, List, [], ◌∷◌, Option, Some, None, refl, sym, ap, ◌∙◌, subst}
 use Rattle.jb_tree.specs.declared.value.Value.{Value}
 use Rattle.jb_tree.specs.declared.value.Value.TheVariants as json
 use Rattle.gql_document_types.specs.declared.selection.Selection.{Selection}
 use Rattle.gql_response.specs.declared.graphql_error.GraphQLError.{GraphQLError}
 use Rattle.gql_schema_types.specs.declared.types.ObjectType.{ObjectType}
-use Rattle.gql_resolvers.specs.Fit.{wrong}
-use Rattle.gql_resolvers.specs.Messages as message
-use Rattle.gql_resolvers.specs.Execute.{Member, null_or_pass, settled, settled_item, unless_misfit, value_made, completed, field_made, one_object, execute}
+use Rattle.gql_resolvers.specs.Execute.{Member, null_or_pass, settled, completed, field_made, one_object, execute}
 use Rattle.gql_resolvers.specs.Fault.{told_at, fault_error}
-use Rattle.gql_resolvers.specs.Resolved.{Meaning, gives_object, fails_with, Misfit, Fault, Outcome, answered, refused}
+use Rattle.gql_resolvers.specs.Resolved.{Meaning, gives_object, Misfit, Fault, Outcome, answered, refused}
 use Rattle.gql_resolvers.specs.Spot.{Spot, trail, field_spot}
 use Rattle.gql_resolvers.specs.Trail.{Trail}
 use Rattle.gql_ast_base.specs.TypeParts.{is_non_null}
 use Rattle.gql_resolvers.specs.World.{World}
-use Rattle.gql_resolvers.specs.declared.resolved_value.ResolvedValue.{ResolvedValue}
-use Rattle.gql_resolvers.specs.Meaning.{meaning_by}
 use Rattle.gql_exec_fields.specs.Group.{Group}
-use Rattle.gql_exec_fields.specs.Request.{Request}
-use Rattle.gql_exec_fields.specs.RequestWorld.{plain_world}
 use Rattle.gql_exec_fields.specs.Executed.{IsMade, MakesBelow, Executes}
 use Rattle.gql_exec_fields.proofs.Completing.{made-as, completed-misfit, completed-object, object-some, object-none}
-use Rattle.gql_exec_fields.proofs.Values.{settled-answer}
 
 module _ {X : Type 0} (w : World X ObjectType Group (List (List Selection))) (spot : Spot Group) (before after : List GraphQLError) where
   -- an answer that does not fit
@@ -75,19 +68,3 @@ module _ {X : Type 0} (w : World X ObjectType Group (List (List Selection))) (U 
       made-as found found before after _ _ refl
       (ap (λ (s : Spot Group). settled s (None, fault_error w s fault ∷ [])) there ∙ ap (λ (o : Outcome X). field_made w (execute w depth) (field_spot w U outer g) o) is)
       made
-
--- an item that its resolver gave
-pub item-answered : {O X : Type 0} (see : O → X) (w : World X ObjectType Group (List (List Selection))) (spot : Spot Group) (before after : List GraphQLError)
-    (resolved : ResolvedValue O) (found : Option (List Value)) → MakesBelow w spot.group found before after (λ run. completed w run spot (meaning_by see resolved))
-    → MakesBelow w spot.group found before after (λ run.
-    settled_item spot (meaning_by see resolved) (unless_misfit w spot (w.misfit spot.type (meaning_by see resolved)) (value_made w run spot (meaning_by see resolved))))
-item-answered see w spot before after resolved found makes depth enough =
-    made-as found found before after _ _ refl (sym (settled-answer see spot resolved _)) (makes depth enough)
-
--- an item that failed
-pub item-failed : {X : Type 0} (r : Request X) (spot : Spot Group) (before after : List GraphQLError) (text : List ℕ)
-    → after ≡ before ++ fault_error (plain_world r) spot (told_at spot.group.first.name.location (wrong (message.resolver_error text))) ∷ []
-    → let w = plain_world r in
-    let m = fails_with text in
-    MakesBelow w spot.group None before after (λ run. settled_item spot m (unless_misfit w spot (w.misfit spot.type m) (value_made w run spot m)))
-item-failed r spot before after text listed depth enough = record { is = refl; listed = listed }

@@ -1,14 +1,11 @@
 -- What resolved values mean, variant by variant.
-use Rattle.std.proofs.Common.{◌≡◌, refl, ap, sym, ◌∙◌}
+use Rattle.std.proofs.Common.{◌≡◌, ap, sym, ◌∙◌}
 use Rattle.jb_tree.specs.declared.value.Value.{Value}
-use Rattle.gql_resolvers.specs.Execute.{Made, settled, settled_item}
 use Rattle.gql_resolvers.specs.Resolved.{Meaning, gives_leaf, gives_object, gives_skip}
-use Rattle.gql_resolvers.specs.Spot.{Spot}
-use Rattle.gql_resolvers.specs.declared.resolved_value.ResolvedValue.{ResolvedValue, fold-roll-ResolvedValue, out-ResolvedValue, fold_out-ResolvedValue}
+use Rattle.gql_resolvers.specs.declared.resolved_value.ResolvedValue.{fold-roll-ResolvedValue}
 use Rattle.gql_resolvers.specs.declared.resolved_value.ResolvedValue as value
 use Rattle.gql_resolvers.specs.declared.resolved_value.ResolvedValue.TheVariants.{rolls-Leaf, rolls-Object, rolls-SkipForPartialExecution}
 use Rattle.gql_resolvers.specs.declared.resolved_value.ResolvedValue.TheOpen as layer
-use Rattle.gql_resolvers.specs.declared.resolved_value.ResolvedValue.TheOpen.{ResolvedValue-F}
 use Rattle.gql_resolvers.specs.Meaning.{meaning_by, meaning_step}
 
 module _ {O X : Type 0} (see : O → X) where
@@ -20,15 +17,3 @@ module _ {O X : Type 0} (see : O → X) where
 
   pub meaning-skip : meaning_by see value.SkipForPartialExecution ≡ gives_skip
   meaning-skip = ap (meaning_by see) (sym rolls-SkipForPartialExecution) ∙ fold-roll-ResolvedValue O (Meaning X) (meaning_step see) layer.SkipForPartialExecution
-
-  -- an item that did not fail is settled at its own place
-  pub settled-answer : {G : Type 0} (spot : Spot G) (r : ResolvedValue O) (made : Made Value) → settled_item spot (meaning_by see r) made ≡ settled spot made
-  settled-answer {G} spot r made =
-      ap (λ (m : Meaning X). settled_item spot m made) (fold_out-ResolvedValue O (Meaning X) (meaning_step see) r)
-      ∙ by (value.map-ResolvedValue O (ResolvedValue O) (Meaning X) (meaning_by see) (out-ResolvedValue O r))
-    where
-      by : (k : ResolvedValue-F O (Meaning X)) → settled_item spot (meaning_step see k) made ≡ settled spot made
-      by (layer.Leaf v) = refl
-      by (layer.Object o) = refl
-      by (layer.List items) = refl
-      by layer.SkipForPartialExecution = refl

@@ -3,7 +3,7 @@
 ghost use Rattle.std.specs.Prelude.{◌≡◌, ℕ, List, map, is_some, true, IfOk, OnOk};
 ghost use Rattle.gql_document_types.specs.Ranks.{AreRanked};
 ghost use Rattle.gql_resolvers.specs.Lists.{is_list};
-ghost use Rattle.gql_resolvers.specs.Execute.{completed, field_made, items_made, one_array, one_object, settled, settled_item, unless_misfit, value_made};
+ghost use Rattle.gql_resolvers.specs.Execute.{completed, field_made, items_made, one_array, one_object, settled};
 ghost use Rattle.gql_resolvers.specs.Resolved.{gives_list, gives_object};
 ghost use Rattle.gql_resolvers.specs.Spot.{field_spot, item_spot, trail};
 ghost use Rattle.gql_resolvers.specs.Types as places;
@@ -337,7 +337,7 @@ impl<'s> Executing<'s> {
         Ok(Completed::Value(out.end_list(list)?))
     }
 
-    /// What is made of an item of the list at a place. One that failed faults the list, whatever its own type.
+    /// What is made of an item of the list at a place. One that failed nulls itself where its type may be null.
     #[cycle(execute)]
     fn complete_item<O: ObjectValue, L: Ledger, M: Output>(
         &self,
@@ -355,10 +355,8 @@ impl<'s> Executing<'s> {
         requires list { is_list list.now.ty.now ≡ true }
         ensures made { IfOk result (λ done.
             let w = world_of self.now O.type_of O.resolves in
-            let spot = item_spot (spot_of list.now) index in
-            let m = item_by O.seen item in
             Makes w (IsWritten M.is_made out.old out.new done) (group_of list.now.group.now) errors.old errors.new
-            (λ run. settled_item spot m (unless_misfit w spot (w.misfit spot.type m) (value_made w run spot m)))) }
+            (λ run. completed w run (item_spot (spot_of list.now) index) (item_by O.seen item))) }
         ensures planned { OnOk result (AreNodes (ground_in self.now) (sets_below list.now.group.now) nodes.new) }
         ensures grows { OnOk result (NodesGrow self.now steps.old steps.new nodes.old nodes.new
             (opened.MakesTurn (world_of self.now O.type_of O.resolves) (item_spot (spot_of list.now) index) (item_by O.seen item))) }
@@ -373,10 +371,7 @@ impl<'s> Executing<'s> {
         };
         match item {
             Ok(resolved) => self.complete_value(&place, resolved, nodes, errors, steps, out),
-            Err(error) => {
-                self.list_failure::<O>(&place, error, errors)?;
-                Ok(Completed::NullPasses)
-            }
+            Err(error) => self.fail::<O, M>(&place, error, errors, out),
         }
     }
 }

@@ -1,8 +1,6 @@
 //! Errors that are listed at places, and leaves.
 
-ghost use Rattle.std.specs.Prelude.{◌≡◌, ◌++◌, ◌∷◌, [], None, IfOk, OnOk};
-ghost use Rattle.gql_resolvers.specs.Fit.{wrong};
-ghost use Rattle.gql_resolvers.specs.Messages as message;
+ghost use Rattle.std.specs.Prelude.{◌∷◌, [], None, IfOk};
 ghost use Rattle.gql_resolvers.specs.Seen.{seen};
 ghost use Rattle.gql_resolvers.specs.Execute.{completed, settled};
 ghost use Rattle.gql_resolvers.specs.Fault.{fault_error, told_at};
@@ -67,7 +65,7 @@ impl<'s> Executing<'s> {
         place.null(out)
     }
 
-    /// Lists a resolver's failure at the place of a field, whose value is then null.
+    /// Lists a resolver's failure at a place, whose value is then null.
     pub(crate) fn fail<O: ObjectValue, M: Output>(
         &self,
         place: &Place<'_, '_>,
@@ -80,28 +78,13 @@ impl<'s> Executing<'s> {
             Makes w (IsWritten M.is_made out.old out.new done) (group_of place.now.group.now) errors.old errors.new
             (λ run. completed w run (spot_of place.now) (fails_with error.message))) }
     {
-        self.list_failure::<O>(place, error, errors)?;
-        place.null(out)
-    }
-
-    /// Lists a resolver's failure at a place.
-    pub(crate) fn list_failure<O: ObjectValue>(
-        &self,
-        place: &Place<'_, '_>,
-        error: FieldError,
-        errors: &mut Listed<GraphQLError>,
-    ) -> Result<(), Memory>
-        ensures { OnOk result (
-            let w = world_of self.now O.type_of O.resolves in
-            let spot = spot_of place.now in
-            errors.new ≡ errors.old ++ fault_error w spot (told_at (w.span_of spot.group) (wrong (message.resolver_error error.message))) ∷ []) }
-    {
         let fault = RequestError {
             message: resolver_error(self.alloc, error.message.as_str())?,
             location: place.group.first.name.location(),
             is_suspected_validation_bug: false,
         };
-        place.list(self.alloc, &self.document().sources, fault, errors)
+        place.list(self.alloc, &self.document().sources, fault, errors)?;
+        place.null(out)
     }
 
     /// Lists the fault of an argument at a place, whose value is then null.

@@ -9,7 +9,7 @@ use Rattle.gql_document_types.specs.Contents.{HaveContents}
 use Rattle.gql_document_types.specs.Expanded.{expanded}
 use Rattle.gql_document_types.specs.Ranks.{AreRanked}
 use Rattle.gql_resolvers.specs.Depth.{AllGroups, Suffices}
-use Rattle.gql_resolvers.specs.Execute.{Made, Member, then_rest, settled, settled_item, unless_misfit}
+use Rattle.gql_resolvers.specs.Execute.{Made, Member, then_rest, settled, unless_misfit}
 use Rattle.gql_resolvers.specs.Execute.{one_array, one_object, with_key, Below, object_made, value_made, items_made, field_made, groups_made, execute}
 use Rattle.gql_resolvers.specs.Resolved.{Meaning, Meanings, gives_leaf, gives_object, gives_list, gives_skip, fails_with, no_answer, answer_then}
 use Rattle.gql_resolvers.specs.Resolved.{Outcome, answered, refused}
@@ -65,8 +65,8 @@ module _ {X : Type 0} (r : Request X) (others : List Fragment) where
         items-same a s t i (answer_then m ms) =
             let it = item_spot (at a s t (with_each g)) i in
             let that = item_spot (at a s t g) i in
-            ap (λ (made : Made Value). then_rest (settled_item it m (unless_misfit v it (v.misfit it.type m) made)) (items_made v other (at a s t (with_each g)) (i + 1) ms)) (value-same it.around it.step it.type m)
-            ∙ ap (λ (rest : Made Value). then_rest (settled_item that m (unless_misfit w that (w.misfit that.type m) (value_made w run that m))) rest) (items-same a s t (i + 1) ms)
+            ap (λ (made : Made Value). then_rest (settled it (unless_misfit v it (v.misfit it.type m) made)) (items_made v other (at a s t (with_each g)) (i + 1) ms)) (value-same it.around it.step it.type m)
+            ∙ ap (λ (rest : Made Value). then_rest (settled that (unless_misfit w that (w.misfit that.type m) (value_made w run that m))) rest) (items-same a s t (i + 1) ms)
 
       field-same : (a : Trail) (s : Segment) (t : TypeRef) (outcome : Outcome X) → field_made v other (at a s t (with_each g)) outcome ≡ field_made w run (at a s t g) outcome
       field-same a s t (answered m) =

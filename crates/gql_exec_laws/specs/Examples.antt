@@ -7,7 +7,7 @@ use Rattle.gql_ast_base.specs.declared.type_ref.TypeRef.TheVariants as ty
 use Rattle.gql_ast_definitions.specs.declared.field_definition.FieldDefinition.{FieldDefinition}
 use Rattle.gql_schema_types.specs.MetaFields.{named}
 use Rattle.gql_schema_types.specs.declared.types.ObjectType.{ObjectType}
-use Rattle.gql_resolvers.specs.Resolved.{Meaning, gives_leaf, gives_object, gives_list, fails_with, no_answer, answer_then}
+use Rattle.gql_resolvers.specs.Resolved.{Meaning, Meanings, gives_leaf, gives_object, gives_list, fails_with, no_answer, answer_then}
 use Rattle.gql_exec_laws.specs.Parts.{schema, object, plain, select}
 use Rattle.gql_exec_laws.specs.Example.{Example, Thing, root, inner}
 
@@ -20,25 +20,42 @@ number n = gives_leaf (json.Number (pos n))
 abbrev pub null : Meaning Thing
 null = gives_leaf json.Null
 
--- ---- type Query { f: [Int] }, and a list whose second item fails
+-- ---- lists in which items fail
 
+-- { f }, of this definition of f, which gives a list of these; the errors and the data
+abbrev pub list_query : FieldDefinition → ObjectType
+list_query f = object (codes "Query") (f ∷ [])
+
+abbrev pub list_of : FieldDefinition → Meanings Thing → List ℕ → Example
+list_of f items answer = record {
+  schema = schema (list_query f ∷ []);
+  query = codes "{ f }";
+  root_type = list_query f;
+  selections = select 2 f [] ∷ [];
+  answers = λ thing name. gives_list items;
+  answer = codes "{\"errors\":[" ++ answer;
+}
+
+-- type Query { f: [Int] }
 abbrev pub f : FieldDefinition
 f = plain (codes "f") (ty.List int)
 
-abbrev pub list_query : ObjectType
-list_query = object (codes "Query") (f ∷ [])
+abbrev pub failed_items : Example
+failed_items =
+    list_of f (answer_then (fails_with (codes "a")) (answer_then (number 42) (answer_then (fails_with (codes "b")) no_answer)))
+    (codes "{\"message\":\"resolver error: a\",\"locations\":[{\"line\":1,\"column\":3}],\"path\":[\"f\",0]},"
+    ++ (codes "{\"message\":\"resolver error: b\",\"locations\":[{\"line\":1,\"column\":3}],\"path\":[\"f\",2]}],"
+    ++ codes "\"data\":{\"f\":[null,42,null]}}"))
 
-abbrev pub failed_item : Example
-failed_item = record {
-  schema = schema (list_query ∷ []);
-  query = codes "{ f }";
-  root_type = list_query;
-  selections = select 2 f [] ∷ [];
-  answers = λ thing name. gives_list (answer_then (number 42) (answer_then (fails_with (codes "!")) no_answer));
-  answer =
-      codes "{\"errors\":[{\"message\":\"resolver error: !\",\"locations\":[{\"line\":1,\"column\":3}],\"path\":[\"f\",1]}],"
-      ++ codes "\"data\":{\"f\":null}}";
-}
+-- type Query { f: [Int!] }
+abbrev pub strict_f : FieldDefinition
+strict_f = plain (codes "f") (ty.List (ty.NonNullNamed (named (codes "Int"))))
+
+abbrev pub failed_strict_item : Example
+failed_strict_item =
+    list_of strict_f (answer_then (number 1) (answer_then (fails_with (codes "e")) (answer_then (fails_with (codes "never")) no_answer)))
+    (codes "{\"message\":\"resolver error: e\",\"locations\":[{\"line\":1,\"column\":3}],\"path\":[\"f\",1]}],"
+    ++ codes "\"data\":{\"f\":null}}")
 
 -- ---- type Query { a: A } type A { x: Int! y: Int }, and no x
 

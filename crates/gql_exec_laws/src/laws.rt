@@ -11,7 +11,7 @@ ghost use Rattle.gql_exec_fields.specs.Response.{IsExecuted};
 ghost use Rattle.gql_exec_laws.specs.Counting.{counted, field_a, field_b};
 ghost use Rattle.gql_exec_laws.specs.Doubling.{most_looks};
 ghost use Rattle.gql_exec_laws.specs.Example.{IsAnswered};
-ghost use Rattle.gql_exec_laws.specs.Examples.{failed_item, merged, null_alone, null_behind, root_null};
+ghost use Rattle.gql_exec_laws.specs.Examples.{failed_items, failed_strict_item, merged, null_alone, null_behind, root_null};
 ghost use Rattle.gql_exec_laws.specs.Others.{among};
 ghost use Rattle.gql_resolvers.specs.Execute.{execute};
 ghost use Rattle.gql_resolvers.specs.Trail.{Trail};
@@ -41,9 +41,16 @@ pub fn expansion_changes_nothing<X>()
     graph_laws::acyclic_graphs_have_ranks();
 }
 
-/// An item that fails nulls its list, and the error has the item's index: `{ f }` of `type Query { f: [Int] }`.
-pub fn a_failed_item_nulls_its_list()
-    ensures { IsAnswered failed_item }
+/// An item that fails is null and the list goes on; each error has its item's index: `{ f }` of `type Query { f: [Int] }`, whose
+/// first and third items fail.
+pub fn a_failed_item_nulls_itself()
+    ensures { IsAnswered failed_items }
+{}
+
+/// Where items must not be null, the first that fails ends the list, which is null, and what is behind is not looked at: `{ f }` of
+/// `type Query { f: [Int!] }`.
+pub fn a_failed_item_ends_a_list_without_nulls()
+    ensures { IsAnswered failed_strict_item }
 {}
 
 /// Null at a type that rules it out nulls the object around it, and what came before in that object is lost: `{ a { y x } }`

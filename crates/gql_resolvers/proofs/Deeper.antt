@@ -6,7 +6,7 @@ use Rattle.gql_resolvers.specs.Resolved.{Outcome, answered, refused}
 use Rattle.gql_resolvers.specs.World.{World, key_of}
 use Rattle.gql_resolvers.specs.Trail.{Trail}
 use Rattle.gql_resolvers.specs.Spot.{Spot, trail, item_spot, field_spot}
-use Rattle.gql_resolvers.specs.Execute.{Made, Member, then_rest, settled, settled_item, unless_misfit}
+use Rattle.gql_resolvers.specs.Execute.{Made, Member, then_rest, settled, unless_misfit}
 use Rattle.gql_resolvers.specs.Execute.{one_array, one_object, with_key, Below, object_made, value_made, items_made, field_made, groups_made, execute}
 use Rattle.gql_resolvers.specs.Depth.{AllGroups, Suffices}
 
@@ -31,8 +31,8 @@ module _ {X T G S : Type 0} (w : World X T G S) where
       same_items list i no_answer same = refl
       same_items list i (answer_then m ms) same =
           let it = item_spot list i in
-          ap (λ (v : Made Value). then_rest (settled_item it m (unless_misfit w it (w.misfit it.type m) v)) (items_made w run list (i + 1) ms)) (same_value it m same)
-          ∙ ap (λ (r : Made Value). then_rest (settled_item it m (unless_misfit w it (w.misfit it.type m) (value_made w other it m))) r) (same_items list (i + 1) ms same)
+          ap (λ (v : Made Value). then_rest (settled it (unless_misfit w it (w.misfit it.type m) v)) (items_made w run list (i + 1) ms)) (same_value it m same)
+          ∙ ap (λ (r : Made Value). then_rest (settled it (unless_misfit w it (w.misfit it.type m) (value_made w other it m))) r) (same_items list (i + 1) ms same)
 
     same_field : (spot : Spot G) (outcome : Outcome X) → SameOn run other (w.below spot.group) → field_made w run spot outcome ≡ field_made w other spot outcome
     same_field spot (answered m) same = ap (λ (v : Made Value). settled spot (unless_misfit w spot (w.misfit spot.type m) v)) (same_value spot m same)

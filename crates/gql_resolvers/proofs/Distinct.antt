@@ -1,5 +1,5 @@
 -- The paths of the errors that execution lists are distinct.
-use Rattle.std.proofs.Common.{◌≡◌, ℕ, zero, suc, ◌+◌, ◌≤◌, List, [], ◌∷◌, ◌++◌, Option, Some, None, refl, sym, subst, ap, ◌∙◌, inl, inr, ◌⊎◌, append_assoc, arith}
+use Rattle.std.proofs.Common.{◌≡◌, ℕ, zero, suc, ◌+◌, ◌≤◌, List, [], ◌∷◌, ◌++◌, Option, Some, None, refl, sym, ap, ◌∙◌, inl, inr, ◌⊎◌, append_assoc, arith}
 use Rattle.std.specs.List.{AllByRecursion}
 use Rattle.jb_tree.specs.declared.value.Value.{Value}
 use Rattle.gql_response.specs.declared.graphql_error.GraphQLError.{GraphQLError}
@@ -12,7 +12,7 @@ use Rattle.gql_resolvers.specs.World.{World, key_of, DistinctKeys}
 use Rattle.gql_resolvers.specs.Trail.{Segment, Trail, path_of, shown}
 use Rattle.gql_resolvers.specs.Spot.{Spot, trail, item_spot, field_spot}
 use Rattle.gql_resolvers.specs.Fault.{told_at, fault_error}
-use Rattle.gql_resolvers.specs.Execute.{Made, then_rest_of, settled_item, unless_misfit}
+use Rattle.gql_resolvers.specs.Execute.{Made, then_rest_of, settled, unless_misfit}
 use Rattle.gql_resolvers.specs.Execute.{Below, object_made, value_made, items_made, field_made, groups_made, execute}
 use Rattle.gql_resolvers.specs.Distinct.{IsApart, DistinctPaths}
 
@@ -115,13 +115,6 @@ module _ {X T G S : Type 0} (w : World X T G S) (keys : (U : T) (s : S) → Dist
     separate_object spot x None law = (tt, tt)
     separate_object spot x (Some U) law = outward spot (IsKeyOf (w.groups U (w.below spot.group))) _ (law U x (trail spot))
 
-    item_errors : (spot : Spot G) (m : Meaning X) (made : Made Value) → made.1 ≡ (settled_item spot m made).1
-    item_errors spot (gives_leaf v) made = refl
-    item_errors spot (gives_object x) made = refl
-    item_errors spot (gives_list ms) made = refl
-    item_errors spot gives_skip made = refl
-    item_errors spot (fails_with text) made = refl
-
     mutual
       separate_value : (spot : Spot G) (m : Meaning X) → Law run (w.below spot.group) → Separate spot.around (IsOwnStep spot) (value_made w run spot m).1
       separate_value spot (gives_leaf v) law = (tt, tt)
@@ -136,10 +129,10 @@ module _ {X T G S : Type 0} (w : World X T G S) (keys : (U : T) (s : S) → Dist
           let it = item_spot list i in
           let made = unless_misfit w it (w.misfit it.type m) (value_made w run it m) in
           separate_then (trail list) (IsOwnStep it) (IsItemFrom (i + 1)) (λ s u a b same. items_apart i s u a b same) (IsItemFrom i)
-          (settled_item it m made).0 (settled_item it m made).1 (items_made w run list (i + 1) ms)
+          (settled it made).0 made.1 (items_made w run list (i + 1) ms)
           (λ s a. (i, omega arith, a))
           (λ s b. (b.0, omega (arith, b.1), b.2))
-          (subst (Separate (trail list) (IsOwnStep it)) (item_errors it m made) (separate_unless it (w.misfit it.type m) (value_made w run it m) (separate_value it m law)))
+          (separate_unless it (w.misfit it.type m) (value_made w run it m) (separate_value it m law))
           (separate_items list (i + 1) ms law)
 
     separate_field : (U : T) (outer : Trail) (g : G) (outcome : Outcome X) → Law run (w.below g)

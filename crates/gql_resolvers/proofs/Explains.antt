@@ -10,11 +10,11 @@ use Rattle.gql_resolvers.specs.Resolved.{Meaning, Meanings, gives_leaf, gives_ob
 use Rattle.gql_resolvers.specs.Resolved.{Misfit, Outcome, answered, refused}
 use Rattle.gql_resolvers.specs.World.{World, key_of}
 use Rattle.gql_resolvers.specs.Trail.{Trail, held}
-use Rattle.gql_resolvers.specs.Spot.{Spot, trail, item_spot, field_spot, start_of}
+use Rattle.gql_resolvers.specs.Spot.{Spot, trail, item_spot, field_spot}
 use Rattle.gql_resolvers.specs.Fault.{told_at, placed, fault_error}
 use Rattle.gql_resolvers.specs.Reached.{IsAmong, items_of, fields_of, fields_if, inside, Reaches, at_root, at_inside}
-use Rattle.gql_resolvers.specs.Execute.{Made, Member, then_rest_of, keyed, settled_by, settled_item, unless_misfit}
-use Rattle.gql_resolvers.specs.Execute.{one_array, one_object, with_key, Below, object_made, value_made, items_made, field_made, groups_made, execute}
+use Rattle.gql_resolvers.specs.Execute.{Made, Member, then_rest_of, keyed, settled_by, unless_misfit}
+use Rattle.gql_resolvers.specs.Execute.{one_array, one_object, with_key, Below, object_made, value_made, items_made, completed, field_made, groups_made, execute}
 use Rattle.gql_resolvers.specs.Depth.{AllGroups, Suffices}
 use Rattle.gql_resolvers.specs.Explained.{Holds, IsGood, ItemsAre, FieldsAre, null_held, leaf_kept, list_kept, object_kept}
 use Rattle.gql_resolvers.specs.Explained.{no_item, item_good, no_field, field_good, IsExplainedBy}
@@ -59,16 +59,15 @@ module _ {X T G S : Type 0} (w : World X T G S)
   told_settled true spot outcome None e told =
       subst (λ (b : Bool). Escapes (if b then held spot.around else Some (trail spot))) e told
 
-  told_unless : (t : Trail) (spot : Spot G) (m : Meaning X) (fault : Option Misfit) (made : Made Value) → w.misfit spot.type m ≡ fault
-      → start_of spot m ≡ t → IsReached spot (answered m)
-      → (w.misfit spot.type m ≡ None → AllByRecursion L made.1 → Told (held t) made.0 (IsOne spot (answered m)))
-      → AllByRecursion L (unless_misfit w spot fault made).1 → Told (held t) (unless_misfit w spot fault made).0 (IsOne spot (answered m))
-  told_unless t spot m (Some misfit) made misfits starts reached inside listed = (
+  told_unless : (spot : Spot G) (m : Meaning X) (fault : Option Misfit) (made : Made Value) → w.misfit spot.type m ≡ fault → IsReached spot (answered m)
+      → (w.misfit spot.type m ≡ None → AllByRecursion L made.1 → Told (held (trail spot)) made.0 (IsOne spot (answered m)))
+      → AllByRecursion L (unless_misfit w spot fault made).1 → Told (held (trail spot)) (unless_misfit w spot fault made).0 (IsOne spot (answered m))
+  told_unless spot m (Some misfit) made misfits reached inside listed = (
     fault_error w spot (told_at (w.span_of spot.group) misfit),
     listed.0,
-    record { spot = spot; outcome = answered m; reached = reached; fault = told_at (w.span_of spot.group) misfit; told = ap (placed (w.span_of spot.group)) misfits; is = refl; holds = ap held starts },
+    record { spot = spot; outcome = answered m; reached = reached; fault = told_at (w.span_of spot.group) misfit; told = ap (placed (w.span_of spot.group)) misfits; is = refl; holds = refl },
   )
-  told_unless t spot m None made misfits starts reached inside listed = inside misfits listed
+  told_unless spot m None made misfits reached inside listed = inside misfits listed
 
   -- the law of an executor, on an object type
   abbrev LawAt : Below w → T → S → Type 0
@@ -115,37 +114,15 @@ module _ {X T G S : Type 0} (w : World X T G S)
   told_then list i m ms (Some vs) es rest one others listed =
       told_front list i m ms vs rest (one (all_first L es rest.1 listed)) (others (all_second L es rest.1 listed))
 
-  -- an item: a failed one counts from its list, any other is settled at its own place
-  told_item : (run : Below w) (list : Spot G) (i : ℕ) (m : Meaning X) → IsReached (item_spot list i) (answered m)
-      → let it = item_spot list i in
-      (w.misfit it.type m ≡ None → AllByRecursion L (value_made w run it m).1 → Told (held (trail it)) (value_made w run it m).0 (IsOne it (answered m)))
-      → AllByRecursion L (unless_misfit w it (w.misfit it.type m) (value_made w run it m)).1
-      → Told (held (trail list)) (settled_item it m (unless_misfit w it (w.misfit it.type m) (value_made w run it m))).0 (IsOne it (answered m))
-  told_item run list i (gives_leaf v) reached inside listed =
-      let it = item_spot list i in
-      told_settled (is_non_null it.type) it (answered (gives_leaf v)) _ refl (told_unless (trail it) it (gives_leaf v) _ _ refl refl reached inside listed)
-  told_item run list i (gives_object x) reached inside listed =
-      let it = item_spot list i in
-      told_settled (is_non_null it.type) it (answered (gives_object x)) _ refl (told_unless (trail it) it (gives_object x) _ _ refl refl reached inside listed)
-  told_item run list i (gives_list ms) reached inside listed =
-      let it = item_spot list i in
-      told_settled (is_non_null it.type) it (answered (gives_list ms)) _ refl (told_unless (trail it) it (gives_list ms) _ _ refl refl reached inside listed)
-  told_item run list i gives_skip reached inside listed =
-      let it = item_spot list i in
-      told_settled (is_non_null it.type) it (answered gives_skip) _ refl (told_unless (trail it) it gives_skip _ _ refl refl reached inside listed)
-  told_item run list i (fails_with text) reached inside listed =
-      let it = item_spot list i in
-      told_unless (trail list) it (fails_with text) (w.misfit it.type (fails_with text)) _ refl refl reached (λ fits. absurd (failure_misfits it.type text fits)) listed
+  -- what is completed at a place
+  told_completed : (run : Below w) (spot : Spot G) (m : Meaning X) → IsReached spot (answered m)
+      → (w.misfit spot.type m ≡ None → AllByRecursion L (value_made w run spot m).1 → Told (held (trail spot)) (value_made w run spot m).0 (IsOne spot (answered m)))
+      → AllByRecursion L (completed w run spot m).1 → Told (held spot.around) (completed w run spot m).0 (IsOne spot (answered m))
+  told_completed run spot m reached inside listed =
+      told_settled (is_non_null spot.type) spot (answered m) _ refl
+      (told_unless spot m (w.misfit spot.type m) (value_made w run spot m) refl reached inside listed)
 
   module _ (run : Below w) where
-    -- settling an item changes no error
-    item_errors : (spot : Spot G) (m : Meaning X) (made : Made Value) → (settled_item spot m made).1 ≡ made.1
-    item_errors spot (gives_leaf v) made = refl
-    item_errors spot (gives_object x) made = refl
-    item_errors spot (gives_list ms) made = refl
-    item_errors spot gives_skip made = refl
-    item_errors spot (fails_with text) made = refl
-
     mutual
       told_value : (spot : Spot G) (m : Meaning X) → Law run (w.below spot.group) → IsReached spot (answered m)
           → w.misfit spot.type m ≡ None → AllByRecursion L (value_made w run spot m).1
@@ -164,27 +141,17 @@ module _ {X T G S : Type 0} (w : World X T G S)
       told_items list i no_answer law reached listed = no_item
       told_items list i (answer_then m ms) law reached listed =
           let it = item_spot list i in
-          let made = unless_misfit w it (w.misfit it.type m) (value_made w run it m) in
           let here = reached it (answered m) (inl (refl, refl)) in
-          told_then list i m ms (settled_item it m made).0 (settled_item it m made).1 (items_made w run list (i + 1) ms)
-          (λ es. told_item run list i m here (λ fits. told_value it m law here fits) (subst (AllByRecursion L) (item_errors it m made) es))
+          told_then list i m ms (completed w run it m).0 (completed w run it m).1 (items_made w run list (i + 1) ms)
+          (λ es. told_completed run it m here (λ fits. told_value it m law here fits) es)
           (λ es. told_items list (i + 1) ms law (λ spot outcome h. reached spot outcome (inr h)) es)
           listed
-
-    starts_field : (U : T) (outer : Trail) (g : G) (m : Meaning X) → start_of (field_spot w U outer g) m ≡ trail (field_spot w U outer g)
-    starts_field U outer g (gives_leaf v) = refl
-    starts_field U outer g (gives_object x) = refl
-    starts_field U outer g (gives_list ms) = refl
-    starts_field U outer g gives_skip = refl
-    starts_field U outer g (fails_with text) = refl
 
     told_field : (U : T) (outer : Trail) (g : G) (outcome : Outcome X) → Law run (w.below g) → IsReached (field_spot w U outer g) outcome
         → AllByRecursion L (field_made w run (field_spot w U outer g) outcome).1
         → Told (held outer) (field_made w run (field_spot w U outer g) outcome).0 (IsOne (field_spot w U outer g) outcome)
     told_field U outer g (answered m) law reached listed =
-        let spot = field_spot w U outer g in
-        told_settled (is_non_null spot.type) spot (answered m) _ refl
-        (told_unless (trail spot) spot m (w.misfit spot.type m) (value_made w run spot m) refl (starts_field U outer g m) reached (λ fits. told_value spot m law reached fits) listed)
+        told_completed run (field_spot w U outer g) m reached (λ fits. told_value (field_spot w U outer g) m law reached fits) listed
     told_field U outer g (refused fault) law reached listed =
         let spot = field_spot w U outer g in
         told_settled (is_non_null spot.type) spot (refused fault) None refl (

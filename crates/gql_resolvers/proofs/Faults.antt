@@ -7,10 +7,10 @@ use Rattle.gql_resolvers.specs.Resolved.{Meaning, Meanings, gives_leaf, gives_ob
 use Rattle.gql_resolvers.specs.Resolved.{Misfit, Outcome, answered, refused}
 use Rattle.gql_resolvers.specs.World.{World}
 use Rattle.gql_resolvers.specs.Trail.{Trail, held}
-use Rattle.gql_resolvers.specs.Spot.{Spot, trail, item_spot, field_spot, start_of}
+use Rattle.gql_resolvers.specs.Spot.{Spot, trail, item_spot, field_spot}
 use Rattle.gql_resolvers.specs.Fault.{told_at, placed}
 use Rattle.gql_resolvers.specs.Reached.{IsAmong, items_of, fields_of, fields_if, Reaches, at_root, at_inside}
-use Rattle.gql_resolvers.specs.Execute.{Made, then_rest_of, settled_item, unless_misfit}
+use Rattle.gql_resolvers.specs.Execute.{Made, then_rest_of, settled, unless_misfit}
 use Rattle.gql_resolvers.specs.Execute.{Below, object_made, value_made, items_made, field_made, groups_made, execute}
 use Rattle.gql_resolvers.specs.Explained.{IsFault}
 
@@ -34,7 +34,7 @@ module _ {X T G S : Type 0} (w : World X T G S) (root : T) (initial : X) (all : 
       → (w.misfit spot.type m ≡ None → AllByRecursion IsTrue made.1) → AllByRecursion IsTrue (unless_misfit w spot fault made).1
   true_unless spot m (Some misfit) made misfits reached others = (
     (
-      held (start_of spot m),
+      held (trail spot),
       record { spot = spot; outcome = answered m; reached = reached; fault = told_at (w.span_of spot.group) misfit; told = ap (placed (w.span_of spot.group)) misfits; is = refl; holds = refl },
     ),
     tt,
@@ -51,13 +51,6 @@ module _ {X T G S : Type 0} (w : World X T G S) (root : T) (initial : X) (all : 
     true_object spot x None typed law reached fits = tt
     true_object spot x (Some U) typed law reached fits =
         law U x (trail spot) (λ it outcome h. at_inside spot (gives_object x) reached fits (subst (λ (o : Option T). IsAmong it outcome (fields_if w o x spot)) (sym typed) h))
-
-    item_errors : (spot : Spot G) (m : Meaning X) (made : Made Value) → made.1 ≡ (settled_item spot m made).1
-    item_errors spot (gives_leaf v) made = refl
-    item_errors spot (gives_object x) made = refl
-    item_errors spot (gives_list ms) made = refl
-    item_errors spot gives_skip made = refl
-    item_errors spot (fails_with text) made = refl
 
     mutual
       true_value : (spot : Spot G) (m : Meaning X) → Law run (w.below spot.group) → IsReached spot (answered m)
@@ -76,8 +69,8 @@ module _ {X T G S : Type 0} (w : World X T G S) (root : T) (initial : X) (all : 
           let it = item_spot list i in
           let made = unless_misfit w it (w.misfit it.type m) (value_made w run it m) in
           let here = reached it (answered m) (inl (refl, refl)) in
-          true_then (settled_item it m made).0 (settled_item it m made).1 (items_made w run list (i + 1) ms)
-          (subst (AllByRecursion IsTrue) (item_errors it m made) (true_unless it m (w.misfit it.type m) (value_made w run it m) refl here (λ fits. true_value it m law here fits)))
+          true_then (settled it made).0 made.1 (items_made w run list (i + 1) ms)
+          (true_unless it m (w.misfit it.type m) (value_made w run it m) refl here (λ fits. true_value it m law here fits))
           (true_items list (i + 1) ms law (λ spot outcome h. reached spot outcome (inr h)))
 
     true_field : (U : T) (outer : Trail) (g : G) (outcome : Outcome X) → Law run (w.below g) → IsReached (field_spot w U outer g) outcome

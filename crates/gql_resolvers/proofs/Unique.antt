@@ -12,10 +12,10 @@ use Rattle.jb_tree.specs.declared.value.Value.TheOpen.{Value-F}
 use Rattle.gql_resolvers.proofs.Steps.{index_of, text_of}
 use Rattle.gql_ast_base.specs.TypeParts.{is_non_null}
 use Rattle.gql_resolvers.specs.Resolved.{Meaning, Meanings, gives_leaf, gives_object, gives_list, gives_skip, fails_with, no_answer, answer_then}
-use Rattle.gql_resolvers.specs.Resolved.{Fault, Outcome, answered, refused}
+use Rattle.gql_resolvers.specs.Resolved.{Fault, Outcome, answered}
 use Rattle.gql_resolvers.specs.World.{World, key_of, DistinctKeys, IsLawful}
 use Rattle.gql_resolvers.specs.Trail.{Segment, Trail, held}
-use Rattle.gql_resolvers.specs.Spot.{Spot, trail, item_spot, field_spot, start, start_of_failure}
+use Rattle.gql_resolvers.specs.Spot.{Spot, trail, item_spot, field_spot}
 use Rattle.gql_resolvers.specs.Fault.{placed, fault_at}
 use Rattle.gql_resolvers.specs.Reached.{IsAmong, items_of, fields_of, fields_if, inside, Reaches, at_root, at_inside}
 use Rattle.gql_resolvers.specs.Execute.{Member}
@@ -170,7 +170,7 @@ module _ {X T G S : Type 0} (w : World X T G S) (root : T) (initial : X) (all : 
 
     -- a place that may not be null and has no value has nothing good
     null_strict : {spot : Spot G} {outcome : Outcome X} {v : Value} → is_non_null spot.type ≡ true → Good spot outcome v → v ≡ json.Null → ⊥
-    null_strict {spot = spot} strict (null_held h) null = held_nullable (start h.2.spot h.2.outcome) (spot.step, spot.type) spot.around h.2.holds strict
+    null_strict {spot = spot} strict (null_held h) null = held_nullable (trail h.2.spot) (spot.step, spot.type) spot.around h.2.holds strict
     null_strict {spot = spot} strict (leaf_kept fits) null =
         lawful.null_misfits spot.type strict (subst (λ (u : Value). w.misfit spot.type (gives_leaf u) ≡ None) null fits)
     null_strict strict (list_kept {vs = vs} fits items) null = array_null vs null
@@ -233,90 +233,10 @@ module _ {X T G S : Type 0} (w : World X T G S) (root : T) (initial : X) (all : 
     faulty fault told v (list_kept {spot = s} fits items) = let e : None ≡ Some fault = sym (ap (placed (w.span_of s.group)) fits) ∙ told in cc
     faulty fault told v (object_kept {spot = s} U fits typed fields) = let e : None ≡ Some fault = sym (ap (placed (w.span_of s.group)) fits) ∙ told in cc
 
-  -- where an error is held stands a reached place, the faulty one itself or one that gives what fits it
-  abbrev HeldFrom : Spot G → Outcome X → Trail → Type 0
-  HeldFrom s a t = (p : Spot G) × (c : Outcome X) × IsReached p c × (trail p ≡ t) × (((p ≡ s) × (c ≡ a)) ⊎ ((m : Meaning X) × (c ≡ answered m) × (w.misfit p.type m ≡ None)))
-
-  up_by : (s : Spot G) (a : Outcome X) → IsReached s a → (t : Trail) → (b : Bool) → is_non_null s.type ≡ b → (if b then held s.around else Some (trail s)) ≡ Some t
-      → (held s.around ≡ Some t → HeldFrom s a t) → HeldFrom s a t
-  up_by s a reached t true e h onward = onward h
-  up_by s a reached t false e h onward = let same : trail s ≡ t = cc in (s, a, reached, same, inl (refl, refl))
-
-  inner : (outer : Spot G) (m : Meaning X) (s : Spot G) (a : Outcome X) (t : Trail) → w.misfit outer.type m ≡ None → HeldFrom outer (answered m) t → HeldFrom s a t
-  inner outer m s a t fits (p, c, reached, same, inl e) =
-      (p, c, reached, same, inr (m, e.1, subst (λ (q : Spot G). w.misfit q.type m ≡ None) (sym e.0) fits))
-  inner outer m s a t fits (p, c, reached, same, inr e) = (p, c, reached, same, inr e)
-
-  up : {s : Spot G} {a : Outcome X} → IsReached s a → (t : Trail) → held (trail s) ≡ Some t → HeldFrom s a t
-  up {s = s} {a = a} (at_root h) t holds = up_by s a (at_root h) t (is_non_null s.type) refl (held_strict s (is_non_null s.type) (Some t) refl holds)
-      (λ e. let none : None ≡ Some t = subst (λ (u : Trail). held u ≡ Some t) (fields_around root initial [] _ s a h) e in cc)
-  up {s = s} {a = a} (at_inside outer m r fits h) t holds =
-      up_by s a (at_inside outer m r fits h) t (is_non_null s.type) refl (held_strict s (is_non_null s.type) (Some t) refl holds)
-      (λ e. inner outer m s a t fits (up r t (ap held (sym (inside_around outer m s a h)) ∙ e)))
-
-  abbrev IsFailedItem : Spot G → Outcome X → Type 0
-  IsFailedItem s a = (text : List ℕ) × (a ≡ answered (fails_with text)) × (i : ℕ) × (s.step ≡ ListIndex i)
-
-  abbrev StartIs : Spot G → Outcome X → Type 0
-  StartIs s a = ((start s a ≡ trail s) × (IsFailedItem s a → ⊥)) ⊎ ((start s a ≡ s.around) × IsFailedItem s a)
-
-  start_is : (s : Spot G) (a : Outcome X) → StartIs s a
-  start_is s (refused fault) = inl (refl, λ f. let e = f.1 in cc)
-  start_is s (answered (gives_leaf v)) = inl (refl, λ f. let e = f.1 in cc)
-  start_is s (answered (gives_object x)) = inl (refl, λ f. let e = f.1 in cc)
-  start_is s (answered (gives_list ms)) = inl (refl, λ f. let e = f.1 in cc)
-  start_is s (answered gives_skip) = inl (refl, λ f. let e = f.1 in cc)
-  start_is s (answered (fails_with text)) = by_step s.step refl where
-    by_step : (step : Segment) → s.step ≡ step → StartIs s (answered (fails_with text))
-    by_step (Field k) e = inl (ap (λ (t : Segment). start_of_failure t s) e, λ f. let other : Field k ≡ ListIndex f.2 = sym e ∙ f.3 in cc)
-    by_step (ListIndex i) e = inr (ap (λ (t : Segment). start_of_failure t s) e, (text, refl, i, e))
-
-  failed_fits : (m : Meaning X) (c : Outcome X) (text : List ℕ) (ty : TypeRef) → c ≡ answered m → c ≡ answered (fails_with text) → w.misfit ty m ≡ None → ⊥
-  failed_fits m c text ty a b fits =
-      let both : answered m ≡ answered (fails_with text) = sym a ∙ b in
-      let same : m ≡ fails_with text = cc in
-      lawful.failure_misfits ty text (subst (λ (n : Meaning X). w.misfit ty n ≡ None) same fits)
-
-  -- nothing is held at a failed item
-  not_held : (s : Spot G) (a : Outcome X) → IsReached s a → IsFailedItem s a → (q : Spot G) (b : Outcome X) → (IsFailedItem q b → ⊥) → HeldFrom q b (trail s) → ⊥
-  not_held s a reached failed q b other (p, c, r, same, inl e) =
-      let one = same_place r reached same in
-      other (failed.0, sym e.1 ∙ one.1 ∙ failed.1, failed.2, ap (λ (z : Spot G). z.step) (sym e.0 ∙ one.0) ∙ failed.3)
-  not_held s a reached failed q b other (p, c, r, same, inr e) =
-      let one = same_place r reached same in
-      failed_fits e.0 c failed.0 p.type e.1 (one.1 ∙ failed.1) e.2
-
-  not_held_around : {s : Spot G} {a : Outcome X} → IsReached s a → IsFailedItem s a → {q : Spot G} {b : Outcome X} → IsReached q b → held q.around ≡ Some (trail s) → ⊥
-  not_held_around {s = s} {a = a} reached failed {q = q} {b = b} (at_root h) holds =
-      let none : None ≡ Some (trail s) = subst (λ (u : Trail). held u ≡ Some (trail s)) (fields_around root initial [] _ q b h) holds in cc
-  not_held_around {s = s} {a = a} reached failed {q = q} {b = b} (at_inside outer m r fits h) holds =
-      not_held s a reached failed outer (answered m) (λ f. failed_fits m (answered m) f.0 outer.type refl f.1 fits)
-      (up r (trail s) (ap held (sym (inside_around outer m q b h)) ∙ holds))
-
-  no_hold : (s : Spot G) (a : Outcome X) → IsReached s a → IsFailedItem s a → (q : Spot G) (b : Outcome X) → IsReached q b → held (start q b) ≡ Some (trail s) → ⊥
-  no_hold s a reached failed q b r holds = by_start (start_is q b) where
-    by_start : StartIs q b → ⊥
-    by_start (inl e) = not_held s a reached failed q b e.1 (up r (trail s) (ap held (sym e.0) ∙ holds))
-    by_start (inr e) = not_held_around reached failed r (ap held (sym e.0) ∙ holds)
-
   module _ (L : GraphQLError → Type 0) where
-    nothing_failed : {s : Spot G} {a : Outcome X} {v : Value} → IsReached s a → IsFailedItem s a → Good L s a v → ⊥
-    nothing_failed {s = s} {a = a} reached failed (null_held h) = no_hold s a reached failed h.2.spot h.2.outcome h.2.reached h.2.holds
-    nothing_failed reached failed (leaf_kept fits) = let e = failed.1 in cc
-    nothing_failed reached failed (list_kept fits items) = let e = failed.1 in cc
-    nothing_failed reached failed (object_kept U fits typed fields) = let e = failed.1 in cc
-
-    failed_stops : {s : Spot G} {a : Outcome X} → IsReached s a → ((v : Value) → Good L s a v → ⊥) → (at : Option Trail) → held s.around ≡ at → Stops L at
-    failed_stops {s = s} {a = a} (at_root h) nothing at holds = root_stops L s a h nothing at holds
-    failed_stops {s = s} {a = a} (at_inside outer m r fits h) nothing at holds =
-        climb L r (nothing_inside L outer m s a h nothing) at (ap held (sym (inside_around outer m s a h)) ∙ holds)
-
     -- where a fault is held, no other value is good than null
     fault_stops : (error : GraphQLError) (at : Option Trail) → IsFault w root initial all error at → Stops L at
-    fault_stops error at f = by_start (start_is f.spot f.outcome) where
-      by_start : StartIs f.spot f.outcome → Stops L at
-      by_start (inl e) = climb L f.reached (faulty L f.fault f.told) at (ap held (sym e.0) ∙ f.holds)
-      by_start (inr e) = failed_stops f.reached (λ v good. nothing_failed f.reached e.1 good) at (ap held (sym e.0) ∙ f.holds)
+    fault_stops error at f = climb L f.reached (faulty L f.fault f.told) at f.holds
 
   module _ (L M : GraphQLError → Type 0) where
     held_null : (s : Spot G) (a : Outcome X) (v : Value) → IsReached s a → Holds w root initial all L (Some (trail s)) → Good M s a v → v ≡ json.Null

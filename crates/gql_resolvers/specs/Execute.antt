@@ -56,14 +56,6 @@ settled_by strict (Some vs) = Some vs
 abbrev pub settled : {G : Type 0} → Spot G → Made Value → Made Value
 settled spot made = (settled_by (is_non_null spot.type) made.0, made.1)
 
--- a failed item isn't settled at its own place, so it faults its list whatever its own type
-abbrev pub settled_item : {X G : Type 0} → Spot G → Meaning X → Made Value → Made Value
-settled_item spot (fails_with text) made = made
-settled_item spot (gives_leaf v) made = settled spot made
-settled_item spot (gives_object x) made = settled spot made
-settled_item spot (gives_list ms) made = settled spot made
-settled_item spot gives_skip made = settled spot made
-
 module _ {X T G S : Type 0} (w : World X T G S) where
   abbrev pub unless_misfit : Spot G → Option Misfit → Made Value → Made Value
   unless_misfit spot (Some misfit) made = (None, fault_error w spot (told_at (w.span_of spot.group) misfit) ∷ [])
@@ -86,12 +78,13 @@ module _ {X T G S : Type 0} (w : World X T G S) where
     value_made run spot gives_skip = (Some [], [])
     value_made run spot (fails_with text) = (Some [], [])
 
-    -- the items of a list, from an index on
+    -- the items of a list, from an index on, each completed as any value: one that fails or doesn't fit is null where its type
+    -- may be null, else it ends the list
     pub items_made : Below → Spot G → ℕ → Meanings X → Made Value
     items_made run list i no_answer = (Some [], [])
     items_made run list i (answer_then m ms) =
         let spot = item_spot list i in
-        then_rest (settled_item spot m (unless_misfit spot (w.misfit spot.type m) (value_made run spot m))) (items_made run list (i + 1) ms)
+        then_rest (settled spot (unless_misfit spot (w.misfit spot.type m) (value_made run spot m))) (items_made run list (i + 1) ms)
 
   -- CompleteValue
   abbrev pub completed : Below → Spot G → Meaning X → Made Value

@@ -7,7 +7,7 @@ use Rattle.gql_resolvers.specs.Resolved.{Meaning, Meanings, gives_leaf, gives_ob
 use Rattle.gql_resolvers.specs.Resolved.{Fault, Outcome, answered}
 use Rattle.gql_resolvers.specs.World.{World, key_of}
 use Rattle.gql_resolvers.specs.Trail.{Trail, held}
-use Rattle.gql_resolvers.specs.Spot.{Spot, trail, item_spot, field_spot, start}
+use Rattle.gql_resolvers.specs.Spot.{Spot, trail, item_spot, field_spot}
 use Rattle.gql_resolvers.specs.Fault.{fault_at, fault_error}
 use Rattle.gql_resolvers.specs.Reached.{Reaches}
 use Rattle.gql_resolvers.specs.Execute.{Member}
@@ -21,7 +21,7 @@ module _ {X T G S : Type 0} (w : World X T G S) (root : T) (initial : X) (all : 
     pub fault : Fault
     pub told : fault_at w spot outcome ≡ Some fault
     pub is : error ≡ fault_error w spot fault
-    pub holds : held (start spot outcome) ≡ at
+    pub holds : held (trail spot) ≡ at
 
   -- wherever its null falls
   abbrev pub IsTrueFault : GraphQLError → Type 0

@@ -12,7 +12,7 @@ const READING: [Case; 3] = [
         input: r#"{"schema":"type Query { f: [Int] }","query":"{ f }","data":{"f":[42,{"__error":"!"}]}}"#,
         status: ANSWERED,
         output: "{\"errors\":[{\"message\":\"resolver error: !\",\"locations\":[{\"line\":1,\"column\":3}],\"path\":[\"f\",1]}],\
-            \"data\":{\"f\":null}}\n",
+            \"data\":{\"f\":[42,null]}}\n",
     },
     Case {
         words: &["answer"],

@@ -250,7 +250,12 @@ const LISTS: &[(&str, Sample, &str)] = &[
     (
         "{ ints }",
         Sample::Breaks,
-        r#"{"errors":[{"message":"resolver error: !","locations":[{"line":1,"column":3}],"path":["ints",1]}],"data":{"ints":null}}"#,
+        r#"{"errors":[{"message":"resolver error: !","locations":[{"line":1,"column":3}],"path":["ints",1]}],"data":{"ints":[7,null]}}"#,
+    ),
+    (
+        "{ stricts }",
+        Sample::Breaks,
+        r#"{"errors":[{"message":"resolver error: !","locations":[{"line":1,"column":3}],"path":["stricts",1]}],"data":{"stricts":null}}"#,
     ),
     (
         "{ ints }",

@@ -6,7 +6,7 @@ use Rattle.gql_schema_types.specs.Schemas.{type_named}
 use Rattle.gql_resolvers.specs.Seen.{seen, misfit_seen, IsFitOfObject}
 use Rattle.jb_tree.specs.declared.value.Value.TheVariants as json
 use Rattle.gql_resolvers.specs.Execute.{completed, items_made, one_array, one_object, settled}
-use Rattle.gql_resolvers.specs.Resolved.{gives_leaf, gives_list, gives_object, gives_skip}
+use Rattle.gql_resolvers.specs.Resolved.{gives_leaf, gives_list, gives_object, gives_skip, fails_with}
 use Rattle.gql_resolvers.specs.Spot.{item_spot, trail}
 use Rattle.gql_resolvers.specs.Types.{item_type}
 use Rattle.gql_resolvers.specs.Meaning.{item_by, meaning_by, meanings_by}
@@ -21,7 +21,7 @@ use Rattle.gql_exec_fields.specs.Trails.{group_of, null_at, spot_of, trail_of}
 use Rattle.gql_exec_fields.specs.Asking.{outcome_of}
 use Rattle.gql_exec_fields.specs.Opened.{AnyGives, OpensBy, Turns}
 use Rattle.gql_exec_fields.proofs.Completing.{at_field, made-value}
-use Rattle.gql_exec_fields.proofs.Done.{null-done, done-meant, done-misfit, done-fits, done-object, done-item, done-failed}
+use Rattle.gql_exec_fields.proofs.Done.{null-done, done-meant, done-misfit, done-fits, done-object, done-there}
 use Rattle.gql_exec_fields.proofs.Fields.{field-gave, field-failed, field-faulted}
 use Rattle.gql_exec_fields.proofs.Grown.{none-grown, grown-meant, grown-object, grown-list, grown-place, grown-field, grown-item, grown-part}
 use Rattle.gql_exec_fields.proofs.Heights.{top}
@@ -310,17 +310,22 @@ complete_item-returns-in-Ok g t c =
     let is = c.complete_value.new.steps in
     let now = c.complete_value.new.nodes in
     record {
-      made = done-item (world_of c.args.self.now g.O.ObjectValue.type_of g.O.ObjectValue.resolves) c.args.errors.now c.complete_value.new.errors (λ done. IsWritten g.M.Output.is_made c.args.out.now c.complete_value.new.out done) c.complete_value.result g.O.ObjectValue.seen here (item_spot (spot_of list) c.args.index) c.in-Ok.resolved c.args.item (item-place list c.args.index c.item_of.result.now c.item_of.ensures) c.in-Ok.is c.complete_value.ensures.made;
+      made = done-there (world_of c.args.self.now g.O.ObjectValue.type_of g.O.ObjectValue.resolves) c.args.errors.now c.complete_value.new.errors (λ done. IsWritten g.M.Output.is_made c.args.out.now c.complete_value.new.out done) c.complete_value.result here (item_spot (spot_of list) c.args.index) (meaning_by see c.in-Ok.resolved) (item_by see c.args.item) (item-place list c.args.index c.item_of.result.now c.item_of.ensures) (ap (item_by see) c.in-Ok.is) c.complete_value.ensures.made;
       planned = c.complete_value.ensures.planned;
       grows = grown-meant e was nodes is now c.complete_value.result w (item_spot (spot_of list) c.args.index) (item_by see c.args.item) (meaning_by see c.in-Ok.resolved) (ap (item_by see) c.in-Ok.is)
           (grown-place e was nodes is now c.complete_value.result w here (item_spot (spot_of list) c.args.index) (meaning_by see c.in-Ok.resolved) (item-place list c.args.index c.item_of.result.now c.item_of.ensures) c.complete_value.ensures.grows);
     }
 
-pub complete_item-returns-in_ok-list_failure-in-Err : goal.complete_item-returns-in_ok-list_failure-in-Err
-complete_item-returns-in_ok-list_failure-in-Err g t c =
+pub complete_item-returns-in-Err : goal.complete_item-returns-in-Err
+complete_item-returns-in-Err g t c =
     let list = c.args.list.now in
     let here = item_in (trail_of (Below list.around list.step list.ty)) c.args.index c.item_of.result.now (group_of list.group.now) in
-    record { made = record { found = None; are = (refl, refl); hold = done-failed g.O.ObjectValue.seen (request_of c.args.self.now g.O.ObjectValue.type_of g.O.ObjectValue.resolves) here (item_spot (spot_of list) c.args.index) c.args.errors.now c.list_failure.new.errors c.args.item c.in-Err.error (item-place list c.args.index c.item_of.result.now c.item_of.ensures) c.in-Err.is c.in_ok-list_failure-in-Err.ensures }; planned = c.requires.planned; grows = none-grown c.args.self.now c.args.steps.now c.args.nodes.now _ }
+    let see = g.O.ObjectValue.seen in
+    record {
+      made = done-there (world_of c.args.self.now g.O.ObjectValue.type_of g.O.ObjectValue.resolves) c.args.errors.now c.fail.new.errors (λ done. IsWritten g.M.Output.is_made c.args.out.now c.fail.new.out done) c.fail.result here (item_spot (spot_of list) c.args.index) (fails_with c.in-Err.error.message) (item_by see c.args.item) (item-place list c.args.index c.item_of.result.now c.item_of.ensures) (ap (item_by see) c.in-Err.is) c.fail.ensures;
+      planned = ok-anyway c.fail.result _ c.requires.planned;
+      grows = ok-anyway c.fail.result _ (none-grown c.args.self.now c.args.steps.now c.args.nodes.now _);
+    }
 
 -- ---- a field, and parts
 

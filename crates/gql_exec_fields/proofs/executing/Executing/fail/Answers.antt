@@ -1,7 +1,7 @@
-use Rattle.std.proofs.Common.{refl}
+use Rattle.std.proofs.Common.{rules, ◌≡◌, [], ◌∷◌, ◌++◌, refl}
 use Rattle.gql_resolvers.specs.Fit.{wrong}
 use Rattle.gql_resolvers.specs.Messages as message
-use Rattle.gql_resolvers.specs.Fault.{told_at}
+use Rattle.gql_resolvers.specs.Fault.{fault_error, told_at}
 use Rattle.gql_resolvers.specs.Resolved.{fails_with}
 use Rattle.gql_exec_fields.specs.Executing.{world_of}
 use Rattle.gql_exec_fields.specs.Output.{IsWritten}
@@ -14,5 +14,7 @@ returns g c =
     let w = world_of c.args.self.now g.O.ObjectValue.type_of g.O.ObjectValue.resolves in
     let spot = spot_of c.args.place.now in
     let misfit = wrong (message.resolver_error c.args.error.message) in
-    done-misfit w c.args.errors.now c.list_failure.new.errors (λ done. IsWritten g.M.Output.is_made c.args.out.now c.null.new.out done) c.null.result spot (fails_with c.args.error.message) misfit refl
-    (null-listed w c.args.errors.now c.list_failure.new.errors g.M.Output.is_made c.args.out.now c.null.new.out c.null.result spot (told_at (w.span_of spot.group) misfit) c.in_ok-list_failure.ensures c.null.ensures)
+    let fault = told_at (w.span_of spot.group) misfit in
+    let listed : c.list.new.errors ≡ c.args.errors.now ++ fault_error w spot fault ∷ [] = search rules in
+    done-misfit w c.args.errors.now c.list.new.errors (λ done. IsWritten g.M.Output.is_made c.args.out.now c.null.new.out done) c.null.result spot (fails_with c.args.error.message) misfit refl
+    (null-listed w c.args.errors.now c.list.new.errors g.M.Output.is_made c.args.out.now c.null.new.out c.null.result spot fault listed c.null.ensures)
