@@ -27,3 +27,4 @@ pub mod Room
 pub mod Totals
 pub mod Ways
 pub mod Weights
+pub mod Acyclic

@@ -1,12 +1,12 @@
 //! Fields that are put into groups by their response keys.
 
-ghost use Rattle.std.specs.Prelude.{◌≡◌, ◌≤◌, ◌+◌, ◌∷◌, [], ◌++◌, ℕ, None, IfOk, OnOk};
+ghost use Rattle.std.specs.Prelude.{◌≡◌, ◌≤◌, ◌+◌, ◌∷◌, [], ◌++◌, None, IfOk, OnOk};
 ghost use Rattle.std.specs.List.{filter};
 ghost use Rattle.gql_schema_types.specs.Entries.{entry};
 ghost use Rattle.gql_collect.specs.Collected.{setting, sets_of};
 ghost use Rattle.gql_collect.specs.Grouping as step;
 ghost use Rattle.gql_collect.specs.Groups as spec;
-ghost use Rattle.gql_document_types.specs.Ranks.{AreRanked};
+ghost use Rattle.gql_document_types.specs.Spreads.{AreAcyclic};
 ghost use Rattle.gql_collect.specs.Sizes.{fragments_size, outer_size, sets_size};
 ghost use Rattle.gql_collect.specs.Standing.{NoneMoreOften, fields_in_all, fields_in_fragments};
 ghost use Rattle.gql_collect.specs.Walk.{fields_of};
@@ -17,6 +17,7 @@ use crate::grouped::Grouped;
 use crate::pieces::Pieces;
 use crate::steps::Steps;
 use gql_document_types::{ExecutableDocument, Field};
+use gql_graph::laws as graph_laws;
 use gql_schema_types::{ObjectType, Schema, Table};
 use jb_text::{Listed, Memory};
 use jb_tree::Map;
@@ -45,7 +46,7 @@ pub fn collect_fields<'d, L: Ledger>(
     variables: &Map,
     steps: &mut Steps<L>,
 ) -> Result<Grouped<'d>, Memory>
-    requires { (rank : ℕ → ℕ) × AreRanked document.now.fragments rank }
+    requires { AreAcyclic document.now.fragments }
     ensures groups { IfOk result (λ grouped. spec.SameGroups (step.groups_seen grouped)
         (spec.applying (setting document.now.fragments schema.now object_type.now variables.now) (sets_of pieces.now))) }
     ensures once { IfOk result (λ grouped. NoneMoreOften (step.fields_in_groups (step.groups_seen grouped))
@@ -54,6 +55,7 @@ pub fn collect_fields<'d, L: Ledger>(
     ensures rises { steps.old ≤ steps.new }
     ensures counted { OnOk result (steps.old + outer_size (sets_of pieces.now) ≤ steps.new) }
 {
+    graph_laws::acyclic_graphs_have_ranks();
     let fields = selected_fields(
         alloc,
         schema,

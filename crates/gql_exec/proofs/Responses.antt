@@ -1,10 +1,7 @@
 -- What is executed is exactly what execution gives, and is explained.
-use Rattle.std.proofs.Common.{arith, ◌≡◌, ℕ, List, [], ◌∷◌, Option, sym, ap, ◌∙◌, subst}
+use Rattle.std.proofs.Common.{◌≡◌, ℕ, List, [], ◌∷◌, Option, sym, ap, ◌∙◌, subst}
 use Rattle.std.specs.Prelude.{Contains}
-use Rattle.std.proofs.lemmas.List.{length-map}
 use Rattle.std.proofs.lemmas.List.Elements.{All-contains_itself, recursion_from_All}
-use Rattle.gql_document_types.specs.Spreads.{spreads_in, spread_graph}
-use Rattle.gql_document_types.specs.declared.fragment.Fragment.{Fragment}
 use Rattle.gql_document_types.specs.declared.selection.Selection.{Selection}
 use Rattle.gql_response.specs.declared.execution_response.ExecutionResponse.{ExecutionResponse}
 use Rattle.gql_response.specs.declared.graphql_error.GraphQLError.{GraphQLError}
@@ -23,11 +20,6 @@ use Rattle.gql_exec_fields.specs.Response.{response_at, IsExecuted, IsExplained}
 use Rattle.gql_exec_fields.proofs.Lawful.{lawful}
 use Rattle.gql_exec_fields.proofs.Nests.{suffices}
 use Rattle.gql_exec_fields.specs.Executed.{Executes}
-use Rattle.gql_graph.specs.Ranks.{IsRanked}
-
--- ranks of a graph of spreads are those of the fragments
-pub fragments-ranked : (all : List Fragment) (rank : ℕ → ℕ) → IsRanked (spread_graph all) rank → AreRanked all rank
-fragments-ranked all rank ranked = record { falls = ranked.falls; bounded = λ f. omega (arith, ranked.bounded f, length-map all (spreads_in all)) }
 
 module _ {X : Type 0} (r : Request X) (rank : ℕ → ℕ) (ranked : AreRanked r.fragments rank) (root : ObjectType) (x : X) (selections : List Selection) where
   explained-at : (depth : ℕ) → Suffices (plain_world r) depth root (selections ∷ []) → IsExplained r root x selections (response_at r root x selections depth)

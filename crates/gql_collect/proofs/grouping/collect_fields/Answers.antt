@@ -4,9 +4,17 @@ use Rattle.gql_collect.specs.Grouping.{groups_seen}
 use Rattle.gql_collect.specs.Groups.{is_defined}
 use Rattle.gql_collect.specs.Standing.{fields_in_all, fields_in_fragments}
 use Rattle.gql_collect.specs.Walk.{fields_of}
+use Rattle.gql_document_types.specs.Spreads.{spread_graph}
+use Rattle.gql_collect.proofs.Acyclic.{spreads-ranked}
 use Rattle.gql_collect.proofs.GroupFacts.{collected-same}
 use Rattle.gql_collect.proofs.Once.{groups-once}
 use Rattle.gql_collect.proofs.grouping.collect_fields.Goals as goal
+
+pub selected_fields-requires : goal.selected_fields-requires
+selected_fields-requires g c =
+    let all = c.args.document.now.fragments in
+    let ranked = c.acyclic_graphs_have_ranks.ensures (spread_graph all) c.requires in
+    (ranked.0, spreads-ranked all ranked.0 ranked.1)
 
 pub returns-clause-groups : goal.returns-clause-groups
 returns-clause-groups g c =

@@ -7,13 +7,14 @@ use Rattle.gql_collect.specs.Standing.{NoneMoreOften, fields_in_all, fields_in_f
 use Rattle.gql_collect.specs.declared.group.Group.{Group}
 use Rattle.gql_collect.specs.Growth.{AreBegun, AreFresh}
 use Rattle.gql_collect.specs.Plan.{ArePartsOf, ground_of}
+use Rattle.gql_collect.proofs.Acyclic.{ranked-acyclic}
 use Rattle.gql_collect.proofs.Nodes.{HasGroups, begun-parts}
 use Rattle.gql_collect.proofs.Room.{room-groups}
 use Rattle.gql_schema_types.specs.declared.schema.Schema.{Schema}
 use Rattle.gql_collect.proofs.planner.Planner.parts.Goals as goal
 
 pub collect_fields-requires : goal.collect_fields-requires
-collect_fields-requires g c = c.requires.ranked
+collect_fields-requires g c = ranked-acyclic _ c.requires.ranked.0 c.requires.ranked.1
 
 pub returns-clause-parts : goal.returns-clause-parts
 returns-clause-parts g c =

@@ -13,7 +13,8 @@ use Rattle.gql_exec_fields.specs.declared.path.Path.TheVariants.{Root}
 use Rattle.gql_exec_fields.proofs.Collecting.{one-set, views-run}
 use Rattle.gql_exec_fields.proofs.Groups.{executed-sets}
 use Rattle.gql_exec.proofs.Looking.{looks-of}
-use Rattle.gql_exec.proofs.Responses.{fragments-ranked, answered-alone}
+use Rattle.gql_collect.proofs.Acyclic.{spreads-ranked}
+use Rattle.gql_exec.proofs.Responses.{answered-alone}
 use Rattle.gql_exec_fields.proofs.Views.{views}
 use Rattle.gql_exec_fields.proofs.Ways.{trail-root}
 use Rattle.gql_exec.proofs.execution.Execution.run.Goals as goal
@@ -33,7 +34,7 @@ returns g c =
     let found = c.in_ok-members.ensures.executed.found in
     let after = c.execute_parts.new.errors in
     let executes = executed-sets (plain_world r) root x (trail_of Root) sets (views groups) found c.new-errors.result after (views-run r root groups sets parts.0.groups) c.in_ok-members.ensures.executed.hold in
-    let answered = answered-alone r ranked.0 (fragments-ranked all ranked.0 ranked.1) root x selections (trail_of Root) sets found c.new-errors.result after trail-root alone c.new-errors.ensures executes in
+    let answered = answered-alone r ranked.0 (spreads-ranked all ranked.0 ranked.1) root x selections (trail_of Root) sets found c.new-errors.result after trail-root alone c.new-errors.ensures executes in
     let e : Executing = record {
       alloc = c.args.alloc;
       request = record { schema = c.args.self.now.schema; implementers_map = c.args.implementers_map; document = c.args.self.now.document };
@@ -60,7 +61,7 @@ parts-requires g c =
     let operation = c.args.operation.now.selection_set.selections in
     let alone : sets_of c.add.new.self ≡ operation ∷ [] = one-set c.new-pieces.result c.add.new.self _ c.new-pieces.ensures c.in_ok-add.ensures.added in
     record {
-      ranked = (ranked.0, subst (λ (it : Ground). AreRanked it.fragments ranked.0) (sym c.planner.ensures) (fragments-ranked all ranked.0 ranked.1));
+      ranked = (ranked.0, subst (λ (it : Ground). AreRanked it.fragments ranked.0) (sym c.planner.ensures) (spreads-ranked all ranked.0 ranked.1));
       within = subst (λ (it : Ground). IsWithin it (sets_of c.add.new.self)) (sym c.planner.ensures) (subst (HasRoom all operation) (sym alone) (room-root all operation));
     }
 
@@ -69,6 +70,6 @@ execute_parts-requires g c =
     let all = c.args.self.now.document.now.fragments in
     let ranked = c.acyclic_graphs_have_ranks.ensures (spread_graph all) c.requires in
     record {
-      ranked = (ranked.0, fragments-ranked all ranked.0 ranked.1);
+      ranked = (ranked.0, spreads-ranked all ranked.0 ranked.1);
       planned = (sets_of c.add.new.self, subst (λ it. ArePartsOf it c.args.root.now (sets_of c.add.new.self) c.in_ok-parts.parts) c.planner.ensures c.in_ok-parts.ensures.parts);
     }
