@@ -1,10 +1,14 @@
 -- Types of a schema: section 3.4 of GraphQL October 2021.
-use Rattle.std.specs.Prelude.{ℕ, Bool, true, false, Option, Some, None, List, []}
+use Rattle.std.specs.Prelude.{ℕ, Bool, true, false, Option, Some, None, List, [], codes}
+use Rattle.std.specs.List.{list_any}
+use Rattle.std.specs.Str.{bytes_eq}
 use Rattle.gql_ast_base.specs.Names.{Named}
+use Rattle.gql_ast_base.specs.declared.directive.Directive.{Directive}
 use Rattle.gql_ast_definitions.specs.declared.field_definition.FieldDefinition.{FieldDefinition}
 use Rattle.gql_schema_types.specs.Entries.{entry}
 use Rattle.gql_schema_types.specs.declared.types.ExtendedType.{ExtendedType}
 use Rattle.gql_schema_types.specs.declared.types.ExtendedType.TheVariants.{Scalar, Object, Interface, Union, Enum, InputObject}
+use Rattle.gql_schema_types.specs.declared.types.InputObjectType.{InputObjectType}
 use Rattle.gql_schema_types.specs.declared.types.ObjectType.{ObjectType}
 
 abbrev pub type_name : ExtendedType → Named
@@ -45,3 +49,7 @@ abbrev pub fields_of : ExtendedType → List FieldDefinition
 fields_of (Object it) = it.fields
 fields_of (Interface it) = it.fields
 fields_of _ = []
+
+-- one-of: section 3.10.1 of GraphQL September 2025
+abbrev pub is_one_of : InputObjectType → Bool
+is_one_of it = list_any (λ (directive : Directive). bytes_eq (codes "oneOf") directive.name.text) it.directives

@@ -149,6 +149,23 @@ pub enum ExtendedType {
     InputObject(InputObjectType),
 }
 
+impl InputObjectType {
+    ghost use Rattle.std.specs.Prelude.{◌≡◌};
+    ghost use Rattle.gql_schema_types.specs.Types.{is_one_of};
+
+    /// Whether it is one-of, so that a value has exactly one member, which is not null: whether it has a directive named
+    /// `oneOf` (GraphQL September 2025, section 3.10.1). It takes no memory.
+    #[must_use]
+    pub fn is_one_of(&self) -> bool
+        ensures { result ≡ is_one_of self.now }
+    {
+        self.directives
+            .as_slice()
+            .iter()
+            .any(|directive| "oneOf" == directive.name.as_str())
+    }
+}
+
 impl Named for ExtendedType {
     ghost use Rattle.gql_schema_types.specs.Types.{type_name};
 
