@@ -89,10 +89,10 @@ module _ (f g : Value → Coercion) (n : ℕ) (agree : (literal : Value) → dep
       let name = field_name field in
       found-agree place T field (last_named name members) (λ x is. omega (arith, last-within name members x is))
 
-  object-agree : (place : Option Span) (T : List ℕ) (it : InputObjectType) (members : Literals) → greatest_member (map weighed members) < n
-      → literal_object f place T it members ≡ literal_object g place T it members
-  object-agree place T it members small =
-      λ i. refused_at place (literal_misfit T it members) (mapped Object (filled (λ field. field-agree place members T small field i) field_name [] it.fields))
+  object-agree : (env : Members) (place : Option Span) (T : List ℕ) (it : InputObjectType) (members : Literals) → greatest_member (map weighed members) < n
+      → literal_object f env place T it members ≡ literal_object g env place T it members
+  object-agree env place T it members small =
+      λ i. refused_at place (literal_misfit env T it members) (mapped Object (filled (λ field. field-agree place members T small field i) field_name [] it.fields))
 
 module _ (types : List ExtendedType) (env : Members) (f g : Value → Coercion) (n : ℕ) (agree : (literal : Value) → depth literal < n → f literal ≡ g literal) where
   array-agree : (found : Option TypeRef) (items : List Value) → greatest (map depth items) < n → (literal : Value) (d : List ℕ) (ty : TypeRef)
@@ -103,7 +103,7 @@ module _ (types : List ExtendedType) (env : Members) (f g : Value → Coercion) 
   members-agree : (found : Option InputObjectType) (members : Literals) → greatest_member (map weighed members) < n → (d : List ℕ) (name : Named) (literal : Value)
       → literal_members_at types env f found members d name literal ≡ literal_members_at types env g found members d name literal
   members-agree None members small d name literal = refl
-  members-agree (Some it) members small d name literal = object-agree f g n agree literal.location name.text it members small
+  members-agree (Some it) members small d name literal = object-agree f g n agree env literal.location name.text it members small
 
   level-agree : (kind : ValueKind) (x : ValueKind-F ValueKind Value) → out-ValueKind kind ≡ x → depth_of kind ≤ n → (literal : Value) → literal_level types env f x literal ≡ literal_level types env g x literal
   level-agree kind ValueKind-F.Null is small literal = refl

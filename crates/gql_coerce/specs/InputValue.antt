@@ -1,7 +1,7 @@
 -- What a JSON value is as an input of a type: section 3.10 of GraphQL October 2021, and "Input Coercion" of 3.5 to 3.12.
 use Rattle.std.specs.Prelude.{ℕ, zero, suc, Bool, List, [], ◌∷◌, Option, Some, None, Ok, Err, map, if◌then◌else◌}
 use Rattle.std.specs.Str.{bytes_eq}
-use Rattle.std.specs.Option.{option_map}
+use Rattle.std.specs.Option.{option_map, option_or}
 use Rattle.std.specs.Map.{lookup, keys_of}
 use Rattle.jb_tree.specs.declared.value.Value.{Value, Null, Array, Object, out-Value, size-Value}
 use Rattle.jb_tree.specs.declared.value.Value.TheOpen.{Value-F}
@@ -9,7 +9,7 @@ use Rattle.jb_print.specs.Compact.{compact}
 use Rattle.gql_ast_base.specs.Names.{Named}
 use Rattle.gql_ast_base.specs.declared.type_ref.TypeRef.{TypeRef}
 use Rattle.gql_ast_definitions.specs.declared.field_definition.InputValueDefinition.{InputValueDefinition}
-use Rattle.gql_schema_types.specs.Types.{type_called}
+use Rattle.gql_schema_types.specs.Types.{type_called, is_one_of}
 use Rattle.gql_schema_types.specs.declared.types.ExtendedType.{ExtendedType}
 use Rattle.gql_schema_types.specs.declared.types.ExtendedType.TheVariants as type
 use Rattle.gql_schema_types.specs.declared.types.InputObjectType.{InputObjectType}
@@ -22,6 +22,7 @@ use Rattle.gql_coerce.specs.Wrapped.{wrap}
 use Rattle.gql_coerce.specs.Scalars.{scalar_takes, enum_takes}
 use Rattle.gql_coerce.specs.InputTypes.{input_object_called, field_name, is_field}
 use Rattle.gql_coerce.specs.Filled.{Members, filled, not_given}
+use Rattle.gql_coerce.specs.OneOf.{one_of_misfit}
 
 -- what a value is coerced to: for something that messages name, at a type
 abbrev pub Coercion : Type 0
@@ -45,9 +46,11 @@ abbrev pub refused_or : Option (List ℕ) → Outcome Value → Outcome Value
 refused_or (Some text) otherwise = Err (fault text)
 refused_or None otherwise = otherwise
 
--- why the members as a whole are no value of the input object, before a field is looked at: one of the keys is no field
+-- why the members as a whole are no value of the input object, before a field is looked at: one of the keys is no field, or they
+-- are not as a one-of input object asks
 abbrev pub misfit : List ℕ → InputObjectType → Members → Option (List ℕ)
-misfit T it members = option_map (λ key. unknown_key key T) (first_unknown it.fields (keys_of members))
+misfit T it members =
+    option_or (option_map (λ key. unknown_key key T) (first_unknown it.fields (keys_of members))) (if is_one_of it then one_of_misfit T members else None)
 
 -- ---- Types by name
 

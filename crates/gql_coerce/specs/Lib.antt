@@ -7,6 +7,7 @@ pub mod Missing
 pub mod Scalars
 pub mod Translation
 pub mod Filled
+pub mod OneOf
 pub mod InputValue
 pub mod Variables
 pub mod LiteralValue

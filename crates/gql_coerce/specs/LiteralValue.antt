@@ -2,7 +2,7 @@
 -- GraphQL October 2021, and "Input Coercion" of 3.5 to 3.12.
 use Rattle.std.specs.Prelude.{ℕ, zero, suc, ◌+◌, max, ◌&&◌, List, [], ◌∷◌, map, Option, Some, None, is_some, if◌then◌else◌}
 use Rattle.std.specs.Prelude.{Ok, Err}
-use Rattle.std.specs.Option.{option_map}
+use Rattle.std.specs.Option.{option_map, option_or}
 use Rattle.std.specs.Str.{bytes_eq}
 use Rattle.std.specs.Map.{lookup}
 use Rattle.jb_tree.specs.declared.value.Value.{Value as JsonValue, Null, Array, Object}
@@ -15,7 +15,7 @@ use Rattle.gql_ast_base.specs.declared.value.ValueKind.TheOpen.{ValueKind-F, Val
 use Rattle.gql_ast_base.specs.declared.type_ref.TypeRef.{TypeRef}
 use Rattle.gql_ast.specs.ValueText.{value_text}
 use Rattle.gql_ast_definitions.specs.declared.field_definition.InputValueDefinition.{InputValueDefinition}
-use Rattle.gql_schema_types.specs.Types.{type_called}
+use Rattle.gql_schema_types.specs.Types.{type_called, is_one_of}
 use Rattle.gql_schema_types.specs.declared.types.ExtendedType.{ExtendedType}
 use Rattle.gql_schema_types.specs.declared.types.InputObjectType.{InputObjectType}
 use Rattle.gql_coerce.specs.Outcome.{Outcome, mapped, all_of}
@@ -25,6 +25,7 @@ use Rattle.gql_coerce.specs.Messages.{null_literal, null_variable, absent_variab
 use Rattle.gql_ast_base.specs.TypeParts.{named_type, is_non_null, item_type}
 use Rattle.gql_coerce.specs.Wrapped.{wrap}
 use Rattle.gql_coerce.specs.Filled.{Members, filled, not_given}
+use Rattle.gql_coerce.specs.OneOf.{one_of_literal_misfit}
 use Rattle.gql_coerce.specs.InputTypes.{as_input_object, input_object_called, field_name}
 use Rattle.gql_coerce.specs.InputValue.{first_unknown}
 use Rattle.gql_coerce.specs.Translation.{translated}
@@ -77,9 +78,12 @@ abbrev pub refused_at : Option Span → Option (List ℕ) → Outcome JsonValue 
 refused_at place (Some text) otherwise = Err (fault_at place text)
 refused_at place None otherwise = otherwise
 
--- why the members as a whole are no value of the input object, before a field is looked at: one of the keys is no field
-abbrev pub literal_misfit : List ℕ → InputObjectType → Literals → Option (List ℕ)
-literal_misfit T it members = option_map (λ key. unknown_literal_key key T) (first_unknown it.fields (map member_name members))
+-- why the members as a whole are no value of the input object, before a field is looked at: one of the keys is no field, or they
+-- are not as a one-of input object asks
+abbrev pub literal_misfit : Members → List ℕ → InputObjectType → Literals → Option (List ℕ)
+literal_misfit env T it members =
+    option_or (option_map (λ key. unknown_literal_key key T) (first_unknown it.fields (map member_name members)))
+    (if is_one_of it then one_of_literal_misfit env T members else None)
 
 -- ---- Types by name
 
@@ -115,9 +119,9 @@ module _ (below : Value → Coercion) where
   literal_field place members T field = literal_given (last_named (field_name field) members) place T field
 
   -- a literal's members at an input object: the fields in the order of their definitions
-  abbrev pub literal_object : Option Span → List ℕ → InputObjectType → Literals → Outcome JsonValue
-  literal_object place T it members =
-      refused_at place (literal_misfit T it members) (mapped Object (filled (literal_field place members T) field_name [] it.fields))
+  abbrev pub literal_object : Members → Option Span → List ℕ → InputObjectType → Literals → Outcome JsonValue
+  literal_object env place T it members =
+      refused_at place (literal_misfit env T it members) (mapped Object (filled (literal_field place members T) field_name [] it.fields))
 
   abbrev pub each_literal_at : List ℕ → TypeRef → List Value → Outcome JsonValue
   each_literal_at d item literals = mapped Array (all_of (map (λ (literal : Value). below literal d item) literals))
@@ -130,7 +134,7 @@ module _ (types : List ExtendedType) where
   module _ (env : Members) where
     module _ (below : Value → Coercion) where
       abbrev pub literal_members_at : Option InputObjectType → Literals → List ℕ → Named → Value → Outcome JsonValue
-      literal_members_at (Some it) members d name literal = literal_object below literal.location name.text it members
+      literal_members_at (Some it) members d name literal = literal_object below env literal.location name.text it members
       literal_members_at None members d name literal = literal_leaf d name literal
 
       -- a literal with these members at the type of a name

@@ -18,6 +18,13 @@ non_input_type T d = codes "non-input type " ++ (T ++ (codes " for " ++ (d ++ co
 abbrev pub unknown_key : List ℕ → List ℕ → List ℕ
 unknown_key key T = codes "Input object has key " ++ (key ++ (codes " not in type " ++ T))
 
+-- a one-of input object: section 3.10.1 of GraphQL September 2025
+abbrev pub one_member : List ℕ → List ℕ
+one_member T = codes "input object " ++ (T ++ codes " must have exactly one member")
+
+abbrev pub null_member : List ℕ → List ℕ → List ℕ
+null_member T f = codes "null value for member " ++ (T ++ (codes "." ++ (f ++ codes " of a one-of input object")))
+
 abbrev pub missing_field : List ℕ → List ℕ → List ℕ
 missing_field T f = codes "Missing value for non-null input object field " ++ (T ++ (codes "." ++ f))
 

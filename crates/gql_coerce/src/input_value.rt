@@ -21,6 +21,7 @@ use crate::fault::{CoercionFault, refuse, suspect};
 use crate::input_types::is_field;
 use crate::messages::{could_not_coerce, non_input_type, null_value, undefined_type, unknown_key};
 use crate::missing::Missing;
+use crate::one_of::one_of_misfit;
 use crate::outcome::{given_value, places, put};
 use crate::scalar::{enum_takes, scalar_takes};
 use crate::subject::Subject;
@@ -303,8 +304,8 @@ fn absent(
     Ok(None)
 }
 
-/// Why the members as a whole are no value of the input object type, before a field is looked at. What else a type asks
-/// of them together belongs here.
+/// Why the members as a whole are no value of the input object type, before a field is looked at: the first key that is no
+/// field, else what a one-of type asks of them.
 fn misfit(
     alloc: Global,
     name: &str,
@@ -315,6 +316,7 @@ fn misfit(
 {
     match first_unknown(&it.fields, members) {
         Some(key) => Ok(Some(unknown_key(alloc, key.as_str(), name)?)),
+        None if it.is_one_of() => one_of_misfit(alloc, name, members),
         None => Ok(None),
     }
 }

@@ -17,6 +17,7 @@ mod literal_members;
 mod literal_value;
 mod messages;
 mod missing;
+mod one_of;
 mod outcome;
 mod scalar;
 mod subject;

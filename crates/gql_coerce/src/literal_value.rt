@@ -24,6 +24,7 @@ use crate::messages::{
     unknown_literal_key,
 };
 use crate::missing::Missing;
+use crate::one_of::one_of_literal_misfit;
 use crate::outcome::{given_value, put};
 use crate::subject::Subject;
 use crate::translation::translate;
@@ -200,9 +201,9 @@ impl<'s> LiteralCoercion<'s> {
         name: &str,
         it: &InputObjectType,
     ) -> Result<Value, Refused<CoercionFault>>
-        ensures { Answers (literal_object (coerced_literal self.now.coercion.types.now self.now.env.now) literal.now.location name.now it.now members.now) result }
+        ensures { Answers (literal_object (coerced_literal self.now.coercion.types.now self.now.env.now) self.now.env.now literal.now.location name.now it.now members.now) result }
     {
-        match misfit(self.coercion.alloc, name, it, members.as_slice()) {
+        match misfit(self.coercion.alloc, name, it, members.as_slice(), self.env) {
             Ok(None) => self.coerce_fields(members, literal, name, &it.fields),
             Ok(Some(text)) => refuse(Ok(text), literal.location),
             Err(_) => Err(Refused::Memory),
@@ -276,18 +277,20 @@ impl<'s> LiteralCoercion<'s> {
     }
 }
 
-/// Why the members as a whole are no value of the input object type, before a field is looked at. What else a type asks
-/// of them together belongs here.
+/// Why the members as a whole are no value of the input object type, before a field is looked at: the first key that is no
+/// field, else what a one-of type asks of them where variables have these values.
 fn misfit(
     alloc: Global,
     name: &str,
     it: &InputObjectType,
     members: &[(Name, Literal)],
+    env: &Map,
 ) -> Result<Option<Text>, Memory>
-    ensures { IfOk result (λ found. found ≡ literal_misfit name.now it.now members.now) }
+    ensures { IfOk result (λ found. found ≡ literal_misfit env.now name.now it.now members.now) }
 {
     match first_unknown(&it.fields, members) {
         Some(key) => Ok(Some(unknown_literal_key(alloc, key.as_str(), name)?)),
+        None if it.is_one_of() => one_of_literal_misfit(alloc, name, members, env),
         None => Ok(None),
     }
 }

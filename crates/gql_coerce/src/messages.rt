@@ -53,6 +53,20 @@ pub(crate) fn unknown_key(alloc: Global, key: &str, ty: &str) -> Result<Text, Me
     Ok(Text::from_string(format!(in alloc; "Input object has key {key} not in type {ty}")?))
 }
 
+pub(crate) fn one_member(alloc: Global, ty: &str) -> Result<Text, Memory>
+    ensures { IfOk result (λ text. text ≡ spec.one_member ty.now) }
+{
+    Ok(Text::from_string(format!(in alloc; "input object {ty} must have exactly one member")?))
+}
+
+pub(crate) fn null_member(alloc: Global, ty: &str, field: &str) -> Result<Text, Memory>
+    ensures { IfOk result (λ text. text ≡ spec.null_member ty.now field.now) }
+{
+    Ok(Text::from_string(format!(in alloc;
+        "null value for member {ty}.{field} of a one-of input object"
+    )?))
+}
+
 pub(crate) fn missing_field(alloc: Global, ty: &str, field: &str) -> Result<Text, Memory>
     ensures { IfOk result (λ text. text ≡ spec.missing_field ty.now field.now) }
 {
