@@ -1,4 +1,4 @@
--- Which values a scalar type and an enum type take: sections 3.5 and 3.9 of GraphQL October 2021, input coercion.
+-- Which values a scalar type and an enum type take, as inputs and as results: sections 3.5 and 3.9 of GraphQL October 2021.
 use Rattle.std.specs.Prelude.{ℕ, ℤ, pos, negsuc, ◌^◌, ◌-◌, nat_lt, Bool, true, false, ◌||◌, if◌then◌else◌, List, codes, is_some}
 use Rattle.std.specs.Option.{option_map_or}
 use Rattle.std.specs.Str.{bytes_eq}
@@ -18,9 +18,9 @@ is_float (pos n) = nat_lt n (2 ^ 53 - 1)
 is_float (negsuc n) = nat_lt n (2 ^ 53 - 2)
 
 -- 64 bits with a sign
-abbrev pub is_id : ℤ → Bool
-is_id (pos n) = nat_lt n (2 ^ 63)
-is_id (negsuc n) = nat_lt n (2 ^ 63)
+abbrev pub is_signed : ℤ → Bool
+is_signed (pos n) = nat_lt n (2 ^ 63)
+is_signed (negsuc n) = nat_lt n (2 ^ 63)
 
 abbrev pub number_is : (ℤ → Bool) → Value → Bool
 number_is test value = option_map_or test (whole_number value) false
@@ -32,7 +32,7 @@ scalar_takes name value =
     else (if bytes_eq name (codes "Float") then number_is is_float value
     else (if bytes_eq name (codes "String") then is_some (string_text value)
     else (if bytes_eq name (codes "Boolean") then is_some (truth_value value)
-    else (if bytes_eq name (codes "ID") then is_some (string_text value) || number_is is_id value
+    else (if bytes_eq name (codes "ID") then is_some (string_text value) || number_is is_signed value
     else true))))
 
 -- the text of one of the values

@@ -4,6 +4,8 @@
 //! [`coerce_variables`] takes the JSON values of a request as variables of an operation (section 6.1.2),
 //! [`coerce_arguments`] takes the literals and variables at a field as its arguments (section 6.4.1). Both answer the
 //! values in order of definition, or the first fault: its message, its place, and whether validation should have found it.
+//! [`scalar_takes`] and [`enum_takes`] tell which values are leaves of a type. Resolvers' answers are judged by the same.
+//!
 //! A schema is only assumed to be valid: types that are undefined or no input types are faults of their own.
 #![tactic(auto)]
 
@@ -28,5 +30,6 @@ mod wanted;
 mod wrapped;
 
 pub use arguments::coerce_arguments;
+pub use scalar::{enum_takes, scalar_takes};
 pub use told::{ArgumentFault, InputCoercionError};
 pub use variables::coerce_variables;

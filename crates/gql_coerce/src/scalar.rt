@@ -1,7 +1,7 @@
-//! Which values a scalar type and an enum type take.
+//! Which values a scalar type and an enum type take (GraphQL October 2021, sections 3.5 and 3.9).
 
 ghost use Rattle.std.specs.Prelude.{◌≡◌};
-ghost use Rattle.gql_coerce.specs.Scalars.{number_is, is_int, is_float, is_id, scalar_takes, enum_takes};
+ghost use Rattle.gql_coerce.specs.Scalars.{number_is, is_int, is_float, is_signed, scalar_takes, enum_takes};
 
 use crate::input_types::is_enum_value;
 use gql_ast_definitions::EnumValueDefinition;
@@ -11,8 +11,11 @@ use jb_tree::Value;
 /// The least number above those that `Float` takes.
 const FLOAT_END: i64 = (1 << 53) - 1;
 
-/// Whether the scalar type of this name takes the value.
-pub(crate) fn scalar_takes(name: &str, value: &Value) -> bool
+/// Whether the scalar type of this name takes the value, as an input and as a result alike (GraphQL October 2021, section 3.5).
+/// `Int` takes a whole number of 32 bits with a sign, `Float` one of a magnitude below 2^53 - 1, `String` a text, `Boolean` a truth
+/// value, `ID` a text or a whole number of 64 bits with a sign, and any other type any value. It takes no memory.
+#[must_use]
+pub fn scalar_takes(name: &str, value: &Value) -> bool
     ensures { result ≡ scalar_takes name.now value.now }
 {
     if name == "Int" {
@@ -58,7 +61,7 @@ fn is_float(value: &Value) -> bool
 }
 
 fn is_id(value: &Value) -> bool
-    ensures { result ≡ number_is is_id value.now }
+    ensures { result ≡ number_is is_signed value.now }
 {
     match value {
         Value::Number(number) => number.as_i64().is_some(),
@@ -66,8 +69,10 @@ fn is_id(value: &Value) -> bool
     }
 }
 
-/// Whether the value is the text of one of the enum's.
-pub(crate) fn enum_takes(values: &Table<EnumValueDefinition>, value: &Value) -> bool
+/// Whether an enum type with these values takes the value, as an input and as a result alike: whether it is the text of one of
+/// them (section 3.9). It takes no memory.
+#[must_use]
+pub fn enum_takes(values: &Table<EnumValueDefinition>, value: &Value) -> bool
     ensures { result ≡ enum_takes values.now value.now }
 {
     match value {

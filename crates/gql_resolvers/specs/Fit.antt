@@ -1,8 +1,8 @@
 -- What is wrong with an answer of a resolver at a type, its parts aside: CompleteValue, section 6.4.3 of GraphQL October 2021.
-use Rattle.std.specs.Prelude.{ℕ, ℤ, Bool, true, false, if◌then◌else◌, List, Option, Some, None, codes}
+use Rattle.std.specs.Prelude.{ℕ, Bool, true, false, ◌&&◌, if◌then◌else◌, List, Option, Some, None, codes}
 use Rattle.std.specs.Str.{bytes_eq}
 use Rattle.jb_tree.specs.declared.value.Value.{Value}
-use Rattle.jb_tree.specs.Value.{is_null, whole_number}
+use Rattle.jb_tree.specs.Value.{is_null}
 use Rattle.gql_ast_base.specs.Names.{Named}
 use Rattle.gql_ast_base.specs.declared.type_ref.TypeRef.{TypeRef}
 use Rattle.gql_ast_definitions.specs.declared.field_definition.EnumValueDefinition.{EnumValueDefinition}
@@ -13,10 +13,10 @@ use Rattle.gql_schema_types.specs.declared.schema.Schema.{Schema}
 use Rattle.gql_schema_types.specs.declared.types.ExtendedType.{ExtendedType}
 use Rattle.gql_schema_types.specs.declared.types.ExtendedType.TheVariants as type
 use Rattle.gql_schema_types.specs.declared.types.ObjectType.{ObjectType}
+use Rattle.gql_coerce.specs.Scalars.{is_signed, number_is, scalar_takes, enum_takes}
 use Rattle.gql_resolvers.specs.Resolved.{Meaning, gives_leaf, gives_object, gives_list, gives_skip, fails_with, Misfit}
 use Rattle.gql_resolvers.specs.Lists.{is_list}
 use Rattle.gql_resolvers.specs.Messages as message
-use Rattle.gql_resolvers.specs.Takes.{is_int, is_signed, takes, is_value}
 
 abbrev pub wrong : List ℕ → Misfit
 wrong text = record { message = text; marked = false }
@@ -30,22 +30,17 @@ unless fits misfit = if fits then None else Some misfit
 
 -- ---- Leaves
 
--- a whole number at Int: 32 bits with a sign fit, and up to 64 bits with a sign overflow
-abbrev pub whole_misfit : Value → ℤ → Option Misfit
-whole_misfit value z =
-    if is_int z then None else (if is_signed z then Some (wrong (message.overflowing_leaf value)) else Some (wrong (message.other_leaf value (codes "Int"))))
-
-abbrev pub int_misfit : Value → Option ℤ → Option Misfit
-int_misfit value (Some z) = whole_misfit value z
-int_misfit value None = Some (wrong (message.other_leaf value (codes "Int")))
+-- what is told of a leaf that the scalar type T does not take: at Int, a whole number of 64 bits with a sign overflows
+abbrev pub scalar_text : List ℕ → Value → List ℕ
+scalar_text T value =
+    if bytes_eq T (codes "Int") && number_is is_signed value then message.overflowing_leaf value
+    else message.other_leaf value T
 
 abbrev pub scalar_misfit : List ℕ → Value → Option Misfit
-scalar_misfit T value =
-    if bytes_eq T (codes "Int") then int_misfit value (whole_number value)
-    else unless (takes T value) (wrong (message.other_leaf value T))
+scalar_misfit T value = unless (scalar_takes T value) (wrong (scalar_text T value))
 
 abbrev pub enum_misfit : List ℕ → List EnumValueDefinition → Value → Option Misfit
-enum_misfit T values value = unless (is_value values value) (wrong (message.other_enum value T))
+enum_misfit T values value = unless (enum_takes values value) (wrong (message.other_enum value T))
 
 -- a leaf that is not null, at the type of the name T
 abbrev pub leaf_at : Option ExtendedType → List ℕ → Value → Option Misfit

@@ -13,7 +13,6 @@ pub mod Skips
 pub mod Along
 pub mod Lists
 pub mod Messages
-pub mod Takes
 pub mod Fit
 pub mod Seen
 pub mod NamedTypes
