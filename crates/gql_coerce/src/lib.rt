@@ -4,6 +4,7 @@
 //! [`coerce_variables`] takes the JSON values of a request as variables of an operation (section 6.1.2),
 //! [`coerce_arguments`] takes the literals and variables at a field as its arguments (section 6.4.1). Both answer the
 //! values in order of definition, or the first fault: its message, its place, and whether validation should have found it.
+//! A value of a one-of input object has exactly one member, which is not null (GraphQL September 2025, section 3.10.1).
 //! [`scalar_takes`] and [`enum_takes`] tell which values are leaves of a type. Resolvers' answers are judged by the same.
 //!
 //! A schema is only assumed to be valid: types that are undefined or no input types are faults of their own.
