@@ -129,12 +129,13 @@ impl<T: Named> Table<T> {
     }
 
     /// Puts an entry in the place of the one of its name, which it hands out, or else last. `Err` only when out of
-    /// memory: it hands the entry back, and the table is as it was. Over a name that is there it takes no memory.
+    /// memory, and never over a name that is there: it hands the entry back, and the table is as it was.
     pub fn insert(&mut self, item: T) -> Result<Option<T>, T>
         ensures replaced { IfOk result (λ old. old ≡ entry T.own (T.own item).text self.old) }
         ensures entries { OnOk result (self.new ≡ put T.own self.old item) }
         ensures returned { IfErr result (λ back. back ≡ item) }
         ensures unchanged { OnErr result (self.new ≡ self.old) }
+        ensures absent { OnErr result (entry T.own (T.own item).text self.old ≡ None) }
     {
         match self.find(item.own_name().as_str()) {
             Some(at) => Ok(Some(self.replace_at(at, item))),

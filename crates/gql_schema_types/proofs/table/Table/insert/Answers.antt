@@ -35,3 +35,9 @@ returns-in-Ok-clause-entries g c =
     let same = c.as_str.ensures.text ∙ ap (λ n. n.text) c.own_name.ensures in
     let none = missing (is_called own (own c.args.item).text) c.args.self.now (ap (λ k. position (is_called own k) c.args.self.now) (sym same) ∙ sym c.in-None.ensures) in
     c.in-Ok.ensures.entries ∙ sym (put-missing own c.args.item c.args.self.now none)
+
+pub returns-in-Err-clause-absent : goal.returns-in-Err-clause-absent
+returns-in-Err-clause-absent g c =
+    let own = g.T.Named.own in
+    let same = c.as_str.ensures.text ∙ ap (λ n. n.text) c.own_name.ensures in
+    missing (is_called own (own c.args.item).text) c.args.self.now (ap (λ k. position (is_called own k) c.args.self.now) (sym same) ∙ sym c.in-None.ensures)
