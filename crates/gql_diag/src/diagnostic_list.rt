@@ -8,6 +8,7 @@ ghost use Rattle.gql_diag.specs.Walk.{left_of};
 
 use crate::diagnostics::Diagnostics;
 use crate::order::{sort_by_place, sort_in_order};
+use crate::taken::add_items;
 use gql_diag_messages::DiagnosticData;
 use gql_source::SourceMap;
 use jb_text::{Listed, Memory};
@@ -86,9 +87,7 @@ impl DiagnosticList {
         ensures items { OnOk result (items.new ≡ items.old ++ self.items) }
     {
         let (files, faults) = self.into_parts();
-        for fault in faults {
-            items.push(fault)?;
-        }
+        add_items(faults, items)?;
         sources.merge(files)
     }
 

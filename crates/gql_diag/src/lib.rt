@@ -45,6 +45,6 @@ pub use gql_schema_types::Valid;
 pub use recursion::{RecursionGuard, RecursionStack};
 pub use refusal_text::{refusal_of_diagnostics, refusal_of_message, refusal_of_request};
 pub use report::CliReport;
-pub use taken::take_faults;
+pub use taken::{add_items, take_faults};
 pub use to_cli_report::ToCliReport;
 pub use with_errors::WithErrors;

@@ -22,6 +22,20 @@ pub fn take_faults(
     errors.sort()
 }
 
+/// Adds these diagnostics at the end, in their order. `Err` only when out of memory: then some of them are added.
+pub fn add_items(
+    items: Vec<DiagnosticData>,
+    faults: &mut Listed<DiagnosticData>,
+) -> Result<(), Memory>
+    ensures items { OnOk result (faults.new ≡ faults.old ++ items.items) }
+    ensures refused { OnErr result (HasTakenSome faults.old items.items faults.new) }
+{
+    for item in items {
+        faults.push(item)?;
+    }
+    Ok(())
+}
+
 /// Takes these faults last. Where memory has run out, it has taken some of them.
 fn push_faults(faults: Listed<DiagnosticData>, errors: &mut DiagnosticList) -> Result<(), Memory>
     ensures items { OnOk result (errors.new.items ≡ errors.old.items ++ faults) }
