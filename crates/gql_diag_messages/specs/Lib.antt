@@ -2,3 +2,4 @@ pub mod Filled
 pub mod RuleText
 pub mod NamedType
 pub mod Details
+pub mod Family

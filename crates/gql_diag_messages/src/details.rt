@@ -133,7 +133,7 @@ pub enum Details {
     SyntaxError { message: Text },
     /// A schema can't be built of its definitions.
     SchemaBuildError(RuleFault),
-    /// A document can't be built of its definitions.
+    /// A document can't be built of its definitions, or its fields can't be merged.
     ExecutableBuildError(RuleFault),
     /// A rule of schemas or documents is broken.
     CompilerDiagnostic(RuleFault),

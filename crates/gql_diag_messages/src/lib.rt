@@ -7,6 +7,7 @@
 
 mod details;
 mod diagnostic_data;
+mod family;
 mod filled;
 mod named_type;
 mod rule;
@@ -14,4 +15,5 @@ mod rule_text;
 
 pub use details::{Details, RuleFault};
 pub use diagnostic_data::DiagnosticData;
+pub use family::{Family, list_fault};
 pub use rule::Rule;

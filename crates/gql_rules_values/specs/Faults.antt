@@ -1,14 +1,10 @@
 -- Broken rules, as diagnostics.
-use Rattle.std.specs.Prelude.{ℕ, Bool, List, [], ◌∷◌, Option, None, if◌then◌else◌}
-use Rattle.gql_source.specs.Span.{Span}
+use Rattle.std.specs.Prelude.{Bool, List, [], ◌∷◌, None, if◌then◌else◌}
 use Rattle.gql_ast_base.specs.Names.{Named}
 use Rattle.gql_diag_messages.specs.declared.rule.Rule.{Rule}
-use Rattle.gql_diag_messages.specs.declared.details.Details.TheVariants.{CompilerDiagnostic, RecursionLimitError}
+use Rattle.gql_diag_messages.specs.declared.details.Details.TheVariants.{RecursionLimitError}
 use Rattle.gql_diag_messages.specs.declared.diagnostic_data.DiagnosticData.{DiagnosticData}
-
--- a broken rule, its names, its place and the other place
-abbrev pub fault : Rule → List (List ℕ) → Option Span → Option Span → DiagnosticData
-fault rule names location other = record { location = location; details = CompilerDiagnostic (record { rule = rule; names = names; other = other }) }
+pub use Rattle.gql_diag_messages.specs.Family.{fault}
 
 -- what has this name breaks a rule
 abbrev pub name_fault : Rule → Named → DiagnosticData

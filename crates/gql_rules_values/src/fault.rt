@@ -1,31 +1,13 @@
 //! Broken rules, as diagnostics.
 
-ghost use Rattle.std.specs.Prelude.{◌≡◌, ◌++◌, [], ◌∷◌, map, OnOk};
+ghost use Rattle.std.specs.Prelude.{◌≡◌, ◌++◌, [], ◌∷◌, OnOk};
 ghost use Rattle.gql_rules_values.specs.Faults as spec;
 
 use gql_ast_base::Name;
-use gql_diag_messages::{Details, DiagnosticData, Rule, RuleFault};
-use gql_source::SourceSpan;
+pub use gql_diag_messages::list_fault;
+use gql_diag_messages::{Details, DiagnosticData, Rule};
 use jb_text::{Listed, Memory};
 use std::alloc::Global;
-
-/// Lists a broken rule with the names that its messages tell, its place and the other place. `Err` only when out of memory.
-pub fn list_fault(
-    alloc: Global,
-    rule: Rule,
-    names: &[&str],
-    location: Option<SourceSpan>,
-    other: Option<SourceSpan>,
-    faults: &mut Listed<DiagnosticData>,
-) -> Result<(), Memory>
-    ensures { OnOk result (faults.new ≡ faults.old ++ spec.fault rule (map (λ name. name.now) names.now) location other ∷ []) }
-{
-    let fault = RuleFault::new(alloc, rule, names, other)?;
-    faults.push(DiagnosticData {
-        location,
-        details: Details::CompilerDiagnostic(fault),
-    })
-}
 
 /// Lists a rule that what has this name breaks, at the name. `Err` only when out of memory.
 pub fn list_name(
