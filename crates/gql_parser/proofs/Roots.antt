@@ -105,7 +105,7 @@ no_root_faults schema holds =
     let A = directive_faults TypesAndScalars schema.types at.Schema schema.directive_definitions schema.schema_definition.directives in
     let Q = query_root_operation_type schema.schema_definition in
     let R = roots_faults schema in
-    let U = duplicate_root_operation_type schema.schema_definition in
+    let U = duplicate_root_operation_type schema.types schema.schema_definition in
     front_empty R U (back_empty Q (R ++ U) (back_empty A (Q ++ (R ++ U)) of_schema))
 
 each_root : (schema : Schema) → roots_faults schema ≡ [] → (operation_type : OperationType) → root_faults schema operation_type ≡ []

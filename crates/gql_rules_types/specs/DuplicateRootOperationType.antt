@@ -1,5 +1,5 @@
 -- The root types differ from each other: section 3.3.1 of GraphQL October 2021. Of two that do not, the one that stands later in
--- the text is told.
+-- the text is told. Nothing is asked of a type that is not defined.
 use Rattle.std.specs.Prelude.{ℕ, Bool, true, false, ◌&&◌, ◌||◌, ◌==◌, nat_lt}
 use Rattle.std.specs.Prelude.{List, [], ◌∷◌, ◌++◌, Option, Some, None, if◌then◌else◌}
 use Rattle.std.specs.Option.{option_map_or}
@@ -11,8 +11,10 @@ use Rattle.gql_ast_base.specs.declared.operation_type.OperationType.TheVariants.
 use Rattle.gql_diag_messages.specs.declared.rule.Rule.TheVariants.{DuplicateRootOperationType}
 use Rattle.gql_diag_messages.specs.declared.diagnostic_data.DiagnosticData.{DiagnosticData}
 use Rattle.gql_rules_values.specs.Faults.{fault}
+use Rattle.gql_rules_values.specs.Known.{is_known}
 use Rattle.gql_schema_types.specs.Schemas.{root_of}
 use Rattle.gql_schema_types.specs.declared.schema.SchemaDefinition.{SchemaDefinition}
+use Rattle.gql_schema_types.specs.declared.types.ExtendedType.{ExtendedType}
 
 -- by file and offset; what has no place comes first
 abbrev pub is_before : Option Span → Option Span → Bool
@@ -42,9 +44,11 @@ module _ (d : SchemaDefinition) where
   first_same name [] = None
   first_same name (a ∷ rest) = if option_map_or (λ (root : Named). bytes_eq name root.text) (root_of a d) false then root_of a d else first_same name rest
 
-  -- a root type that is one of those of the earlier operation types
+module _ (types : List ExtendedType) (d : SchemaDefinition) where
+  -- a root type that is defined and one of those of the earlier operation types
   abbrev pub duplicate : OperationType → List OperationType → List DiagnosticData
-  duplicate a earlier = option_map_or (λ name. second name (first_same name.text earlier)) (root_of a d) []
+  duplicate a earlier =
+      option_map_or (λ (name : Named). if is_known types name.text then second name (first_same d name.text earlier) else []) (root_of a d) []
 
   -- of three operation types in the order of the text
   abbrev pub duplicates : OperationType → OperationType → OperationType → List DiagnosticData
@@ -52,7 +56,7 @@ module _ (d : SchemaDefinition) where
 
   abbrev pub duplicate_root_operation_type : List DiagnosticData
   duplicate_root_operation_type =
-      let x = ordered Query Mutation in
-      let y = ordered x.1 Subscription in
-      let z = ordered x.0 y.0 in
+      let x = ordered d Query Mutation in
+      let y = ordered d x.1 Subscription in
+      let z = ordered d x.0 y.0 in
       duplicates z.0 z.1 y.1

@@ -34,7 +34,7 @@ module _ (schema : Schema) where
   abbrev pub schema_definition_faults : List DiagnosticData
   schema_definition_faults =
       directive_faults TypesAndScalars schema.types at.Schema schema.directive_definitions schema.schema_definition.directives
-      ++ (query_root_operation_type schema.schema_definition ++ (roots_faults ++ duplicate_root_operation_type schema.schema_definition))
+      ++ (query_root_operation_type schema.schema_definition ++ (roots_faults ++ duplicate_root_operation_type schema.types schema.schema_definition))
 
   -- a directive that is not built in
   abbrev pub directive_definition_faults : DirectiveDefinition → List DiagnosticData

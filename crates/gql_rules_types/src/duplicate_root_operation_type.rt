@@ -1,5 +1,5 @@
 //! The root types differ from each other (GraphQL October 2021, section 3.3.1). Of two that do not, the one that stands later in
-//! the text is told.
+//! the text is told. Nothing is asked of a type that is not defined.
 
 ghost use Rattle.std.specs.Prelude.{◌≡◌, ◌++◌, false, Some, OnOk};
 ghost use Rattle.std.specs.Option.{option_copied, option_map_or};
@@ -9,24 +9,25 @@ ghost use Rattle.gql_rules_types.specs.DuplicateRootOperationType as spec;
 
 use gql_ast_base::{Name, OperationType};
 use gql_diag_messages::{DiagnosticData, Rule};
-use gql_rules_values::list_fault;
-use gql_schema_types::SchemaDefinition;
+use gql_rules_values::{is_known, list_fault};
+use gql_schema_types::{Schema, SchemaDefinition};
 use gql_source::SourceSpan;
 use jb_text::{Listed, Memory};
 use std::alloc::Global;
 
-/// Lists each root type that is a root type of an operation type whose name stands before it.
+/// Lists each root type that is defined and a root type of an operation type whose name stands before it.
 pub(crate) fn list_duplicate_root_operation_type(
     alloc: Global,
-    definition: &SchemaDefinition,
+    schema: &Schema,
     faults: &mut Listed<DiagnosticData>,
 ) -> Result<(), Memory>
-    ensures { OnOk result (faults.new ≡ faults.old ++ spec.duplicate_root_operation_type definition.now) }
+    ensures { OnOk result (faults.new ≡ faults.old ++ spec.duplicate_root_operation_type schema.now.types schema.now.schema_definition) }
 {
+    let definition = &schema.schema_definition;
     let (one, two) = ordered(definition, OperationType::Query, OperationType::Mutation);
     let (two, three) = ordered(definition, two, OperationType::Subscription);
     let (one, two) = ordered(definition, one, two);
-    list_duplicates(alloc, definition, one, two, three, faults)
+    list_duplicates(alloc, schema, one, two, three, faults)
 }
 
 /// The two operation types in the order of their root types in the text.
@@ -80,33 +81,48 @@ fn is_span_before(one: SourceSpan, other: SourceSpan) -> bool
 /// Lists the seconds among three root types, which stand in this order.
 fn list_duplicates(
     alloc: Global,
-    definition: &SchemaDefinition,
+    schema: &Schema,
     one: OperationType,
     two: OperationType,
     three: OperationType,
     faults: &mut Listed<DiagnosticData>,
 ) -> Result<(), Memory>
-    ensures { OnOk result (faults.new ≡ faults.old ++ spec.duplicates definition.now one two three) }
+    ensures { OnOk result (faults.new ≡ faults.old ++ spec.duplicates schema.now.types schema.now.schema_definition one two three) }
 {
-    list_duplicate(alloc, definition, two, &[one], faults)?;
-    list_duplicate(alloc, definition, three, &[one, two], faults)
+    list_duplicate(alloc, schema, two, &[one], faults)?;
+    list_duplicate(alloc, schema, three, &[one, two], faults)
 }
 
-/// Lists a root type that is one of those of the earlier operation types.
+/// Lists a root type that is defined and one of those of the earlier operation types.
 fn list_duplicate(
     alloc: Global,
-    definition: &SchemaDefinition,
+    schema: &Schema,
     operation_type: OperationType,
     earlier: &[OperationType],
     faults: &mut Listed<DiagnosticData>,
 ) -> Result<(), Memory>
-    ensures { OnOk result (faults.new ≡ faults.old ++ spec.duplicate definition.now operation_type earlier.now) }
+    ensures { OnOk result (faults.new ≡ faults.old ++ spec.duplicate schema.now.types schema.now.schema_definition operation_type earlier.now) }
 {
-    match definition.root_operation(operation_type) {
-        Some(name) => match first_same(definition, name.as_str(), earlier) {
-            Some(first) => list_second(alloc, name, first, faults),
-            None => Ok(()),
-        },
+    match schema.schema_definition.root_operation(operation_type) {
+        Some(name) if is_known(&schema.types, name.as_str()) => {
+            list_again(alloc, &schema.schema_definition, name, earlier, faults)
+        }
+        _ => Ok(()),
+    }
+}
+
+/// Lists a name that is one of those of the root types of the earlier operation types.
+fn list_again(
+    alloc: Global,
+    definition: &SchemaDefinition,
+    name: &Name,
+    earlier: &[OperationType],
+    faults: &mut Listed<DiagnosticData>,
+) -> Result<(), Memory>
+    ensures { OnOk result (faults.new ≡ faults.old ++ spec.second name.now (spec.first_same definition.now name.now.text earlier.now)) }
+{
+    match first_same(definition, name.as_str(), earlier) {
+        Some(first) => list_second(alloc, name, first, faults),
         None => Ok(()),
     }
 }

@@ -35,7 +35,7 @@ pub fn list_schema_definition(
     )?;
     list_query_root_operation_type(alloc, &schema.schema_definition, faults)?;
     list_roots(alloc, schema, faults)?;
-    list_duplicate_root_operation_type(alloc, &schema.schema_definition, faults)
+    list_duplicate_root_operation_type(alloc, schema, faults)
 }
 
 /// Lists what is wrong with the root types, each by itself.
