@@ -17,7 +17,7 @@ use Rattle.gql_rules_merging.proofs.Pairing.{got_within}
 use Rattle.gql_rules_merging.proofs.SameArguments.{arguments_on}
 use Rattle.gql_rules_merging.proofs.Truths.{both_true, either_true, one_text, text_refl, one_levels, levels_refl, one_got}
 use Rattle.gql_rules_merging.specs.ConflictingFieldArgument.{same_arguments}
-use Rattle.gql_rules_merging.specs.ConflictingFieldType.{levels, same_levels, same_named, is_composite_name, types_conflict}
+use Rattle.gql_rules_merging.specs.ConflictingFieldType.{levels, same_levels, same_named, same_shape, is_composite_name, are_known}
 use Rattle.gql_rules_merging.specs.Families.{agree, agrees_with, is_agreed, is_agreed_at, AreAgreed, row_of, IsGathered, sets_over}
 use Rattle.gql_rules_merging.specs.FieldSelectionMerging.{below, below_fields, is_broken, are_apart, differ, items, sets_of}
 use Rattle.gql_rules_merging.specs.Numbering.{Selected, Numbered}
@@ -94,9 +94,9 @@ module _ (types : List ExtendedType) where
 
   agreed : (x y : Selected) → agree types x y ≡ true → Agree x y
   agreed x y is =
-      let parts = both_true (not (types_conflict types x y)) (not (differ x y) && not (differ y x)) is in
+      let parts = both_true (same_shape types x.definition.ty y.definition.ty) (not (differ x y) && not (differ y x)) is in
       let ways = both_true (not (differ x y)) (not (differ y x)) parts.1 in
-      let shapes = both_true (same_levels (shape x) (shape y)) (same_named types (type_name x) (type_name y)) (not-true (same_levels (shape x) (shape y) && same_named types (type_name x) (type_name y)) (not-false (types_conflict types x y) parts.0)) in
+      let shapes = both_true (same_levels (shape x) (shape y)) (same_named types (type_name x) (type_name y)) parts.0 in
       let there = neither (not (bytes_eq x.name.text y.name.text)) (not (same_arguments x.arguments y.arguments)) (not-false (differ x y) ways.0) in
       let back = neither (not (bytes_eq y.name.text x.name.text)) (not (same_arguments y.arguments x.arguments)) (not-false (differ y x) ways.1) in
       record {
@@ -111,10 +111,12 @@ module _ (types : List ExtendedType) where
   agree_whole : (m : Bool) (x y : Selected) → Agree x y → is_broken types m x y ≡ false
   agree_whole m x y a =
       let r : Bool = m && not (are_apart types x y) in
+      let k : Bool = are_known types x.definition.ty y.definition.ty in
       let at_levels : same_levels (shape x) (shape y) ≡ true = ap (same_levels (shape x)) (sym a.shape) ∙ levels_refl (shape x) in
       let at_names : bytes_eq x.name.text y.name.text ≡ true = ap (bytes_eq x.name.text) (sym a.name) ∙ text_refl x.name.text in
-      ap (λ t. not (t && same_named types (type_name x) (type_name y)) || (r && (not (bytes_eq x.name.text y.name.text) || not (same_arguments x.arguments y.arguments)))) at_levels
-      ∙ ap (λ t. not t || (r && (not (bytes_eq x.name.text y.name.text) || not (same_arguments x.arguments y.arguments)))) (named_holds (type_name x) (type_name y) a.named)
+      ap (λ t. (k && not (t && same_named types (type_name x) (type_name y))) || (r && (not (bytes_eq x.name.text y.name.text) || not (same_arguments x.arguments y.arguments)))) at_levels
+      ∙ ap (λ t. (k && not t) || (r && (not (bytes_eq x.name.text y.name.text) || not (same_arguments x.arguments y.arguments)))) (named_holds (type_name x) (type_name y) a.named)
+      ∙ ap (λ t. t || (r && (not (bytes_eq x.name.text y.name.text) || not (same_arguments x.arguments y.arguments)))) (and_none k)
       ∙ ap (λ t. r && (not t || not (same_arguments x.arguments y.arguments))) at_names
       ∙ ap (λ t. r && not t) a.given
       ∙ and_none r

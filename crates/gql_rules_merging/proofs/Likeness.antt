@@ -18,7 +18,8 @@ use Rattle.gql_rules_merging.proofs.SameArguments.{arguments_on}
 use Rattle.gql_rules_merging.proofs.Truths.{both_true, either_true, one_text, text_refl, text_turned, one_levels, levels_refl}
 use Rattle.gql_rules_merging.specs.Classes.{same_both_ways, same_head, has_class, same_item, same_items, is_like}
 use Rattle.gql_rules_merging.specs.ConflictingFieldArgument.{same_arguments}
-use Rattle.gql_rules_merging.specs.ConflictingFieldType.{levels, same_levels, same_named, is_composite_name, types_conflict}
+use Rattle.gql_rules_values.specs.Known.{is_known}
+use Rattle.gql_rules_merging.specs.ConflictingFieldType.{levels, same_levels, same_named, is_composite_name, are_known, types_conflict}
 use Rattle.gql_rules_merging.specs.FieldSelectionMerging.{is_broken, are_apart, is_object_name}
 use Rattle.gql_rules_merging.specs.Numbering.{Selected}
 use Rattle.gql_rules_merging.specs.ResponseKeys.{key_of}
@@ -212,7 +213,7 @@ module _ (types : List ExtendedType) where
 
   abbrev pub broken_by : Bool → List Bool → List Bool → List ℕ → List ℕ → List ℕ → List ℕ → List ℕ → List ℕ → Bool → Bool
   broken_by m l k t u p q n o same =
-      not (same_levels l k && same_named types t u) || ((m && not (apart_by p q)) && (not (bytes_eq n o) || not same))
+      ((is_known types t && is_known types u) && not (same_levels l k && same_named types t u)) || ((m && not (apart_by p q)) && (not (bytes_eq n o) || not same))
 
   pub apart_turned : (p q : List ℕ) → apart_by p q ≡ apart_by q p
   apart_turned p q = ap (λ t. not t && (is_object_name types p && is_object_name types q)) (text_turned p q) ∙ ap (λ t. not (bytes_eq q p) && t) (both_turned (is_object_name types p) (is_object_name types q))
@@ -240,8 +241,11 @@ module _ (types : List ExtendedType) where
       let shape = levels_refl (levels x.definition.ty) in
       let named : same_named types (named_type x.definition.ty).text (named_type x.definition.ty).text ≡ true = named_self (named_type x.definition.ty).text in
       let name = text_refl x.name.text in
-      ap (λ t. not (t && same_named types (named_type x.definition.ty).text (named_type x.definition.ty).text) || ((m && not (are_apart types x x)) && (not (bytes_eq x.name.text x.name.text) || not (same_arguments x.arguments x.arguments)))) shape
-      ∙ ap (λ t. not t || ((m && not (are_apart types x x)) && (not (bytes_eq x.name.text x.name.text) || not (same_arguments x.arguments x.arguments)))) named
+      let k : Bool = are_known types x.definition.ty x.definition.ty in
+      ap (λ t. (k && not (t && same_named types (named_type x.definition.ty).text (named_type x.definition.ty).text))
+      || ((m && not (are_apart types x x)) && (not (bytes_eq x.name.text x.name.text) || not (same_arguments x.arguments x.arguments)))) shape
+      ∙ ap (λ t. (k && not t) || ((m && not (are_apart types x x)) && (not (bytes_eq x.name.text x.name.text) || not (same_arguments x.arguments x.arguments)))) named
+      ∙ ap (λ t. t || ((m && not (are_apart types x x)) && (not (bytes_eq x.name.text x.name.text) || not (same_arguments x.arguments x.arguments)))) (and_none k)
       ∙ ap (λ t. (m && not (are_apart types x x)) && (not t || not (same_arguments x.arguments x.arguments))) name
       ∙ ap (λ t. (m && not (are_apart types x x)) && not t) given
       ∙ and_none (m && not (are_apart types x x))

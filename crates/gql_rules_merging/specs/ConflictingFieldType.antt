@@ -1,5 +1,5 @@
 -- Fields of one response key in a set, or in the sets below such fields, have one shape: section 5.3.2 of GraphQL October 2021,
--- SameResponseShape. `is_broken` of FieldSelectionMerging.antt says where it is broken.
+-- SameResponseShape. `is_broken` of FieldSelectionMerging.antt says where it is broken. Nothing is asked of a type that is not defined.
 use Rattle.std.specs.Prelude.{ℕ, Bool, true, false, not, ◌&&◌, ◌||◌, List, [], ◌∷◌}
 use Rattle.std.specs.Bool.{beq}
 use Rattle.std.specs.Option.{option_map_or}
@@ -10,6 +10,7 @@ use Rattle.gql_ast_base.specs.declared.type_ref.TypeRef.TheOpen.{TypeRef-F}
 use Rattle.gql_diag_messages.specs.declared.rule.Rule.TheVariants.{ConflictingFieldType}
 use Rattle.gql_diag_messages.specs.declared.diagnostic_data.DiagnosticData.{DiagnosticData}
 use Rattle.gql_rules_values.specs.Faults.{fault}
+use Rattle.gql_rules_values.specs.Known.{is_known}
 use Rattle.gql_ast_base.specs.TypeParts.{named_type}
 use Rattle.gql_schema_types.specs.Types.{type_called, is_composite}
 use Rattle.gql_schema_types.specs.declared.types.ExtendedType.{ExtendedType}
@@ -44,8 +45,11 @@ module _ (types : List ExtendedType) where
   abbrev pub same_shape : TypeRef → TypeRef → Bool
   same_shape one other = same_levels (levels one) (levels other) && same_named (named_type one).text (named_type other).text
 
+  abbrev pub are_known : TypeRef → TypeRef → Bool
+  are_known one other = is_known types (named_type one).text && is_known types (named_type other).text
+
   abbrev pub types_conflict : Selected → Selected → Bool
-  types_conflict one other = not (same_shape one.definition.ty other.definition.ty)
+  types_conflict one other = are_known one.definition.ty other.definition.ty && not (same_shape one.definition.ty other.definition.ty)
 
 -- told at the later field, with the place of the earlier one
 abbrev pub conflicting_types : Selected → Selected → DiagnosticData

@@ -5,7 +5,7 @@ use Rattle.std.specs.Option.{option_map_or, unwrap_or}
 use Rattle.gql_graph.specs.Explored.{class_of}
 use Rattle.gql_graph.specs.Pairs.{Sets}
 use Rattle.gql_schema_types.specs.declared.types.ExtendedType.{ExtendedType}
-use Rattle.gql_rules_merging.specs.ConflictingFieldType.{types_conflict}
+use Rattle.gql_rules_merging.specs.ConflictingFieldType.{same_shape}
 use Rattle.gql_rules_merging.specs.FieldSelectionMerging.{below, differ, items}
 use Rattle.gql_rules_merging.specs.Numbering.{Selected, Numbered}
 use Rattle.gql_rules_merging.specs.ResponseKeys.{key_numbers}
@@ -13,7 +13,7 @@ use Rattle.gql_rules_merging.specs.ResponseKeys.{key_numbers}
 module _ (types : List ExtendedType) where
   -- one shape, one name and the same arguments, whichever comes first
   abbrev pub agree : Selected → Selected → Bool
-  agree one other = not (types_conflict types one other) && (not (differ one other) && not (differ other one))
+  agree one other = same_shape types one.definition.ty other.definition.ty && (not (differ one other) && not (differ other one))
 
   module _ (fields : List Selected) where
     abbrev pub agrees_with : ℕ → Selected → Bool

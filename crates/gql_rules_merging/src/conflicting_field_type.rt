@@ -1,5 +1,5 @@
 //! Fields of one response key in a set, or in the sets below such fields, have one shape (GraphQL October 2021, section 5.3.2,
-//! SameResponseShape).
+//! SameResponseShape). Nothing is asked of a type that is not defined.
 
 ghost use Rattle.std.specs.Prelude.{◌≡◌, ◌++◌, ◌∷◌, [], OnOk};
 ghost use Rattle.gql_rules_merging.specs.ConflictingFieldType as spec;
@@ -9,12 +9,12 @@ use crate::numbering::Selected;
 use gql_ast::print_type;
 use gql_ast_base::TypeRef;
 use gql_diag_messages::{DiagnosticData, Rule};
-use gql_rules_values::list_fault;
+use gql_rules_values::{is_known, list_fault};
 use gql_schema_types::{ExtendedType, Table};
 use jb_text::{Listed, Memory};
 use std::alloc::Global;
 
-/// Whether two fields have different shapes.
+/// Whether two fields of types that are defined have different shapes.
 pub(crate) fn types_conflict(
     types: &Table<ExtendedType>,
     one: &Selected<'_>,
@@ -22,11 +22,21 @@ pub(crate) fn types_conflict(
 ) -> bool
     ensures { result ≡ spec.types_conflict types.now (selected_of one.now) (selected_of other.now) }
 {
-    !same_shape(types, &one.field.definition.ty, &other.field.definition.ty)
+    let ty = &one.field.definition.ty;
+    let other = &other.field.definition.ty;
+    are_known(types, ty, other) && !same_shape(types, ty, other)
+}
+
+/// Whether the types that these name are defined.
+fn are_known(types: &Table<ExtendedType>, one: &TypeRef, other: &TypeRef) -> bool
+    ensures { result ≡ spec.are_known types.now one.now other.now }
+{
+    is_known(types, one.inner_named_type().as_str())
+        && is_known(types, other.inner_named_type().as_str())
 }
 
 /// Whether two types have lists and non-nulls at the same levels, and one name or names of types that have fields.
-fn same_shape(types: &Table<ExtendedType>, one: &TypeRef, other: &TypeRef) -> bool
+pub(crate) fn same_shape(types: &Table<ExtendedType>, one: &TypeRef, other: &TypeRef) -> bool
     ensures { result ≡ spec.same_shape types.now one.now other.now }
 {
     same_levels(one, other)

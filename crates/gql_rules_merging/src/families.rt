@@ -9,7 +9,7 @@ ghost use Rattle.gql_graph.specs.Explored.{IsExplored};
 
 use crate::classes::class_of;
 use crate::comparison::{Comparison, differ};
-use crate::conflicting_field_type::types_conflict;
+use crate::conflicting_field_type::same_shape;
 use crate::family_growth::grown_families;
 use crate::family_sets::gathered;
 use crate::numbering::{Numbered, Selected};
@@ -97,7 +97,8 @@ fn agrees_with(
 fn agree(types: &Table<ExtendedType>, one: &Selected<'_>, other: &Selected<'_>) -> bool
     ensures { result ≡ spec.agree types.now (selected_of one.now) (selected_of other.now) }
 {
-    !types_conflict(types, one, other) && (!differ(one, other) && !differ(other, one))
+    same_shape(types, &one.field.definition.ty, &other.field.definition.ty)
+        && (!differ(one, other) && !differ(other, one))
 }
 
 /// Whether all fields that have one response key, in one set or in the sets of one family taken together, are of one family.
