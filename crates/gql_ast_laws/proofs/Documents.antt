@@ -43,7 +43,7 @@ span-in file (Some start) (Some end) = by_test (nat_le start end)
     by_test true = refl
     by_test false = tt
 
-location-in : (file : FileId) (tree : Plain) → IsIn file (location file tree)
+pub location-in : (file : FileId) (tree : Plain) → IsIn file (location file tree)
 unfolding location
 location-in file tree = span-in file (tree_start tree) (tree_end tree)
 

@@ -6,6 +6,7 @@ pub mod Constants
 pub mod Kept
 mod Values
 mod Documents
+mod FieldsIn
 pub mod TokenKinds
 pub mod Blind
 pub mod Gathered

@@ -12,6 +12,7 @@ ghost use Rattle.gql_ast_definitions.specs.Selections.{selections, selected};
 ghost use Rattle.gql_ast_definitions.specs.declared.selection.Selection.{Selection};
 ghost use Rattle.gql_ast_laws.specs.Complete.{EachNode};
 ghost use Rattle.gql_ast_laws.specs.Defaults.{HasConstantDefaults};
+ghost use Rattle.gql_ast_laws.specs.FieldsIn.{HasFieldsIn};
 ghost use Rattle.gql_ast_laws.specs.Meant.{IsDocumentOf, AreSelectionsOf, IsTypeOf};
 ghost use Rattle.gql_ast_laws.specs.Printed.{has_names, unplaced, RefersTo};
 ghost use Rattle.gql_cst.specs.Forest.{Forest, Plain, plain};
@@ -97,6 +98,13 @@ pub fn defaults_are_constant()
 {
     grammar_laws::sentences_have_one_tree();
 }
+
+/// In a document that a text means each field of an object type or an interface type, or of an extension of one, stands in the
+/// text's file (GraphQL October 2021, sections 3.6 and 3.7).
+pub fn fields_stand_in_their_file()
+    ensures { (text : List ℕ) (file : FileId) (definitions : List Definition) → IsDocumentOf text file definitions
+        → All (HasFieldsIn file) definitions }
+{}
 
 /// The text that a type is written as refers to that type, and to no other, the places aside that its names were read
 /// from (section 2.11 of GraphQL October 2021).

@@ -7,4 +7,5 @@ pub mod Views
 pub mod Measure
 mod RootWalk
 mod Spread
+pub mod Spreadless
 pub mod Variants

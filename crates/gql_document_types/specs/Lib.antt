@@ -2,6 +2,7 @@ pub mod Contents
 pub mod Count
 pub mod Counted
 pub mod Expanded
+pub mod Spreadless
 pub mod OneSpread
 pub mod Refusal
 pub mod ChosenOperation
