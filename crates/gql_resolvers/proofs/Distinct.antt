@@ -29,7 +29,7 @@ distinct_joined [] ys p q c = q
 distinct_joined (x ∷ xs) ys p q c = (all_joined (IsApart x) xs ys p.0 c.0, distinct_joined xs ys p.1 q c.1)
 
 -- the error's path goes on from a trail, by one of these steps
-abbrev BelowBy : Trail → (Segment → Type 0) → GraphQLError → Type 0
+abbrev pub BelowBy : Trail → (Segment → Type 0) → GraphQLError → Type 0
 BelowBy t B e = (s : Segment) × B s × (q : List Segment) × (e.path ≡ path_of t ++ s ∷ q)
 
 abbrev Separate : Trail → (Segment → Type 0) → List GraphQLError → Type 0
@@ -68,7 +68,7 @@ module _ (t : Trail) where
     )
 
 module _ {G : Type 0} (spot : Spot G) where
-  abbrev IsOwnStep : Segment → Type 0
+  abbrev pub IsOwnStep : Segment → Type 0
   IsOwnStep s = s ≡ spot.step
 
   own_error : {X T S : Type 0} (w : World X T G S) (fault : Fault) → Separate spot.around IsOwnStep (fault_error w spot fault ∷ [])
@@ -135,7 +135,7 @@ module _ {X T G S : Type 0} (w : World X T G S) (keys : (U : T) (s : S) → Dist
           (separate_unless it (w.misfit it.type m) (value_made w run it m) (separate_value it m law))
           (separate_items list (i + 1) ms law)
 
-    separate_field : (U : T) (outer : Trail) (g : G) (outcome : Outcome X) → Law run (w.below g)
+    pub separate_field : (U : T) (outer : Trail) (g : G) (outcome : Outcome X) → Law run (w.below g)
         → Separate outer (IsOwnStep (field_spot w U outer g)) (field_made w run (field_spot w U outer g) outcome).1
     separate_field U outer g (answered m) law =
         let spot = field_spot w U outer g in
@@ -152,7 +152,7 @@ module _ {X T G S : Type 0} (w : World X T G S) (keys : (U : T) (s : S) → Dist
         (separate_field U outer g (w.asks U x g) (laws g))
         (separate_groups U x outer gs laws distinct.1)
 
-  separate_execute : (d : ℕ) (s : S) → Law (execute w d) s
+  pub separate_execute : (d : ℕ) (s : S) → Law (execute w d) s
   separate_execute zero s U y outer = (tt, tt)
   separate_execute (suc d) s U y outer = separate_groups (execute w d) U y outer (w.groups U s) (λ g. separate_execute d (w.below g)) (keys U s)
 

@@ -11,3 +11,7 @@ pub mod Height
 pub mod ObjectLists
 pub mod Shapes
 pub mod Views
+pub mod DataSkips
+pub mod OneRun
+pub mod OnePlace
+pub mod Begins

@@ -84,7 +84,7 @@ module _ {X T G S : Type 0} (w : World X T G S) (root : T) (initial : X) (all : 
   fields_distinct U x outer [] distinct = tt
   fields_distinct U x outer (g ∷ gs) distinct = (fields_later U x outer g gs distinct.0, fields_distinct U x outer gs distinct.1)
 
-  fields_around : (U : T) (x : X) (outer : Trail) (gs : List G) (s : Spot G) (a : Outcome X) → IsAmong s a (fields_of w U x outer gs) → s.around ≡ outer
+  pub fields_around : (U : T) (x : X) (outer : Trail) (gs : List G) (s : Spot G) (a : Outcome X) → IsAmong s a (fields_of w U x outer gs) → s.around ≡ outer
   fields_around U x outer [] s a h = absurd h
   fields_around U x outer (g ∷ gs) s a (inl h) = ap (λ (p : Spot G). p.around) h.0
   fields_around U x outer (g ∷ gs) s a (inr h) = fields_around U x outer gs s a h
@@ -104,7 +104,7 @@ module _ {X T G S : Type 0} (w : World X T G S) (root : T) (initial : X) (all : 
   inside_distinct outer gives_skip = tt
   inside_distinct outer (fails_with text) = tt
 
-  inside_around : (outer : Spot G) (m : Meaning X) (s : Spot G) (a : Outcome X) → IsAmong s a (inside w outer m) → s.around ≡ trail outer
+  pub inside_around : (outer : Spot G) (m : Meaning X) (s : Spot G) (a : Outcome X) → IsAmong s a (inside w outer m) → s.around ≡ trail outer
   inside_around outer (gives_leaf v) s a h = absurd h
   inside_around outer (gives_object x) s a h = if_around (w.type_of x) x outer s a h
   inside_around outer (gives_list ms) s a h = items_around outer 0 ms s a h
@@ -119,7 +119,7 @@ module _ {X T G S : Type 0} (w : World X T G S) (root : T) (initial : X) (all : 
   trail_around : (s t : Spot G) → trail s ≡ trail t → s.around ≡ t.around
   trail_around s t e = cc
 
-  answered_same : (m n : Meaning X) → answered m ≡ answered n → m ≡ n
+  pub answered_same : (m n : Meaning X) → answered m ≡ answered n → m ≡ n
   answered_same m n e = cc
 
   no_trail : (outer : Spot G) (around : Trail) → around ≡ [] → around ≡ trail outer → ⊥

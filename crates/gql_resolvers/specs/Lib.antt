@@ -9,6 +9,7 @@ pub mod Execute
 pub mod Depth
 pub mod Explained
 pub mod Distinct
+pub mod Begins
 pub mod Skips
 pub mod Along
 pub mod Lists
