@@ -6,7 +6,7 @@ use Rattle.gql_ast_base.specs.Names.{Named}
 use Rattle.gql_schema_types.specs.Called.{is_among}
 use Rattle.gql_schema_types.specs.Types.{type_called}
 use Rattle.gql_schema_types.specs.declared.types.ExtendedType.{ExtendedType}
-use Rattle.gql_schema_types.specs.declared.types.ExtendedType.TheVariants.{Union}
+use Rattle.gql_schema_types.specs.declared.types.ExtendedType.TheVariants.{Interface, Union}
 use Rattle.gql_schema_types.specs.declared.types.ObjectType.{ObjectType}
 
 -- is this a union that has the type of the name?
@@ -14,11 +14,16 @@ abbrev pub has_member : Option ExtendedType → List ℕ → Bool
 has_member (Some (Union it)) name = is_among name it.members
 has_member _ name = false
 
+-- is this an interface, of the name, among those that are listed?
+abbrev pub is_listed : Option ExtendedType → List ℕ → List Named → Bool
+is_listed (Some (Interface it)) name listed = is_among name listed
+is_listed _ name listed = false
+
 -- the condition is the object type itself, an interface that it lists, or a union that has it
 abbrev pub applies : List ExtendedType → ObjectType → List ℕ → Bool
 applies types object condition =
     bytes_eq condition object.name.text
-    || (is_among condition object.implements_interfaces || has_member (type_called condition types) object.name.text)
+    || (is_listed (type_called condition types) condition object.implements_interfaces || has_member (type_called condition types) object.name.text)
 
 -- without a condition it always holds
 abbrev pub applies_if : List ExtendedType → ObjectType → Option Named → Bool

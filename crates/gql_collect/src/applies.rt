@@ -13,8 +13,11 @@ pub(crate) fn applies(types: &Table<ExtendedType>, object: &ObjectType, conditio
     ensures { result ≡ spec.applies types.now object.now condition.now }
 {
     condition == object.name.as_str()
-        || (is_among(condition, object.implements_interfaces.as_slice())
-            || has_member(types.get(condition), object.name.as_str()))
+        || (is_listed(
+            types.get(condition),
+            condition,
+            object.implements_interfaces.as_slice(),
+        ) || has_member(types.get(condition), object.name.as_str()))
 }
 
 /// The same of an inline fragment, whose condition may be missing: then it applies.
@@ -28,6 +31,16 @@ pub(crate) fn applies_if(
     match condition {
         Some(name) => applies(types, object, name.as_str()),
         None => true,
+    }
+}
+
+/// Whether this is an interface, of the name, among those that are listed.
+fn is_listed(ty: Option<&ExtendedType>, name: &str, listed: &[Name]) -> bool
+    ensures { result ≡ spec.is_listed (option_copied ty.entry) name.now listed.now }
+{
+    match ty {
+        Some(ExtendedType::Interface(_)) => is_among(name, listed),
+        _ => false,
     }
 }
 
