@@ -24,3 +24,5 @@ pub mod Ways
 pub mod Outputs
 pub mod OpenTexts
 pub mod QuotedNames
+pub mod Skipless
+pub mod OneResponse

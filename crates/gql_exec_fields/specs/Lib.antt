@@ -4,6 +4,7 @@ pub mod Asks
 pub mod RequestWorld
 pub mod Nesting
 pub mod Response
+pub mod NeverSkips
 pub mod Runs
 pub mod Trails
 pub mod Executing

@@ -1,19 +1,26 @@
 //! Laws of the world of a document.
 
-ghost use Rattle.std.specs.Prelude.{◌≡◌, ℕ, List};
+ghost use Rattle.std.specs.Prelude.{◌≡◌, ℕ, Bool, List};
+ghost use Rattle.gql_document_types.specs.declared.document.ExecutableDocument.{ExecutableDocument};
 ghost use Rattle.gql_document_types.specs.declared.selection.Selection.{Selection};
 ghost use Rattle.gql_collect.specs.Groups.{FieldGroup, SameGroups, applying};
 ghost use Rattle.gql_document_types.specs.Ranks.{AreRanked};
 ghost use Rattle.gql_collect.specs.Same.{SameFirst};
 ghost use Rattle.gql_resolvers.specs.Depth.{Suffices};
 ghost use Rattle.gql_resolvers.specs.Execute.{execute};
+ghost use Rattle.gql_resolvers.specs.Skips.{ReachesNoSkip};
 ghost use Rattle.gql_resolvers.specs.Trail.{Trail};
 ghost use Rattle.gql_resolvers.specs.World.{DistinctKeys, IsLawful};
 ghost use Rattle.gql_exec_fields.specs.Group.{groups_from};
 ghost use Rattle.gql_exec_fields.specs.Nesting.{nesting, AllBelow};
-ghost use Rattle.gql_exec_fields.specs.Request.{Request};
+ghost use Rattle.gql_exec_fields.specs.Executing.{Resolving, request_by};
+ghost use Rattle.gql_exec_fields.specs.NeverSkips.{IsFullyExplained, IsNeverSkipped, NeverSkips};
+ghost use Rattle.gql_exec_fields.specs.Request.{Members, Request};
 ghost use Rattle.gql_exec_fields.specs.RequestWorld.{plain_world, setting_on};
+ghost use Rattle.gql_exec_fields.specs.Response.{IsExecuted, IsExplained};
 ghost use Rattle.gql_exec_fields.specs.Runs.{RunsAs};
+ghost use Rattle.gql_response.specs.declared.execution_response.ExecutionResponse.{ExecutionResponse};
+ghost use Rattle.gql_schema_types.specs.declared.schema.Schema.{Schema as TheSchema};
 ghost use Rattle.gql_schema_types.specs.declared.types.ObjectType.{ObjectType};
 
 /// The world of a document keeps what the laws of execution ask of a world.
@@ -38,4 +45,21 @@ pub fn groups_go_less_deep<X>()
         → SameGroups gs (applying (setting_on r U) sets) → AllBelow r.schema U r.fragments (nesting r.fragments sets) gs }
     ensures enough { (r : Request X) → ((rank : ℕ → ℕ) × AreRanked r.fragments rank) → (U : ObjectType) (sets : List (List Selection))
         → Suffices (plain_world r) (nesting r.fragments sets) U sets }
+{}
+
+/// Where no resolver leaves anything out, nothing that is reached is left out, and a response that is explained is so without
+/// further premise (section 6.4.4). Of a request with introspection or without it, it is enough that its resolver does not.
+pub fn requests_are_fully_explained<X>()
+    ensures reached { (r : Request X) → IsNeverSkipped r → (root : ObjectType) (initial : X) (sets : List (List Selection))
+        → ReachesNoSkip (plain_world r) root initial sets }
+    ensures explained { (r : Request X) → IsNeverSkipped r → (root : ObjectType) (initial : X) (selections : List Selection) (response : ExecutionResponse)
+        → IsExplained r root initial selections response → IsFullyExplained r root initial selections response }
+    ensures request { (introspection : Bool) (schema : TheSchema) (document : ExecutableDocument) (variables : Members) (types : X → List ℕ)
+        (resolves : Resolving X) → NeverSkips resolves → IsNeverSkipped (request_by introspection schema document variables types resolves) }
+{}
+
+/// An execution has one response: two that are exactly what execution gives are equal (section 6.2).
+pub fn responses_are_one<X>()
+    ensures { (r : Request X) (root : ObjectType) (initial : X) (selections : List Selection) (one other : ExecutionResponse)
+        → IsExecuted r root initial selections one → IsExecuted r root initial selections other → one ≡ other }
 {}
