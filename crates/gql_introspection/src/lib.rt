@@ -12,6 +12,7 @@ mod enum_value_def;
 mod field_def;
 mod input_value_def;
 mod items;
+pub mod laws;
 mod leaves;
 mod meta_object;
 mod named_types;
