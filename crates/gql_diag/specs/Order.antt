@@ -25,7 +25,7 @@ row_of (SyntaxError message) = 0
 row_of (SchemaBuildError fault) = row fault.rule
 row_of (ExecutableBuildError fault) = row fault.rule
 row_of (CompilerDiagnostic fault) = row fault.rule
-row_of RecursionLimitError = 67
+row_of RecursionLimitError = 69
 
 abbrev pub names_of : Details → List (List ℕ)
 names_of (SchemaBuildError fault) = fault.names

@@ -12,7 +12,7 @@ use jb_text::{Memory, Text};
 use std::cmp::Ordering;
 
 /// The row of what is not a broken rule but a chain that is too long, behind all rows of rules.
-const LAST_ROW: usize = 67;
+const LAST_ROW: usize = 69;
 
 /// Sorts by place; what is at one place stays as it stands. Where memory has run out, nothing is moved.
 pub(crate) fn sort_by_place(items: &mut Vec<DiagnosticData>) -> Result<(), Memory>

@@ -1,7 +1,7 @@
 //! The rules of schemas and documents, by name.
 
 /// A rule that a schema or a document can break, each with what is listed for it (GraphQL October 2021, sections 3
-/// and 5).
+/// and 5; those on one-of input objects GraphQL September 2025, section 3.10.1).
 #[derive(Clone, Copy, Debug, PartialEq, Eq)]
 pub enum Rule {
     // Faults of building a schema.
@@ -133,6 +133,10 @@ pub enum Rule {
     UndefinedInputValue,
     /// An input field that has to be given and is not.
     RequiredField,
+    /// A field of a one-of input object type that is not null or has a default.
+    OneOfField,
+    /// A literal at a one-of input object type that does not have exactly one member, or whose member is or may be null.
+    OneOfValue,
     /// A spread of a fragment that is not defined.
     UndefinedFragment,
     /// A fragment that reaches itself.

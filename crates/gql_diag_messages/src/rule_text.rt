@@ -264,41 +264,45 @@ fn text_of(rule: Rule) -> RuleText
             Words("Field \"{0}\" is not defined by type \"{1}\".");
         RequiredField, 54, "the required field `{0}` is not provided",
             Words("Field \"{0}\" of required type \"{1}\" was not provided.");
-        UndefinedFragment, 55, "cannot find fragment `{0}` in this document",
+        OneOfField, 55, "field `{0}.{1}` of a one-of input object must be nullable and have no default",
+            NoWords;
+        OneOfValue, 56, "one-of input object `{0}` must have exactly one non-null member",
+            NoWords;
+        UndefinedFragment, 57, "cannot find fragment `{0}` in this document",
             Words("Unknown fragment \"{0}\".");
-        RecursiveFragmentDefinition, 56, "`{0}` fragment cannot reference itself",
+        RecursiveFragmentDefinition, 58, "`{0}` fragment cannot reference itself",
             Words("Cannot spread fragment \"{0}\" within itself via {1}");
-        UnusedFragment, 57, "fragment `{0}` must be used in an operation",
+        UnusedFragment, 59, "fragment `{0}` must be used in an operation",
             Words("Fragment \"{0}\" is never used.");
-        InvalidFragmentTarget, 58, "fragment cannot be applied to type `{1}`",
+        InvalidFragmentTarget, 60, "fragment cannot be applied to type `{1}`",
             Lacking {
                 number: 0,
                 unnamed: "Fragment cannot condition on non composite type \"{1}\".",
                 named: "Fragment \"{0}\" cannot condition on non composite type \"{1}\".",
             };
-        InvalidFragmentSpread, 59, "fragment on `{2}` cannot be applied to `{1}`",
+        InvalidFragmentSpread, 61, "fragment on `{2}` cannot be applied to `{1}`",
             Lacking {
                 number: 0,
                 unnamed: "Fragment cannot be spread here as objects of type \"{1}\" can never be of type \"{2}\".",
                 named: "Fragment \"{0}\" cannot be spread here as objects of type \"{1}\" can never be of type \"{2}\".",
             };
-        UniqueVariable, 60, "the variable `${0}` is declared multiple times",
+        UniqueVariable, 62, "the variable `${0}` is declared multiple times",
             Words("There can be only one variable named \"${0}\".");
-        UnusedVariable, 61, "unused variable: `${0}`",
+        UnusedVariable, 63, "unused variable: `${0}`",
             Words("Variable \"${0}\" is never used.");
-        UndefinedVariable, 62, "variable `${0}` is not defined",
+        UndefinedVariable, 64, "variable `${0}` is not defined",
             Words("Variable \"${0}\" is not defined.");
-        VariableInputType, 63, "`${0}` variable must be of an input type",
+        VariableInputType, 65, "`${0}` variable must be of an input type",
             Words("Variable \"${0}\" cannot be non-input type \"{1}\".");
-        DisallowedVariableUsage, 64, "`${0}` cannot be used as {2}",
+        DisallowedVariableUsage, 66, "`${0}` cannot be used as {2}",
             Words("Variable \"${0}\" of type \"{1}\" used in position expecting type \"{2}\".");
-        MissingSubselection, 65, "field `{0}` of type `{1}` needs selections",
+        MissingSubselection, 67, "field `{0}` of type `{1}` needs selections",
             Words("Field \"{0}\" of type \"{1}\" must have a selection of subfields. Did you mean \"{0} { ... }\"?");
-        ConflictingFieldType, 66, "`{0}` is selected with conflicting types",
+        ConflictingFieldType, 68, "`{0}` is selected with conflicting types",
             Words("Fields \"{0}\" conflict because they return conflicting types \"{1} and \"{2}\". Use different aliases on the fields to fetch both if this was intentional.");
-        ConflictingFieldName, 66, "`{0}` is selected with conflicting names",
+        ConflictingFieldName, 68, "`{0}` is selected with conflicting names",
             Words("Fields \"{0}\" conflict because \"{1}\" and \"{2}\" are different fields. Use different aliases on the fields to fetch both if this was intentional.");
-        ConflictingFieldArgument, 66, "`{0}` is selected with conflicting arguments",
+        ConflictingFieldArgument, 68, "`{0}` is selected with conflicting arguments",
             Words("Fields \"{0}\" conflict because they have differing arguments. Use different aliases on the fields to fetch both if this was intentional.");
     }
 }

@@ -2,7 +2,7 @@
 
 use gql_diag_messages::Rule;
 
-pub(crate) const VALUES: [(Rule, &str, &str); 5] = [
+pub(crate) const VALUES: [(Rule, &str, &str); 7] = [
     (
         Rule::UnsupportedValueType,
         "expected value of type A, found b",
@@ -27,6 +27,16 @@ pub(crate) const VALUES: [(Rule, &str, &str); 5] = [
         Rule::RequiredField,
         "the required field `A` is not provided",
         "Field \"A\" of required type \"b\" was not provided.",
+    ),
+    (
+        Rule::OneOfField,
+        "field `A.b` of a one-of input object must be nullable and have no default",
+        "",
+    ),
+    (
+        Rule::OneOfValue,
+        "one-of input object `A` must have exactly one non-null member",
+        "",
     ),
 ];
 
