@@ -4,11 +4,11 @@ use Rattle.std.specs.Str.{bytes_eq}
 use Rattle.gql_resolvers.specs.Resolved.{Meaning}
 use Rattle.gql_resolvers.specs.Meaning.{Members}
 use Rattle.gql_schema_types.specs.Implementers.{is_object, implements}
-use Rattle.gql_schema_types.specs.Types.{type_name}
+use Rattle.gql_schema_types.specs.Types.{type_name, is_one_of}
 use Rattle.gql_schema_types.specs.declared.schema.Schema.{Schema}
 use Rattle.gql_schema_types.specs.declared.types.ExtendedType.{ExtendedType}
 use Rattle.gql_schema_types.specs.declared.types.ExtendedType.TheVariants.{Scalar, Object, Interface, Union, Enum, InputObject}
-use Rattle.gql_introspection.specs.Answers.{null_leaf, text_leaf, text_or_null, objects}
+use Rattle.gql_introspection.specs.Answers.{null_leaf, text_leaf, text_or_null, truth_leaf, objects}
 use Rattle.gql_introspection.specs.Deprecation.{specified_by}
 use Rattle.gql_introspection.specs.Kept.{kept_fields, kept_enum_values, kept_input_values}
 use Rattle.gql_introspection.specs.Meta.{Meta, type_def}
@@ -33,6 +33,11 @@ type_description (InputObject it) = it.description
 abbrev pub scalar_url : ExtendedType → Option (List ℕ)
 scalar_url (Scalar it) = specified_by it.directives
 scalar_url _ = None
+
+-- whether an input object is one-of: section 4.2.2 of GraphQL September 2025
+abbrev pub one_of : ExtendedType → Meaning Meta
+one_of (InputObject it) = truth_leaf (is_one_of it)
+one_of _ = null_leaf
 
 -- an object type that says that it implements the interface
 abbrev pub is_implementing : List ℕ → ExtendedType → Bool
@@ -79,4 +84,5 @@ module _ (schema : Schema) where
       else if bytes_eq f (codes "inputFields") then Some (input_fields arguments ty)
       else if bytes_eq f (codes "ofType") then Some null_leaf
       else if bytes_eq f (codes "specifiedByURL") then Some (text_or_null (scalar_url ty))
+      else if bytes_eq f (codes "isOneOf") then Some (one_of ty)
       else None

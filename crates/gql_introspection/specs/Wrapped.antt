@@ -35,7 +35,7 @@ module _ (schema : Schema) where
 abbrev pub is_null_field : List ℕ → Bool
 is_null_field f = list_any (bytes_eq f)
     (codes "name" ∷ codes "description" ∷ codes "fields" ∷ codes "interfaces" ∷ codes "possibleTypes" ∷ codes "enumValues" ∷ codes "inputFields"
-    ∷ codes "specifiedByURL" ∷ [])
+    ∷ codes "specifiedByURL" ∷ codes "isOneOf" ∷ [])
 
 abbrev pub wrapped_row : Schema → TypeRef → Bool → List ℕ → Option (Meaning Meta)
 wrapped_row schema ty stripped f =

@@ -2,16 +2,19 @@
 
 ghost use Rattle.std.specs.Prelude.{◌≡◌, ◌++◌, [], ◌∷◌, OnOk, if◌then◌else◌};
 ghost use Rattle.std.specs.Option.{option_copied};
+ghost use Rattle.gql_resolvers.specs.Meaning.{meaning_by};
 ghost use Rattle.gql_resolvers.specs.Resolved.{gives_object};
 ghost use Rattle.gql_introspection.specs.Items.{answers_in};
 ghost use Rattle.gql_introspection.specs.Meta as meta;
-ghost use Rattle.gql_introspection.specs.Seen.{Gives, GivesField};
+ghost use Rattle.gql_introspection.specs.Seen.{Gives, GivesField, stands_for};
 ghost use Rattle.gql_introspection.specs.TypeDef as spec;
 
 use crate::asked::Asked;
 use crate::deprecation::specified_by;
 use crate::items::Items;
-use crate::leaves::{description_or_null, name_leaf, null_leaf, text_leaf, text_or_null};
+use crate::leaves::{
+    description_or_null, name_leaf, null_leaf, text_leaf, text_or_null, truth_leaf,
+};
 use crate::meta_object::MetaObject;
 use crate::named_types::named_types;
 use crate::shown::kept;
@@ -20,7 +23,7 @@ use gql_schema_types::{ExtendedType, Named, Schema, Valid, is_among};
 use jb_text::{Memory, Text};
 use std::alloc::Global;
 
-/// A field of a type with a name (GraphQL October 2021, section 4.2.2).
+/// A field of a type with a name (GraphQL October 2021, section 4.2.2; `isOneOf`: September 2025).
 pub(crate) fn type_def_field<'a>(
     asked: &Asked<'_>,
     schema: &'a Valid<Schema>,
@@ -40,6 +43,7 @@ pub(crate) fn type_def_field<'a>(
         "inputFields" => input_fields(asked, schema, ty).map(Some),
         "ofType" => Ok(Some(null_leaf())),
         "specifiedByURL" => text_or_null(alloc, url(ty)).map(Some),
+        "isOneOf" => Ok(Some(is_one_of(ty))),
         _ => Ok(None),
     }
 }
@@ -198,5 +202,15 @@ fn url(ty: &ExtendedType) -> Option<&str>
     match ty {
         ExtendedType::Scalar(it) => specified_by(it.directives.as_slice()),
         _ => None,
+    }
+}
+
+/// Whether an input object is one-of, or null for another kind.
+fn is_one_of<'a>(ty: &ExtendedType) -> ResolvedValue<MetaObject<'a>>
+    ensures { meaning_by stands_for result ≡ spec.one_of ty.now }
+{
+    match ty {
+        ExtendedType::InputObject(it) => truth_leaf(it.is_one_of()),
+        _ => null_leaf(),
     }
 }

@@ -78,5 +78,6 @@ fn is_null_field(name: &str) -> bool
             | "enumValues"
             | "inputFields"
             | "specifiedByURL"
+            | "isOneOf"
     )
 }
