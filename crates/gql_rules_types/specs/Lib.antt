@@ -7,6 +7,7 @@ pub mod Fields
 pub mod InputType
 pub mod InputValues
 pub mod ObjectTypes
+pub mod OneOfField
 pub mod OutputType
 pub mod QueryRootOperationType
 pub mod ReservedName

@@ -15,6 +15,7 @@ use Rattle.gql_rules_types.specs.EmptyMemberSet.{empty_member_set}
 use Rattle.gql_rules_types.specs.EmptyValueSet.{empty_value_set}
 use Rattle.gql_rules_types.specs.Fields.{fields_faults, values_faults}
 use Rattle.gql_rules_types.specs.InputValues.{input_fields_faults}
+use Rattle.gql_rules_types.specs.OneOfField.{one_of_fields}
 use Rattle.gql_rules_types.specs.ReservedName.{reserved_name}
 use Rattle.gql_rules_types.specs.UndefinedDefinition.{undefined_definition}
 use Rattle.gql_rules_types.specs.UnionMemberObjectType.{union_member_object_type}
@@ -83,7 +84,8 @@ module _ (schema : Schema) where
   input_object_faults it =
       name_faults it.location it.name
       ++ (if_written it.location (empty_input_value_set it.name it.fields)
-      ++ (directive_faults TypesAndScalars schema.types at.InputObject schema.directive_definitions it.directives ++ input_fields_faults schema it.fields))
+      ++ (directive_faults TypesAndScalars schema.types at.InputObject schema.directive_definitions it.directives
+      ++ (input_fields_faults schema it.fields ++ one_of_fields it)))
 
   abbrev pub type_faults : ExtendedType → List DiagnosticData
   type_faults (type.Scalar it) = scalar_faults it

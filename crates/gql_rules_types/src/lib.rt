@@ -22,6 +22,7 @@ mod invalid_implementation_field_type;
 mod missing_interface_field;
 mod missing_interface_field_argument;
 mod object_types;
+mod one_of_field;
 mod output_type;
 mod query_root_operation_type;
 mod reserved_name;

@@ -14,6 +14,7 @@ use crate::empty_member_set::list_empty_member_set;
 use crate::empty_value_set::list_empty_value_set;
 use crate::fields::{list_fields, list_values};
 use crate::input_values::list_input_fields;
+use crate::one_of_field::list_one_of_fields;
 use crate::reserved_name::list_reserved_name;
 use crate::undefined_definition::list_undefined_definition;
 use crate::union_member_object_type::list_union_member_object_type;
@@ -187,7 +188,8 @@ fn list_input_object(
         it.directives.as_slice(),
         faults,
     )?;
-    list_input_fields(alloc, schema, it.fields.as_slice(), faults)
+    list_input_fields(alloc, schema, it.fields.as_slice(), faults)?;
+    list_one_of_fields(alloc, it, faults)
 }
 
 /// Lists that an object type or an interface has no fields, if it is not built in.
