@@ -8,6 +8,7 @@ pub mod Arguments
 pub mod Directives
 pub mod IntCoercionError
 pub mod Literals
+pub mod OneOfValue
 pub mod RequiredArgument
 pub mod RequiredField
 pub mod Typed

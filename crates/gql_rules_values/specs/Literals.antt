@@ -11,6 +11,7 @@ use Rattle.gql_rules_values.specs.Known.{is_defined}
 use Rattle.gql_ast_base.specs.TypeParts.{named_type}
 use Rattle.gql_rules_values.specs.declared.known.Defined.{Defined}
 use Rattle.gql_rules_values.specs.IntCoercionError.{int_coercion_error}
+use Rattle.gql_rules_values.specs.OneOfValue.{one_of_value}
 use Rattle.gql_rules_values.specs.RequiredField.{required_fields}
 use Rattle.gql_rules_values.specs.Typed.{Typed, typed}
 use Rattle.gql_rules_values.specs.UndefinedEnumValue.{undefined_enum_value}
@@ -24,7 +25,8 @@ use Rattle.gql_schema_types.specs.declared.types.ExtendedType.TheVariants as typ
 
 -- the rules on the keys of a literal at an input object
 abbrev pub keys_at : Value → List (Named × Value) → ExtendedType → List DiagnosticData
-keys_at literal members (type.InputObject it) = undefined_input_values it literal members ++ required_fields literal members it.fields
+keys_at literal members (type.InputObject it) =
+    undefined_input_values it literal members ++ (required_fields literal members it.fields ++ one_of_value it literal members)
 keys_at literal members _ = []
 
 module _ (types : List ExtendedType) where

@@ -8,6 +8,7 @@ ghost use Rattle.gql_rules_values.specs.Typed as nodes;
 
 use crate::int_coercion_error::list_int_coercion_error;
 use crate::known::{Defined, is_defined};
+use crate::one_of_value::list_one_of_value;
 use crate::required_field::list_required_fields;
 use crate::undefined_enum_value::list_undefined_enum_value;
 use crate::undefined_input_value::list_undefined_input_values;
@@ -254,7 +255,8 @@ fn list_keys_at(
                 members.as_slice(),
                 it.fields.as_slice(),
                 faults,
-            )
+            )?;
+            list_one_of_value(alloc, it, literal, members.as_slice(), faults)
         }
         ExtendedType::Scalar(_) => Ok(()),
         ExtendedType::Object(_) => Ok(()),
