@@ -27,6 +27,10 @@ or_first_assoc : {T : Type 0} (a b c : Option T) → or_first (or_first a b) c �
 or_first_assoc None b c = refl
 or_first_assoc (Some x) b c = refl
 
+if-same : {T : Type 0} (x : T) (b : Bool) → (if b then x else x) ≡ x
+if-same x true = refl
+if-same x false = refl
+
 module _ {X : Type 0} where
   pub any-one_more : (p : X → Bool) (xs : List X) (x : X) → list_any p (xs ++ x ∷ []) ≡ (list_any p xs || p x)
   any-one_more p xs x = list_any-append p xs (x ∷ []) ∙ ap (λ b. list_any p xs || b) (or-false (p x))
@@ -63,6 +67,19 @@ module _ {X : Type 0} where
   pub none-told : {D : Type 0} (f : X → List D) → ((x : X) → f x ≡ []) → (xs : List X) → first_told f xs ≡ []
   none-told f none [] = refl
   none-told f none (x ∷ xs) = ap (λ l. or_else l (first_told f xs)) (none x) ∙ none-told f none xs
+
+  -- all that is told, where anything is
+  pub any-all_told : {D : Type 0} (p : X → Bool) (told : List D) (xs : List X) → (if list_any p xs then told else []) ≡ first_told (λ x. if p x then told else []) xs
+  any-all_told {D = D} p [] xs =
+      let none : List D = [] in
+      if-same none (list_any p xs) ∙ sym (none-told (λ x. if p x then none else none) (λ x. if-same none (p x)) xs)
+  any-all_told p (one ∷ more) [] = refl
+  any-all_told p (one ∷ more) (x ∷ xs) = by_test (p x) (any-all_told p (one ∷ more) xs)
+    where
+      by_test : (b : Bool) → (if list_any p xs then one ∷ more else []) ≡ first_told (λ x. if p x then one ∷ more else []) xs
+          → (if b || list_any p xs then one ∷ more else []) ≡ or_else (if b then one ∷ more else []) (first_told (λ x. if p x then one ∷ more else []) xs)
+      by_test true later = refl
+      by_test false later = later
 
   pub flat-same : {Y : Type 0} (f g : X → List Y) → ((x : X) → f x ≡ g x) → (xs : List X) → flat_map f xs ≡ flat_map g xs
   flat-same f g same [] = refl

@@ -1,6 +1,7 @@
 mod Entries
 mod Firsts
 mod Known
+mod Members
 mod Noted
 mod Reaches
 mod Steps

@@ -14,10 +14,11 @@ use Rattle.gql_document_types.specs.declared.fragment.Fragment.{Fragment}
 use Rattle.gql_document_types.specs.declared.operation.Operation.{Operation}
 use Rattle.gql_rules_values.specs.Faults.{fault}
 use Rattle.gql_rules_nodes.specs.Reached.{is_reached}
-use Rattle.gql_rules.proofs.Firsts.{or-false, any-one_more, first_of, first-one_more, any-told, first-told, none-first, none-told, flat-same}
+use Rattle.gql_rules.proofs.Firsts.{or-false, any-one_more, first_of, first-one_more, any-told, any-all_told, first-told, none-first, none-told, flat-same}
 use Rattle.gql_rules.proofs.Noted.{is_some-position, noted}
 use Rattle.gql_rules.specs.DisallowedVariableUsage.{breaks, misfit, disallowed_type, types_fault}
 use Rattle.gql_rules.specs.Judged.{Judged, fresh, fresh_row, judged_in, row_judged, rows_judged, told, row_told}
+use Rattle.gql_rules.specs.OneOfVariable.{may_be_null, literal_told}
 use Rattle.gql_rules.specs.Operations.{with_use, rows_noted, fresh_rows, rows_told, own_row, names_after, operation_told}
 use Rattle.gql_rules.specs.UndefinedVariable.{is_undefined, undefined_fault, variable_called}
 use Rattle.gql_rules.specs.UnusedVariable.{is_used, unless_used}
@@ -38,8 +39,11 @@ module _ (schema : Schema) where
   abbrev type_in : Use → Operation → Option TypeRef
   type_in used operation = disallowed_type schema.types operation.variables used
 
+  abbrev null_in : Use → Operation → Bool
+  null_in used operation = may_be_null operation.variables used
+
   abbrev pub judged_by : List Operation → Use → Judged
-  judged_by operations used = record { used = used; undefined = list_any (lacks used) operations; variable = first_of (type_in used) operations }
+  judged_by operations used = record { used = used; undefined = list_any (lacks used) operations; variable = first_of (type_in used) operations; nullable = list_any (null_in used) operations }
 
   one_more : (operations : List Operation) (operation : Operation) (used : Use)
       → judged_in schema.types operation.variables (judged_by operations used) ≡ judged_by (operations ++ operation ∷ []) used
@@ -47,6 +51,7 @@ module _ (schema : Schema) where
     used = used;
     undefined = sym (any-one_more (lacks used) operations operation) i;
     variable = sym (first-one_more (type_in used) operations operation) i;
+    nullable = sym (any-one_more (null_in used) operations operation) i;
   }
 
   row-one_more : (operations : List Operation) (operation : Operation) (uses : List Use)
@@ -72,7 +77,9 @@ module _ (schema : Schema) where
   type-told used (Some place) is operations = first-told (type_in used) (λ ty. fault DisallowedVariableUsage (used.name.text ∷ type_text ty ∷ type_text place ∷ []) used.location None) operations
 
   use-told : (operations : List Operation) (used : Use) → told (judged_by operations used) ≡ use_faults schema operations used
-  use-told operations used = λ i. any-told (lacks used) (undefined_fault used) operations i ++ type-told used used.place.ty refl operations i
+  use-told operations used = λ i.
+      any-told (lacks used) (undefined_fault used) operations i
+      ++ (type-told used used.place.ty refl operations i ++ any-all_told (null_in used) (literal_told used) operations i)
 
   row-told : (operations : List Operation) (uses : List Use) → row_told (map (judged_by operations) uses) ≡ flat_map (use_faults schema operations) uses
   row-told operations [] = refl

@@ -1,5 +1,6 @@
 pub mod DisallowedVariableUsage
 pub mod Judged
+pub mod OneOfVariable
 pub mod Operations
 pub mod TypesInto
 pub mod UndefinedVariable

@@ -8,6 +8,7 @@ use Rattle.gql_document_types.specs.declared.fragment.Fragment.{Fragment}
 use Rattle.gql_document_types.specs.declared.operation.Operation.{Operation}
 use Rattle.gql_rules_nodes.specs.Reached.{AreReached, is_reached}
 use Rattle.gql_rules.specs.DisallowedVariableUsage.{disallowed_usage}
+use Rattle.gql_rules.specs.OneOfVariable.{one_of_variable}
 use Rattle.gql_rules.specs.UndefinedVariable.{undefined_variable}
 use Rattle.gql_rules.specs.UnusedVariable.{unused_variables}
 use Rattle.gql_rules.specs.Uses.{Use, operation_uses, fragment_uses}
@@ -39,7 +40,8 @@ module _ (schema : Schema) where
   abbrev pub use_faults : List Operation → Use → List DiagnosticData
   use_faults operations used =
       first_told (λ (operation : Operation). undefined_variable operation.variables used) operations
-      ++ first_told (λ (operation : Operation). disallowed_usage schema.types operation.variables used) operations
+      ++ (first_told (λ (operation : Operation). disallowed_usage schema.types operation.variables used) operations
+      ++ first_told (λ (operation : Operation). one_of_variable operation.variables used) operations)
 
   -- with the uses in these fragments, numbered from v on
   abbrev pub fragments_faults : List Reach → ℕ → List Fragment → List DiagnosticData

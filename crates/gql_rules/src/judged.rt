@@ -6,6 +6,7 @@ ghost use Rattle.gql_rules.specs.Operations.{with_use};
 ghost use Rattle.gql_rules.specs.Views as seen;
 
 use crate::disallowed_variable_usage::{list_disallowed_usage, misfit};
+use crate::one_of_variable::{is_nullable, list_one_of_variable};
 use crate::undefined_variable::list_undefined_variable;
 use crate::uses::Use;
 use crate::variables::Variables;
@@ -17,12 +18,14 @@ use jb_map::KeyTable;
 use jb_text::{Listed, Memory};
 use std::alloc::Global;
 
-/// A use; whether some operation lacks its variable; and the variable's type in the first operation in which it is not allowed.
+/// A use; whether some operation lacks its variable; the variable's type in the first operation in which it is not allowed; and
+/// whether the variable may be null in some operation.
 #[derive(Drop)]
 pub(crate) struct JudgedUse<'d> {
     used: Use<'d>,
     undefined: bool,
     variable: Option<&'d TypeRef>,
+    nullable: bool,
 }
 
 /// These uses, judged for no operation.
@@ -38,6 +41,7 @@ pub(crate) fn fresh_row<'d>(
             used,
             undefined: false,
             variable: None,
+            nullable: false,
         })?;
     }
     Ok(row)
@@ -90,6 +94,18 @@ fn judge_defined<'d>(
 )
     ensures { seen.judged_of it.new ≡ spec.judged_with types.now variable.now (seen.judged_of it.old) }
 {
+    it.nullable = it.nullable || is_nullable(variable);
+    note_misfit(types, variable, it);
+}
+
+/// Notes the type of a variable that is defined so, if it may not stand there, and none was noted before.
+fn note_misfit<'d>(
+    types: &Table<ExtendedType>,
+    variable: &'d VariableDefinition,
+    it: &mut JudgedUse<'d>,
+)
+    ensures { seen.judged_of it.new ≡ spec.with_misfit types.now variable.now (seen.judged_of it.old) }
+{
     if it.variable.is_none() {
         it.variable = misfit(types, &it.used.place, variable);
     }
@@ -118,5 +134,6 @@ fn list_use(
     ensures { OnOk result (faults.new ≡ faults.old ++ spec.told (seen.judged_of it.now)) }
 {
     list_undefined_variable(alloc, it.undefined, &it.used, faults)?;
-    list_disallowed_usage(alloc, it.variable, &it.used, faults)
+    list_disallowed_usage(alloc, it.variable, &it.used, faults)?;
+    list_one_of_variable(alloc, it.nullable, &it.used, faults)
 }

@@ -5,7 +5,8 @@
 //! rule has a file of its own here and in the crates below, and in `specs/`, named after it.
 //!
 //! The rules on the uses of variables (sections 5.8.3 to 5.8.5) are those of this crate: uses of variables that are not defined,
-//! variables that are not used, and uses where values of the variable's type may not stand. A use in a fragment is judged for each
+//! variables that are not used, and uses where values of the variable's type may not stand, or null may not, as in a literal of a
+//! one-of input object (GraphQL September 2025). A use in a fragment is judged for each
 //! operation that reaches it. Uses are gathered once; then each operation takes time that is linear in the number of fragments
 //! and in the uses in it and in the fragments that it reaches.
 //!
@@ -20,6 +21,7 @@ mod document_faults;
 mod document_uses;
 mod judged;
 mod no_schema;
+mod one_of_variable;
 mod operations;
 mod rows;
 mod standalone;

@@ -1,20 +1,30 @@
 //! Uses of variables, and what is wanted where they stand (GraphQL October 2021, section 5.8).
 
-ghost use Rattle.std.specs.Prelude.{◌≡◌};
-ghost use Rattle.std.specs.Option.{option_copied};
+ghost use Rattle.std.specs.Prelude.{◌≡◌, map};
+ghost use Rattle.std.specs.Option.{option_copied, option_map};
 ghost use Rattle.gql_rules.specs.Uses as spec;
 ghost use Rattle.gql_rules.specs.Views as seen;
 
-use gql_ast_base::{Name, TypeRef};
+use gql_ast_base::{Name, TypeRef, Value};
 use gql_ast_definitions::InputValueDefinition;
+use gql_rules_values::has_one_key;
 use gql_schema_types::{ExtendedType, Table};
 use gql_source::SourceSpan;
 
-/// What is wanted where a value stands: its type, if one is known, and whether the argument or input field there has a default.
+/// A literal of one key at a one-of input object: the name of that type, and the place of the literal.
+#[derive(Clone, Copy)]
+pub(crate) struct OneOf<'d> {
+    pub(crate) name: &'d Name,
+    pub(crate) location: Option<SourceSpan>,
+}
+
+/// What is wanted where a value stands: its type, if one is known, and whether the argument or input field there has a default;
+/// and the literal at a one-of input object whose one member the value is, if it is one.
 #[derive(Drop)]
 pub(crate) struct Place<'d> {
     pub(crate) ty: Option<&'d TypeRef>,
     pub(crate) has_default: bool,
+    pub(crate) one_of: Option<OneOf<'d>>,
 }
 
 /// A use of a variable.
@@ -27,17 +37,22 @@ pub(crate) struct Use<'d> {
 
 impl<'d> Place<'d> {
     /// The place of an argument or of an input field, if it is defined.
-    pub(crate) fn of_input(definition: Option<&'d InputValueDefinition>) -> Place<'d>
-        ensures { seen.place_of result ≡ spec.input_place (option_copied definition.entry) }
+    pub(crate) fn of_input(
+        definition: Option<&'d InputValueDefinition>,
+        one_of: Option<OneOf<'d>>,
+    ) -> Place<'d>
+        ensures { seen.place_of result ≡ spec.input_place (option_copied definition.entry) (option_map seen.literal_of one_of.entry) }
     {
         match definition {
             Some(definition) => Place {
                 ty: Some(&definition.ty),
                 has_default: definition.default_value.is_some(),
+                one_of,
             },
             None => Place {
                 ty: None,
                 has_default: false,
+                one_of,
             },
         }
     }
@@ -49,6 +64,7 @@ impl<'d> Place<'d> {
         Place {
             ty: self.item_type(),
             has_default: false,
+            one_of: None,
         }
     }
 
@@ -62,15 +78,86 @@ impl<'d> Place<'d> {
         }
     }
 
-    /// The place of a key's value in an object that stands here.
-    pub(crate) fn member(&self, types: &'d Table<ExtendedType>, key: &Name) -> Place<'d>
-        ensures { seen.place_of result ≡ spec.member_place types.now (seen.place_of self.now) key.now }
+    /// The place of a key's value in an object that stands here, with the literal whose one member the value is, if it is one.
+    pub(crate) fn member(
+        &self,
+        types: &'d Table<ExtendedType>,
+        key: &Name,
+        one_of: Option<OneOf<'d>>,
+    ) -> Place<'d>
+        ensures { seen.place_of result ≡ spec.member_place types.now (seen.place_of self.now) key.now (option_map seen.literal_of one_of.entry) }
     {
         match self.ty {
-            Some(ty) => Place::of_input(member_definition(types, key.as_str(), ty)),
-            None => Place::of_input(None),
+            Some(ty) => Place::of_input(member_definition(types, key.as_str(), ty), one_of),
+            None => Place::of_input(None, one_of),
         }
     }
+
+    /// An object literal that stands here, of this place in the text and with these members, if it has one key and a one-of input
+    /// object is wanted.
+    pub(crate) fn one_of_literal(
+        &self,
+        types: &'d Table<ExtendedType>,
+        location: Option<SourceSpan>,
+        members: &[(Name, Value)],
+    ) -> Option<OneOf<'d>>
+        ensures { option_map seen.literal_of result ≡ spec.one_of_literal types.now location (seen.place_of self.now)
+            (map (λ member. (member.0, spec.value_uses types.now member.1)) members.now) }
+    {
+        if has_one_key(members) {
+            self.one_of_wanted(types, location)
+        } else {
+            None
+        }
+    }
+
+    /// The object literal that stands here, of this place in the text, if a one-of input object is wanted.
+    fn one_of_wanted(
+        &self,
+        types: &'d Table<ExtendedType>,
+        location: Option<SourceSpan>,
+    ) -> Option<OneOf<'d>>
+        ensures { option_map seen.literal_of result ≡ spec.one_of_wanted types.now location (seen.place_of self.now) }
+    {
+        match self.ty {
+            Some(ty) => {
+                let name = wanted_one_of(types, ty)?;
+                Some(OneOf { name, location })
+            }
+            None => None,
+        }
+    }
+}
+
+/// The name of the one-of input object that is wanted, if it is one.
+fn wanted_one_of<'d>(types: &'d Table<ExtendedType>, ty: &TypeRef) -> Option<&'d Name>
+    ensures { option_copied result ≡ spec.wanted_one_of types.now ty.now }
+{
+    match types.get(ty.inner_named_type().as_str()) {
+        Some(found) => one_of_name(found),
+        None => None,
+    }
+}
+
+/// The name of the type, if it is a one-of input object.
+fn one_of_name(ty: &ExtendedType) -> Option<&Name>
+    ensures { option_copied result ≡ spec.one_of_name ty.now }
+{
+    match ty {
+        ExtendedType::InputObject(it) => { if it.is_one_of() { Some(&it.name) } else { None } }
+        ExtendedType::Scalar(_) => None,
+        ExtendedType::Object(_) => None,
+        ExtendedType::Interface(_) => None,
+        ExtendedType::Union(_) => None,
+        ExtendedType::Enum(_) => None,
+    }
+}
+
+/// The literal, where no member is left behind this one.
+pub(crate) fn of_last(left: usize, one_of: Option<OneOf<'_>>) -> Option<OneOf<'_>>
+    ensures { option_map seen.literal_of result ≡ spec.of_last left (option_map seen.literal_of one_of.entry) }
+{
+    if left == 0 { one_of } else { None }
 }
 
 /// The field of the name, where the type is an input object's.
