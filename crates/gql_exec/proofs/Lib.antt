@@ -10,3 +10,4 @@ pub mod Introspecting
 pub mod Looking
 pub mod Responses
 pub mod PartialAnswers
+pub mod ThingSkips

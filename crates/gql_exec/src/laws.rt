@@ -6,8 +6,9 @@ ghost use Rattle.gql_document_types.specs.declared.selection.Selection.{Selectio
 ghost use Rattle.gql_exec.specs.Request.{introspected_request, partial_request};
 ghost use Rattle.gql_exec.specs.Restricted.{HasNoOwn, OthersCoerce, restricted};
 ghost use Rattle.gql_exec.specs.Thing.{of_user};
-ghost use Rattle.gql_exec.specs.ThingMeaning.{Resolving};
+ghost use Rattle.gql_exec.specs.ThingMeaning.{Resolving, thing_meaning};
 ghost use Rattle.gql_resolvers.specs.Execute.{Member};
+ghost use Rattle.gql_exec_fields.specs.NeverSkips.{NeverSkips};
 ghost use Rattle.gql_exec_fields.specs.Request.{Members};
 ghost use Rattle.gql_exec_fields.specs.RequestWorld.{plain};
 ghost use Rattle.gql_exec_fields.specs.Response.{IsExecuted};
@@ -26,4 +27,9 @@ pub fn partial_data_is_of_the_whole<X>()
         → IsExecuted (introspected_request schema sources fragments variables types resolves) U (of_user schema x) selections whole
         → IsExecuted (partial_request schema sources fragments variables) U (of_user schema tt) selections part → whole.root ≡ Some members
         → part.root ≡ Some (restricted (plain (introspected_request schema sources fragments variables types resolves) U (selections ∷ [])) members) }
+{}
+
+/// An execution with introspection on leaves nothing out, where the resolver of the user's objects leaves nothing out (section 4).
+pub fn introspected_things_never_skip<X>()
+    ensures { (resolves : Resolving X) → NeverSkips resolves → NeverSkips (thing_meaning resolves) }
 {}
