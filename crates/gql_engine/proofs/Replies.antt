@@ -14,6 +14,7 @@ use Rattle.gql_engine.specs.declared.wanted.Wanted.{Wanted as WantedHere}
 use Rattle.gql_engine.proofs.Responses.{unanswered_by}
 use Rattle.gql_diag.specs.List.{Diagnostics}
 use Rattle.gql_document_types.specs.ChosenOperation.{text_of}
+use Rattle.gql_resolvers.proofs.DataSkips.{data-whole}
 use Rattle.gql_resolvers.specs.Data.{Data}
 use Rattle.gql_resolvers.specs.DataMeaning.{data_meaning}
 use Rattle.gql_diag.specs.Refusal.{message_error, refusal_value}
@@ -105,8 +106,16 @@ module _ (request : Request) (none nothing variables members : Bor Members) (no_
       → IsReplyToAsked Answer before after (asked_in request) (Response written)
   answered_by written h = λ bytes asks.
       let made = subst (λ (w : Wanted). Responds (λ (object : Data). object.type_name) data_meaning (root_of (asked_in request)) w before after written) wanted_is
-      (subst (λ (x : Data). Responds (λ (object : Data). object.type_name) data_meaning x (wanted_by given) before after written) begins_at h) in
-      (record { request = asked_in request; asks = asks; answered = made.answered; looks = made.looks }, made.errors)
+      (subst (λ (x : Data). Responds (λ (object : Data). object.type_name) data_meaning x (wanted_by given) before after written) begins_at h) in (
+        record {
+          request = asked_in request;
+          asks = asks;
+          answered = made.answered;
+          explained = made.answered.executed.in_full data-whole;
+          looks = made.looks;
+        },
+        made.errors,
+      )
 
   pub refused_by : (why : Why) (text : List ℕ) → IsCause (wanted_by given) why → text ≡ compact (refusal_value (told why))
       → IsReplyToAsked Answer before after (asked_in request) (Refusal text)

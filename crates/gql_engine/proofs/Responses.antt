@@ -15,7 +15,11 @@ use Rattle.gql_collect.specs.Refusal.{IsTooDeep as IsDepthRefused}
 use Rattle.gql_exec.specs.Thing.{of_user, type_of_thing}
 use Rattle.gql_exec.specs.ThingMeaning.{Resolving, thing_meaning}
 use Rattle.gql_exec.specs.Execution.{Answers as ExecutionAnswers, Counts as ExecutionCounts, IsAnswer as IsExecutionAnswer, Looks as ExecutionLooksOf, Prepared, on_root, request_in, started, undefined_root, with_introspection, with_operation, with_values}
+use Rattle.gql_exec.proofs.ThingSkips.{things-never-skip}
+use Rattle.gql_exec_fields.proofs.Skipless.{fully-explained, request-never}
+use Rattle.gql_exec_fields.specs.Executing.{request_by}
 use Rattle.gql_exec_fields.specs.Looks.{AreLooks}
+use Rattle.gql_exec_fields.specs.NeverSkips.{NeverSkips}
 use Rattle.gql_exec.specs.declared.execution.Execution.{Execution}
 use Rattle.gql_exec.specs.declared.execution.Given.TheVariants.{Coerced}
 use Rattle.gql_collect.specs.RequestErrors.{request_error as fault_told}
@@ -35,7 +39,7 @@ use Rattle.gql_engine.specs.declared.refusal.Refusal.TheVariants as refused
 use Rattle.gql_engine.specs.declared.response_bytes.Written.{Written}
 use Rattle.gql_engine.specs.AnswerError.{Asks, Call, HasCause, IsObjectText, wanted_with}
 use Rattle.gql_parser.specs.Selecting.{SelectsSomething}
-use Rattle.gql_engine.specs.Answered.{ExecutionLooks, IsPrint, IsResponseBy, IsResponseOver, IsResultOf, IsRoot}
+use Rattle.gql_engine.specs.Answered.{ExecutionLooks, IsFullyExplainedBy, IsPrint, IsResponseBy, IsResponseOver, IsResultOf, IsRoot}
 use Rattle.gql_engine.specs.Answering.{Answers, AnswersWithin}
 use Rattle.gql_engine.specs.Depths.{IsShallow, all_selections, depth_looks}
 use Rattle.gql_engine.specs.Ready.{IsChosen, MeantBy, Ready}
@@ -94,6 +98,18 @@ module _ {X : Type 0} (types : X → List ℕ) (resolves : Resolving X) (root : 
   executed_by false response h =
       executed_over schema document operation values false types resolves root (object_of schema.now operation.now.selection_set.ty.text) response h
 
+  -- and it is explained with no premise where the user's resolver leaves nothing out
+  fully_by : (introspection : Bool) (T : ObjectType) (response : ExecutionResponse)
+      → IsResponseBy introspection types resolves root schema.now document.now operation.now values.now T response → NeverSkips resolves
+      → IsFullyExplainedBy introspection types resolves root schema.now document.now operation.now values.now T response
+  fully_by true T response is never =
+      let r = request_by true schema.now document.now values.now (type_of_thing types) (thing_meaning resolves) in
+      fully-explained r (request-never true schema.now document.now values.now (type_of_thing types) (thing_meaning resolves) (things-never-skip resolves never))
+      T (of_user schema.now root) operation.now.selection_set.selections response is.explained
+  fully_by false T response is never =
+      let r = request_by false schema.now document.now values.now types resolves in
+      fully-explained r (request-never false schema.now document.now values.now types resolves never) T root operation.now.selection_set.selections response is.explained
+
   refused_by_none : (found : Option ObjectType) → is_some found ≡ true → (e : RequestError) → on_root schema.now (Coerced values) operation.now found ≡ Err e → ⊥
   refused_by_none None some e h = true_or_false (is_some {T = ObjectType} None) some refl
   refused_by_none (Some T) some e h =
@@ -120,7 +136,14 @@ module _ {X : Type 0} (types : X → List ℕ) (resolves : Resolving X) (root : 
   executed_bytes introspection execution is before after response (Ok written) h counts print =
       let made = executed_by introspection response (subst (λ (e : Execution). ExecutionAnswers e types resolves root (Ok response)) is h) in
       record {
-        is = record { root_type = made.0; is_root = made.1; response = response; is_response = made.2; written = print.bytes };
+        is = record {
+          root_type = made.0;
+          is_root = made.1;
+          response = response;
+          is_response = made.2;
+          in_full = fully_by introspection made.0 response made.2;
+          written = print.bytes;
+        };
         errors = print.errors;
         looks = looked_by introspection before after made.0 made.1 response
             (subst (λ (e : Execution). ExecutionCounts e types resolves root before after (Ok response)) is counts);

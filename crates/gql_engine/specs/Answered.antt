@@ -6,6 +6,7 @@ use Rattle.gql_document_types.specs.declared.operation.Operation.{Operation}
 use Rattle.gql_exec.specs.Thing.{of_user, type_of_thing}
 use Rattle.gql_exec.specs.ThingMeaning.{Resolving, thing_meaning}
 use Rattle.gql_exec_fields.specs.Executing.{request_by}
+use Rattle.gql_exec_fields.specs.NeverSkips.{NeverSkips, IsFullyExplained}
 use Rattle.gql_exec_fields.specs.Looks.{AreLooks}
 use Rattle.gql_exec.specs.Response.{IsExecuted, IsExplained}
 use Rattle.gql_response.specs.Response.{response_value}
@@ -42,6 +43,15 @@ IsResponseBy true type_of resolves root schema document operation variables root
 IsResponseBy false type_of resolves root schema document operation variables root_type response =
     IsResponseOver false type_of resolves root schema document operation variables root_type response
 
+-- and its errors and its data explain each other, with no premise (section 6.4.4)
+abbrev pub IsFullyExplainedBy : {X : Type 0} → Bool → (X → List ℕ) → Resolving X → X → Schema → ExecutableDocument → Operation → Members
+    → ObjectType → ExecutionResponse → Type 0
+IsFullyExplainedBy true type_of resolves root schema document operation variables root_type response =
+    IsFullyExplained (request_by true schema document variables (type_of_thing type_of) (thing_meaning resolves)) root_type (of_user schema root)
+    operation.selection_set.selections response
+IsFullyExplainedBy false type_of resolves root schema document operation variables root_type response =
+    IsFullyExplained (request_by false schema document variables type_of resolves) root_type root operation.selection_set.selections response
+
 -- the looks at selections of that execution
 abbrev pub ExecutionLooks : {X : Type 0} → Bool → (X → List ℕ) → Resolving X → X → Schema → ExecutableDocument → Operation → Members
     → ObjectType → (before after : ℕ) → Type 0
@@ -51,13 +61,16 @@ ExecutionLooks true type_of resolves root schema document operation variables ro
 ExecutionLooks false type_of resolves root schema document operation variables root_type before after =
     AreLooks (request_by false schema document variables type_of resolves) root_type root operation.selection_set.selections before after
 
--- The bytes are exactly the response of the operation with these variables, and with this object as the root.
+-- The bytes are exactly the response of the operation with these variables, and with this object as the root. It is explained without
+-- a premise where the user's resolver leaves nothing out.
 pub record IsExecutionOf {X : Type 0} (introspection : Bool) (type_of : X → List ℕ) (resolves : Resolving X) (root : X)
     (schema : Schema) (document : ExecutableDocument) (operation : Operation) (variables : Members) (bytes : List ℕ) : Type 0 where
   pub root_type : ObjectType
   pub is_root : IsRoot schema operation root_type
   pub response : ExecutionResponse
   pub is_response : IsResponseBy introspection type_of resolves root schema document operation variables root_type response
+  pub in_full : NeverSkips resolves
+      → IsFullyExplainedBy introspection type_of resolves root schema document operation variables root_type response
   pub written : bytes ≡ compact (response_value response)
 
 -- nothing is in the way of a response, and the bytes are that of the chosen operation with its coerced variables
@@ -76,6 +89,13 @@ pub record AnswerLooks {X : Type 0} {type_of : X → List ℕ} {resolves : Resol
   pub execution :
       ExecutionLooks wanted.introspection type_of resolves root answered.ready.meant.schema answered.ready.meant.document answered.ready.operation
       answered.ready.variables answered.executed.root_type between after
+
+-- the response is explained, with no premise
+abbrev pub IsAnsweredInFull : {X : Type 0} {type_of : X → List ℕ} {resolves : Resolving X} {root : X} {wanted : Wanted} {bytes : List ℕ}
+    → Answered type_of resolves root wanted bytes → Type 0
+IsAnsweredInFull {type_of = type_of} {resolves = resolves} {root = root} {wanted = wanted} answered =
+    IsFullyExplainedBy wanted.introspection type_of resolves root answered.ready.meant.schema answered.ready.meant.document
+    answered.ready.operation answered.ready.variables answered.executed.root_type answered.executed.response
 
 -- how many errors the response has
 abbrev pub errors_in : {X : Type 0} {type_of : X → List ℕ} {resolves : Resolving X} {root : X} {wanted : Wanted} {bytes : List ℕ}

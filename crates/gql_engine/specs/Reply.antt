@@ -4,7 +4,7 @@ use Rattle.std.specs.Prelude.{◌≡◌, ℕ, List, [], ◌∷◌, unwrap_or}
 use Rattle.jb_tree.specs.declared.value.Value.{Value}
 use Rattle.jb_print.specs.Compact.{compact}
 use Rattle.jb_read.specs.Spelling.{JsonText}
-use Rattle.gql_engine.specs.Answered.{Answered, AnswerLooks, errors_in}
+use Rattle.gql_engine.specs.Answered.{Answered, AnswerLooks, IsAnsweredInFull, errors_in}
 use Rattle.gql_engine.specs.Ready.{Ready}
 use Rattle.gql_engine.specs.Unanswered.{Unanswered}
 use Rattle.gql_engine.specs.Wanted.{Wanted}
@@ -42,11 +42,13 @@ root_of request = record { type_name = []; members = unwrap_or request.root [] }
 abbrev pub AnswersAsked : Asked → List ℕ → Type 0
 AnswersAsked request text = Answered (λ object. object.type_name) data_meaning (root_of request) (wanted_of request) text
 
--- the bytes are those of a request, and the text is a response to it; and these looks were counted for it
+-- the bytes are those of a request, and the text is a response to it, whose data and errors explain each other; and these looks were
+-- counted for it
 pub record Answers (before after : ℕ) (bytes text : List ℕ) : Type 0 where
   pub request : Asked
   pub asks : IsAsked bytes request
   pub answered : AnswersAsked request text
+  pub explained : IsAnsweredInFull answered
   pub looks : AnswerLooks answered before after
 
 -- why the bytes are refused, with the errors of each cause

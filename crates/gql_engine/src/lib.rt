@@ -2,8 +2,9 @@
 //!
 //! [`answer`] takes the texts of a schema and a query and a resolver, and gives the bytes of the response; [`run`] is
 //! the whole program, over any source and sink. The contract of each says that what it gives or writes is a response
-//! to what the two texts mean, whose data and errors are explained, that each refusal has its cause, and that a valid
-//! request is answered, unless memory or a stream fails. The program also checks the texts of a request, and tries itself.
+//! to what the two texts mean, whose data and errors are explained where the resolver leaves nothing out, as the program's
+//! does, that each refusal has its cause, and that a valid request is answered, unless memory or a stream fails. The program
+//! also checks the texts of a request, and tries itself.
 #![tactic(auto)]
 
 mod answer_error;
