@@ -109,25 +109,43 @@ pub fn run_in_memory<L: Ledger>(
     sink: &mut SureSink,
     steps: &mut Steps<L>,
 ) -> u8
-    ensures misused { result ≡ MISUSED → IsNoCommand (map string_bytes words.now) }
-    ensures unasked { IsNoCommand (map string_bytes words.now) → result ≡ MISUSED }
+    ensures statuses { result ≤ TOO_LONG }
     ensures read { result ≢ SOURCE_FAILED }
     ensures written { result ≢ SINK_FAILED }
+
+    // The words.
+    ensures misused { result ≡ MISUSED → IsNoCommand (map string_bytes words.now)
+        × Takes (⟦<SureSink as Sink>⟧.taken sink.old) (⟦<SureSink as Sink>⟧.taken sink.new) usage }
+    ensures unasked { IsNoCommand (map string_bytes words.now) → result ≡ MISUSED }
+    ensures unread { ¬ ReadsInput (map string_bytes words.now) → source.new ≡ source.old }
+
+    // The output.
     ensures answered { result ≡ ANSWERED → Writes (λ task. IsDone task steps.old steps.new) (map string_bytes words.now)
         (⟦<SureSource as Source>⟧.left source.old) (⟦<SureSource as Source>⟧.left source.new)
         (⟦<SureSink as Sink>⟧.taken sink.old) (⟦<SureSink as Sink>⟧.taken sink.new) }
     ensures refused { result ≡ REFUSED → Writes IsRefused (map string_bytes words.now)
         (⟦<SureSource as Source>⟧.left source.old) (⟦<SureSource as Source>⟧.left source.new)
         (⟦<SureSink as Sink>⟧.taken sink.old) (⟦<SureSink as Sink>⟧.taken sink.new) }
+    ensures nothing_written { (result ≡ NO_MEMORY) ⊎ (result ≡ TOO_LONG) → sink.new ≡ sink.old }
 
     // A long input is refused, and no other.
     ensures long { result ≡ TOO_LONG → IsLong (⟦<SureSource as Source>⟧.left source.old) }
     ensures too_long { ReadsInput (map string_bytes words.now) → IsLong (⟦<SureSource as Source>⟧.left source.old)
         → (result ≡ TOO_LONG) ⊎ (result ≡ NO_MEMORY) }
+    ensures long_read { result ≡ TOO_LONG → ReadsInput (map string_bytes words.now)
+        × GivesMore (⟦<SureSource as Source>⟧.left source.old) (⟦<SureSource as Source>⟧.left source.new) }
+    ensures within { result ≢ TOO_LONG → ReadsInput (map string_bytes words.now)
+        → GivesAtMost (⟦<SureSource as Source>⟧.left source.old) (⟦<SureSource as Source>⟧.left source.new) }
 
-    // What is wished of a request is done where nothing is in its way, unless memory fails.
+    // What is wished of a request is done where nothing is in its way, and it is refused where there is a cause, unless memory
+    // fails. A self-test is done unless memory fails.
     ensures done { (wish : WishAsked) → Asks (map string_bytes words.now) (tasks.Request wish)
         → IsInput (MustDo wish) (⟦<SureSource as Source>⟧.left source.old)
+        → (result ≡ ANSWERED) ⊎ (result ≡ NO_MEMORY) }
+    ensures caused { (wish : WishAsked) → Asks (map string_bytes words.now) (tasks.Request wish)
+        → IsInput (MustRefuse wish) (⟦<SureSource as Source>⟧.left source.old)
+        → (result ≡ REFUSED) ⊎ (result ≡ NO_MEMORY) }
+    ensures self_tested { (items : ℕ) → Asks (map string_bytes words.now) (tasks.SelfTest items)
         → (result ≡ ANSWERED) ⊎ (result ≡ NO_MEMORY) }
 {
     run(alloc, words, source, sink, steps)

@@ -1,4 +1,4 @@
-//! Tests of the engine as its users have it: of the program on devices that fail at one call each and on requests that are cut, of
+//! Tests of the engine as its users have it: of the program in memory, on devices that fail at one call each and on requests that are cut, of
 //! what clients are told, and of the validation of texts by themselves, of documents without a schema, and of texts that are a
 //! schema and a document in one (GraphQL October 2021, section 5).
 //!
@@ -11,6 +11,8 @@
 mod cuts;
 #[cfg(test)]
 mod devices;
+#[cfg(test)]
+mod in_memory;
 #[cfg(test)]
 mod mixed;
 #[cfg(test)]

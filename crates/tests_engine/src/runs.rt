@@ -66,7 +66,7 @@ fn counted<L: Ledger>(
     run(alloc, words, source, sink, &mut steps)
 }
 
-fn words_of(alloc: Global, words: &[&str]) -> Result<Vec<String>, Memory> {
+pub(crate) fn words_of(alloc: Global, words: &[&str]) -> Result<Vec<String>, Memory> {
     let mut all = Vec::new(alloc);
     for word in words {
         all.push(String::from_str(alloc, word)?)?;
