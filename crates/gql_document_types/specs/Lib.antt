@@ -9,4 +9,5 @@ pub mod ChosenOperation
 pub mod RootFields
 pub mod RootWalk
 pub mod Spreads
+pub mod Typed
 pub mod Ranks

@@ -27,3 +27,8 @@ mod Documents
 mod Mixed
 mod Sorts
 mod Steps
+pub mod Typed
+mod SourcedFields
+mod BuiltInFields
+mod Settling
+mod OutputFields

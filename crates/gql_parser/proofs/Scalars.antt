@@ -50,7 +50,7 @@ module _ (es : List TypeExtension) (name : List ℕ) where
   whole_name : (d : TypeDefinition) → type_name (built (all_extended es d)) ≡ definition_name d
   whole_name d = built_name (all_extended es d) ∙ extended_name (filter (is_called extension_name (definition_name d).text) es) d
 
-  built-entry : (d : TypeDefinition) (fs : List TypeDefinition) → entry definition_name name fs ≡ Some d
+  pub built-entry : (d : TypeDefinition) (fs : List TypeDefinition) → entry definition_name name fs ≡ Some d
       → type_called name (map (λ f. built (all_extended es f)) fs) ≡ Some (built (all_extended es d))
   built-entry d [] found = absurd cc
   built-entry d (f ∷ fs) found =

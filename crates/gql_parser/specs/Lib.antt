@@ -18,6 +18,7 @@ pub mod DocumentFaults
 pub mod SameFaults
 pub mod Running
 pub mod Selecting
+pub mod OutputFields
 pub mod DocumentAnswers
 pub mod MixedRead
 pub mod MixedBuilt

@@ -8,6 +8,7 @@ ghost use Rattle.gql_diag.specs.List.{Diagnostics};
 ghost use Rattle.gql_parser.specs.BuiltInText.{built_in_text, is_scalar_of};
 ghost use Rattle.gql_parser.specs.DocumentFaults.{DocumentFaults};
 ghost use Rattle.gql_parser.specs.DocumentText.{DocumentText};
+ghost use Rattle.gql_parser.specs.OutputFields.{HaveNoReservedFields, HaveOutputTypes};
 ghost use Rattle.gql_parser.specs.Roots.{AreRootsObjects};
 ghost use Rattle.gql_parser.specs.Running.{AreOnRoots, AreSpreadsDefined};
 ghost use Rattle.gql_parser.specs.SameFaults.{TellTheSame};
@@ -15,6 +16,7 @@ ghost use Rattle.gql_parser.specs.SchemaFaults.{SchemaFaults};
 ghost use Rattle.gql_parser.specs.SchemaText.{SchemaText};
 ghost use Rattle.gql_parser.specs.Selecting.{SelectSomething};
 ghost use Rattle.gql_document_types.specs.Spreads.{AreAcyclic};
+ghost use Rattle.gql_document_types.specs.Typed.{IsDocumentTyped};
 ghost use Rattle.gql_document_types.specs.declared.document.ExecutableDocument.{ExecutableDocument as DocumentOf};
 ghost use Rattle.gql_document_types.specs.Ranks.{AreRanked};
 ghost use Rattle.gql_schema.specs.BuiltInSchema.{IsBuiltIn, built_in_file};
@@ -92,4 +94,23 @@ pub fn operations_select_something()
     ensures { (schema : SchemaOf) (text : List ℕ) (document : DocumentOf) → DocumentText schema text document → SelectSomething document }
 {
     grammar_laws::sentences_have_one_tree();
+}
+
+/// Each field of a document that a text means has the definition that the type of its set gives it, at every depth (GraphQL October
+/// 2021, section 5.3.1).
+pub fn documents_are_typed()
+    ensures { (schema : SchemaOf) (text : List ℕ) (document : DocumentOf) → DocumentText schema text document → IsDocumentTyped schema document }
+{}
+
+/// In a schema that a text means no type has a field of its own whose name begins with two underscores, so `__schema`, `__type` and
+/// `__typename` are introspection's alone (GraphQL October 2021, sections 2.1.9 and 4.1). And each field of an object type or an
+/// interface type names a type that is defined and is no input object type (sections 3.3, 3.6 and 3.7).
+pub fn fields_have_output_types()
+    ensures unreserved { (text : List ℕ) (schema : SchemaOf) → SchemaText text schema → HaveNoReservedFields schema }
+    ensures outputs { (text : List ℕ) (schema : SchemaOf) → SchemaText text schema → HaveOutputTypes schema }
+{
+    grammar_laws::factored_is_declared();
+    tree_laws::texts_have_one_document();
+    built_in_text_is_a_document();
+    tree_laws::fields_stand_in_their_file();
 }
