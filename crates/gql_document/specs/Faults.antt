@@ -5,12 +5,8 @@ use Rattle.gql_source.specs.Span.{Span}
 use Rattle.gql_ast_base.specs.Names.{Named}
 use Rattle.gql_ast_definitions.specs.declared.operation.OperationDefinition.{OperationDefinition}
 use Rattle.gql_diag_messages.specs.declared.rule.Rule.{Rule}
-use Rattle.gql_diag_messages.specs.declared.details.Details.TheVariants.{ExecutableBuildError}
 use Rattle.gql_diag_messages.specs.declared.diagnostic_data.DiagnosticData.{DiagnosticData}
-
--- a broken rule, its names, its place and the other place
-abbrev pub fault : Rule → List (List ℕ) → Option Span → Option Span → DiagnosticData
-fault rule names location other = record { location = location; details = ExecutableBuildError (record { rule = rule; names = names; other = other }) }
+pub use Rattle.gql_diag_messages.specs.Family.{fault}
 
 -- what has this name breaks a rule
 abbrev pub name_fault : Rule → Named → Option Span → DiagnosticData

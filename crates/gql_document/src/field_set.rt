@@ -1,6 +1,5 @@
 //! Sets of fields.
 
-ghost use Rattle.std.specs.Prelude.{◌≡◌, ◌++◌, OnOk};
 ghost use Rattle.gql_diag.specs.Judged.{IsJudged};
 ghost use Rattle.gql_document.specs.FieldSets as spec;
 
@@ -9,7 +8,7 @@ use crate::judged::judged;
 use crate::selection_faults::list_selection_faults;
 use gql_ast_base::{Copying, Name};
 use gql_ast_definitions::Selection;
-use gql_diag::{DiagnosticData, DiagnosticList, WithErrors};
+use gql_diag::{DiagnosticList, WithErrors, add_items};
 use gql_document_types::FieldSet;
 use gql_schema_types::Schema;
 use jb_text::{Listed, Memory, Refused};
@@ -33,7 +32,7 @@ pub fn build_field_set(
 {
     let (sources, items) = errors.into_parts();
     let mut faults = Listed::new(alloc);
-    take_items(items, &mut faults)?;
+    add_items(items, &mut faults)?;
     list_selection_faults(alloc, schema, type_name, selections, &mut faults)?;
     let selection_set = built_set(
         alloc,
@@ -46,14 +45,4 @@ pub fn build_field_set(
         selection_set,
     };
     judged(alloc, set, faults)
-}
-
-/// Takes faults.
-fn take_items(items: Vec<DiagnosticData>, faults: &mut Listed<DiagnosticData>) -> Result<(), Memory>
-    ensures { OnOk result (faults.new ≡ faults.old ++ items.items) }
-{
-    for item in items {
-        faults.push(item)?;
-    }
-    Ok(())
 }

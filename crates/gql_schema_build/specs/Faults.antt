@@ -3,13 +3,9 @@ use Rattle.std.specs.Prelude.{ℕ, List, [], ◌∷◌, map, Option}
 use Rattle.gql_source.specs.Span.{Span}
 use Rattle.gql_ast_base.specs.Names.{Named}
 use Rattle.gql_diag_messages.specs.declared.rule.Rule.{Rule}
-use Rattle.gql_diag_messages.specs.declared.details.Details.TheVariants.{SchemaBuildError}
 use Rattle.gql_diag_messages.specs.declared.diagnostic_data.DiagnosticData.{DiagnosticData}
+pub use Rattle.gql_diag_messages.specs.Family.{fault}
 use Rattle.gql_schema_types.specs.Entries.{joined, repeats}
-
--- a broken rule, its names, its place and the other place
-abbrev pub fault : Rule → List (List ℕ) → Option Span → Option Span → DiagnosticData
-fault rule names location other = record { location = location; details = SchemaBuildError (record { rule = rule; names = names; other = other }) }
 
 -- what has this name breaks a rule
 abbrev pub name_fault : Rule → Named → Option Span → DiagnosticData

@@ -1,10 +1,10 @@
 //! Faults of building a schema, as diagnostics.
 
-ghost use Rattle.std.specs.Prelude.{◌≡◌, ◌++◌, [], ◌∷◌, map, OnOk};
+ghost use Rattle.std.specs.Prelude.{◌≡◌, ◌++◌, [], ◌∷◌, OnOk};
 ghost use Rattle.gql_schema_build.specs.Faults as spec;
 
 use gql_ast_base::Name;
-use gql_diag_messages::{Details, DiagnosticData, Rule, RuleFault};
+use gql_diag_messages::{DiagnosticData, Rule, list_fault};
 use gql_source::SourceSpan;
 use jb_text::{Listed, Memory};
 use std::alloc::Global;
@@ -69,22 +69,4 @@ pub(crate) fn list_collision(
         first.location(),
         faults,
     )
-}
-
-/// Lists a broken rule with the names that its messages tell, its place and the other place. `Err` only when out of memory.
-fn list_fault(
-    alloc: Global,
-    rule: Rule,
-    names: &[&str],
-    location: Option<SourceSpan>,
-    other: Option<SourceSpan>,
-    faults: &mut Listed<DiagnosticData>,
-) -> Result<(), Memory>
-    ensures { OnOk result (faults.new ≡ faults.old ++ spec.fault rule (map (λ name. name.now) names.now) location other ∷ []) }
-{
-    let fault = RuleFault::new(alloc, rule, names, other)?;
-    faults.push(DiagnosticData {
-        location,
-        details: Details::SchemaBuildError(fault),
-    })
 }
