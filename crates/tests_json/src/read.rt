@@ -1,8 +1,9 @@
 //! Texts that are read, and the kind and place of the first fault of others.
 use bytes::Bytes;
+use jb_io::holds_proper;
 use jb_print::to_text as shown;
 use jb_read::{FaultKind, ReadFault, from_bytes, from_bytes_whole, from_str};
-use jb_tree::{Memory, Refused, Text, Value};
+use jb_tree::{Listed, Memory, Refused, Text, Value};
 use std::alloc::Global;
 
 /// Where each text breaks first.
@@ -129,6 +130,23 @@ fn nesting_ends_at_level_127(rt: HostRuntime) -> Result<(), Memory> {
         fault(alloc, deep.as_slice()),
         Some((FaultKind::Depth, 127))
     );
+    Ok(())
+}
+
+/// The list of this value alone.
+fn in_list(alloc: Global, value: Value) -> Result<Value, Memory> {
+    let mut items = Listed::new(alloc);
+    items.push(value)?;
+    Ok(Value::from_list(items))
+}
+
+#[test]
+fn a_value_nests_as_deep_as_a_text(rt: HostRuntime) -> Result<(), Refused<ReadFault>> {
+    let alloc = rt.alloc();
+    let deepest = read(alloc, nested(alloc, 127)?.as_slice())?;
+    assert!(rt; holds_proper(&deepest));
+    let too_deep = in_list(alloc, deepest)?;
+    assert!(rt; !holds_proper(&too_deep));
     Ok(())
 }
 
