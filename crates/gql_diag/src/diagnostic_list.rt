@@ -3,6 +3,7 @@
 ghost use Rattle.std.specs.Prelude.{◌≡◌, ◌↔◌, [], ◌∷◌, ◌++◌, length, map, IsTrue, IfOk, OnOk, OnErr};
 ghost use Rattle.gql_source.specs.File.{joined};
 ghost use Rattle.gql_diag.specs.Order.{by_place, list_order};
+ghost use Rattle.gql_diag.specs.Taken.{HasTakenSome};
 ghost use Rattle.gql_diag.specs.List.{IsStableSort};
 ghost use Rattle.gql_diag.specs.Walk.{left_of};
 
@@ -77,7 +78,7 @@ impl DiagnosticList {
     }
 
     /// Adds the files to these files, and the diagnostics at the end of these. A file whose number is taken is left out. `Err` only
-    /// when out of memory: then some of them are added.
+    /// when out of memory: then the files are as they were, and of the diagnostics the first are added, or all.
     pub fn move_into(
         self,
         sources: &mut SourceMap,
@@ -85,6 +86,8 @@ impl DiagnosticList {
     ) -> Result<(), Memory>
         ensures sources { OnOk result (sources.new ≡ joined sources.old self.sources) }
         ensures items { OnOk result (items.new ≡ items.old ++ self.items) }
+        ensures same_sources { OnErr result (sources.new ≡ sources.old) }
+        ensures some_items { OnErr result (HasTakenSome items.old self.items items.new) }
     {
         let (files, faults) = self.into_parts();
         add_items(faults, items)?;

@@ -42,6 +42,7 @@ pub use gql_response::{
     ResponseFault,
 };
 pub use gql_schema_types::Valid;
+pub use jb_text::Memory;
 pub use recursion::{RecursionGuard, RecursionStack};
 pub use refusal_text::{refusal_of_diagnostics, refusal_of_message, refusal_of_request};
 pub use report::CliReport;

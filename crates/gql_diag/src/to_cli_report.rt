@@ -1,6 +1,6 @@
 //! What can be reported on the command line.
 
-ghost use Rattle.std.specs.Prelude.{◌≡◌, ℕ, List, Option, true, IfOk, OnOk, OnErr};
+ghost use Rattle.std.specs.Prelude.{◌≡◌, ℕ, List, Option, true, IfOk, OnOk, OnErr, IsErr};
 ghost use Rattle.gql_source.specs.Span.{Span};
 ghost use Rattle.gql_diag.specs.Report.{Report};
 ghost use Rattle.gql_diag_messages.specs.Details.{message_of};
@@ -33,7 +33,8 @@ pub trait ToCliReport {
     /// Adds its labels, its help and its note to a report. `Err` only when out of memory, now or in an earlier call.
     fn report(&self, report: &mut CliReport<'_>) -> Result<(), Memory>
         ensures added { OnOk result (report.new ≡ reported self.now report.old) }
-        ensures refused { OnErr result (report.new.refused ≡ true) };
+        ensures refused { OnErr result (report.new.refused ≡ true) }
+        ensures stays { report.old.refused ≡ true → IsErr result };
 
     /// A report of it: its message, and what it adds. `Err` only when out of memory.
     final fn to_report<'s>(
