@@ -5,6 +5,9 @@
 //! to what the two texts mean, whose data and errors are explained where the resolver leaves nothing out, as the program's
 //! does, that each refusal has its cause, and that a valid request is answered, unless memory or a stream fails. The program
 //! also checks the texts of a request, and tries itself.
+//!
+//! The modules have what stands below, one for each part of the work, under the names that users of GraphQL in Rust know. The names
+//! that most users need are here too.
 #![tactic(auto)]
 
 mod answer_error;
@@ -22,6 +25,101 @@ mod steps_before;
 mod task;
 mod uncounted;
 mod wanted;
+
+/// Documents as syntax trees, which know of no schema (GraphQL October 2021, section 2).
+pub mod ast {
+    pub use gql_ast::{
+        Argument, Boxed, Convert, Copying, Definition, Directive, DirectiveDefinition,
+        DirectiveLocation, Document, EnumTypeDefinition, EnumTypeExtension, EnumValueDefinition,
+        Field, FieldDefinition, FragmentDefinition, FragmentSpread, InlineFragment,
+        InputObjectTypeDefinition, InputObjectTypeExtension, InputValueDefinition,
+        InterfaceTypeDefinition, InterfaceTypeExtension, Name, NameFault, ObjectTypeDefinition,
+        ObjectTypeExtension, OperationDefinition, OperationType, ScalarTypeDefinition,
+        ScalarTypeExtension, SchemaDefinition, SchemaExtension, Selection, TypeRef,
+        UnionTypeDefinition, UnionTypeExtension, Value, ValueKind, VariableDefinition, print_type,
+        print_value,
+    };
+}
+
+/// Schemas: their types by name, and how they are built (section 3).
+pub mod schema {
+    pub use gql_schema::{
+        EnumType, ExtendedType, Implementers, ImplementersMap, InputObjectType, InterfaceType,
+        MetaFields, Named, ObjectType, ScalarType, Schema, SchemaBuilder, SchemaDefinition, Table,
+        UnionType,
+    };
+}
+
+/// Operations and fragments with the definitions of their fields, and how they are built.
+pub mod executable {
+    pub use gql_document::{
+        ExecutableDocument, ExecutableDocumentBuilder, ExpandFault, Field, FieldSet, Fragment,
+        FragmentSpread, InlineFragment, Operation, Selection, SelectionSet, build_field_set,
+        expand_fragments,
+    };
+}
+
+/// The rules on schemas and documents, and marks of what passed them (sections 3 and 5).
+pub mod validation {
+    pub use gql_diag::{DiagnosticList, WithErrors};
+    pub use gql_rules::{validate_document, validate_standalone};
+    pub use gql_schema_rules::{check_arguments, check_directives, check_literal, validate_schema};
+    pub use gql_schema_types::Valid;
+}
+
+/// What is wrong with a text, and where, for people and for programs.
+pub mod diagnostic {
+    pub use crate::list_reports::reports;
+    pub use gql_diag::{
+        CliReport, Details, Diagnostic, DiagnosticData, Diagnostics, Rule, RuleFault, ToCliReport,
+        refusal_of_diagnostics,
+    };
+}
+
+/// Texts, with their files and places, and what they stand for.
+pub mod parser {
+    pub use gql_parser::{Parser, document_of_text, schema_of_text};
+    pub use gql_source::{
+        FileId, FileIds, LineColumn, LineCursor, SourceFile, SourceMap, SourceSpan,
+    };
+}
+
+/// Objects that resolve the fields of a response, and executions over them (section 6).
+pub mod resolvers {
+    pub use gql_collect::{Grouped, Pieces, Steps, collect_fields};
+    pub use gql_exec::{Execution, WrittenResponse};
+    pub use gql_resolvers::{
+        DataObject, FieldError, ObjectValue, RequestInfo, ResolveError, ResolveInfo, ResolvedValue,
+    };
+}
+
+/// What a schema tells of itself (section 4).
+pub mod introspection {
+    pub use gql_collect::check_max_depth;
+    pub use gql_exec::partial_execute;
+    pub use gql_introspection::MetaObject;
+}
+
+/// The steps between the texts and the execution of a request (section 6.1).
+pub mod request {
+    pub use gql_collect::coerce_variable_values;
+    pub use gql_diag::{RequestError, refusal_of_request};
+}
+
+/// Responses (section 7).
+pub mod response {
+    pub use gql_diag::{
+        ExecutionResponse, GraphQLError, JsonMap, JsonValue, ResponseDataPathSegment, ResponseFault,
+    };
+}
+
+/// JSON values, and maps and lists in their order.
+pub mod collections {
+    pub use jb_read::from_bytes_whole;
+    pub use jb_tree::{
+        ByteString, Entry, Listed, Map, Memory, Number, Pairs, Refused, Text, Value,
+    };
+}
 
 pub use answer_error::{AnswerError, RequestKind, VariablesFault};
 pub use answering::answer;
