@@ -1,11 +1,8 @@
 //! A mock server without its sockets: its schema is checked once, and each request is answered from plain data, or told why not.
 #![tactic(auto)]
 
-mod mock;
-
 use bytes::Bytes;
-use gql_engine::{Map, Schema, Valid, Value, from_bytes_whole, schema_of_text};
-use mock::{Refusal, respond};
+use gql_engine::{AnswerError, DataObject, Question, Service, Value, from_bytes_whole};
 use std::io::{self, Write};
 
 const SCHEMA: &str =
@@ -31,61 +28,63 @@ const REQUESTS: [(&str, &[u8]); 6] = [
 ];
 
 fn main(rt: HostRuntime) -> io::Result<()> {
-    match schema_of_text(rt.alloc(), SCHEMA) {
-        Ok(schema) => serve(rt, &Valid::assume_valid(schema)),
+    match Service::new(rt.alloc(), SCHEMA) {
+        Ok(service) => serve(rt, &service),
         Err(_) => println!(rt; "the schema is wrong"),
     }
 }
 
-/// Answers requests to a schema from the data.
-fn serve(rt: HostRuntime, schema: &Valid<Schema>) -> io::Result<()> {
+/// Answers requests from the data.
+fn serve(rt: HostRuntime, service: &Service) -> io::Result<()> {
     match from_bytes_whole(rt.alloc(), &Bytes::from_static(DATA)) {
-        Ok(data) => answer_all(rt, schema, &data),
+        Ok(data) => answer_all(rt, service, &data),
         Err(_) => println!(rt; "the data is no JSON text"),
     }
 }
 
 /// Answers each request, if the data is an object.
-fn answer_all(rt: HostRuntime, schema: &Valid<Schema>, data: &Value) -> io::Result<()> {
+fn answer_all(rt: HostRuntime, service: &Service, data: &Value) -> io::Result<()> {
     let Some(data) = data.as_object() else {
         return println!(rt; "the data is no JSON object");
     };
+    let root = DataObject::root(data);
     for (query, variables) in REQUESTS {
-        match from_bytes_whole(rt.alloc(), &Bytes::from_static(variables)) {
-            Ok(variables) => answer(rt, schema, query, &variables, data)?,
-            Err(_) => println!(rt; "the variables are no JSON text")?,
-        }
+        let question = Question {
+            query,
+            operation_name: None,
+            variables: &Bytes::from_static(variables),
+            introspection: false,
+        };
+        print_answer(rt, service.answer_uncounted(rt.alloc(), &question, &root))?;
     }
     Ok(())
 }
 
-/// Answers a request, if its variables are an object.
-fn answer(
-    rt: HostRuntime,
-    schema: &Valid<Schema>,
-    query: &str,
-    variables: &Value,
-    data: &Map,
-) -> io::Result<()> {
-    match variables.as_object() {
-        Some(variables) => print_answer(rt, schema, query, variables, data),
-        None => println!(rt; "the variables are no JSON object"),
+/// Prints the response to a request, or why there is none.
+fn print_answer(rt: HostRuntime, answer: Result<Bytes, AnswerError>) -> io::Result<()> {
+    match answer {
+        Ok(response) => print_line(rt, "response", &response),
+        Err(refusal) => print_refusal(rt, refusal),
     }
 }
 
-/// Prints the response to a request, or why there is none.
-fn print_answer(
-    rt: HostRuntime,
-    schema: &Valid<Schema>,
-    query: &str,
-    variables: &Map,
-    data: &Map,
-) -> io::Result<()> {
-    match respond(rt.alloc(), schema, query, variables, data) {
-        Ok(response) => print_line(rt, "response", &response),
-        Err(Refusal::Document(errors)) => print_line(rt, "no document", &errors),
-        Err(Refusal::Request(errors)) => print_line(rt, "no request", &errors),
-        Err(Refusal::Memory) => println!(rt; "no memory"),
+/// Prints what a client is told of a refusal.
+fn print_refusal(rt: HostRuntime, refusal: AnswerError) -> io::Result<()> {
+    let what = cause(&refusal);
+    match refusal.into_bytes(rt.alloc()) {
+        Ok(errors) => print_line(rt, what, &errors),
+        Err(_) => println!(rt; "no memory"),
+    }
+}
+
+/// What a request lacks.
+fn cause(refusal: &AnswerError) -> &'static str {
+    match refusal {
+        AnswerError::Variables(_) => "no variables",
+        AnswerError::Schema(_) => "no schema",
+        AnswerError::Document(_) => "no document",
+        AnswerError::Request { .. } => "no request",
+        AnswerError::Memory => "no memory",
     }
 }
 

@@ -3,7 +3,6 @@ mod InTurn
 mod Causes
 mod Runs
 mod Responses
-mod Faulty
 mod Replies
 mod SelfTests
 mod Outputs

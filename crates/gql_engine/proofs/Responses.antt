@@ -14,7 +14,7 @@ use Rattle.gql_document_types.specs.declared.operation.Operation.{Operation}
 use Rattle.gql_collect.specs.Refusal.{IsTooDeep as IsDepthRefused}
 use Rattle.gql_exec.specs.Thing.{of_user, type_of_thing}
 use Rattle.gql_exec.specs.ThingMeaning.{Resolving, thing_meaning}
-use Rattle.gql_exec.specs.Execution.{Answers as ExecutionAnswers, Counts as ExecutionCounts, IsAnswer as IsExecutionAnswer, Looks as ExecutionLooksOf, Prepared, on_root, request_in, started, undefined_root, with_introspection, with_operation, with_values}
+use Rattle.gql_exec.specs.Execution.{Answers as ExecutionAnswers, Counts as ExecutionCounts, IsAnswer as IsExecutionAnswer, Looks as ExecutionLooksOf, Prepared, on_root, request_in, started, undefined_root, with_implementers, with_introspection, with_operation, with_values}
 use Rattle.gql_exec.proofs.ThingSkips.{things-never-skip}
 use Rattle.gql_exec_fields.proofs.Skipless.{fully-explained, request-never}
 use Rattle.gql_exec_fields.specs.Executing.{request_by}
@@ -26,11 +26,10 @@ use Rattle.gql_collect.specs.RequestErrors.{request_error as fault_told}
 use Rattle.gql_exec.specs.Response.{IsExecuted, IsExplained}
 use Rattle.gql_response.specs.declared.execution_response.ExecutionResponse.{ExecutionResponse}
 use Rattle.gql_schema_types.specs.Schemas.{object_of}
+use Rattle.gql_schema_types.specs.declared.implementers.Implementers.{Implementers}
 use Rattle.gql_schema_types.specs.declared.schema.Schema.{Schema}
 use Rattle.gql_schema_types.specs.declared.types.ObjectType.{ObjectType}
-use Rattle.gql_engine.specs.Meant.{AreTextsRead, no_schema, no_document}
-use Rattle.gql_engine.specs.declared.meaning.TextFaults.{TextFaults}
-use Rattle.gql_engine.specs.declared.meaning.TextFaults.TheVariants as faults
+use Rattle.gql_engine.specs.Meant.{no_schema, no_document}
 use Rattle.gql_engine.specs.declared.answer_error.AnswerError.{AnswerError}
 use Rattle.gql_engine.specs.declared.answer_error.AnswerError.TheVariants as error
 use Rattle.gql_engine.specs.declared.answer_error.RequestKind.TheVariants as kind
@@ -43,16 +42,16 @@ use Rattle.gql_engine.specs.Answered.{ExecutionLooks, IsFullyExplainedBy, IsPrin
 use Rattle.gql_engine.specs.Answering.{Answers, AnswersWithin}
 use Rattle.gql_engine.specs.Depths.{IsShallow, all_selections, depth_looks}
 use Rattle.gql_engine.specs.Ready.{IsChosen, MeantBy, Ready}
-use Rattle.gql_engine.specs.Responding.{HasCauseOf, IsAnswer, IsCause, IsOfStep, IsResponse, OrCause, Performs, of_texts, told}
+use Rattle.gql_engine.specs.Responding.{HasCauseOf, IsAnswer, IsCause, IsOfStep, IsResponse, OrCause, Performs, told}
 use Rattle.gql_engine.specs.Unanswered.{Unanswered, no_texts, no_operation, no_depth, no_variables}
 use Rattle.gql_engine.specs.Wanted.{Members, Wanted}
 use Rattle.gql_engine.proofs.Results.{same_ok, same_err, ok_or_err, true_or_false}
 
 -- ---- the execution
 
-module _ (schema : Bor Schema) (document : Bor ExecutableDocument) (operation : Bor Operation) (values : Bor Members) (introspection : Bool) where
+module _ (schema : Bor Schema) (document : Bor ExecutableDocument) (implementers : Bor (List (List ℕ × Implementers))) (operation : Bor Operation) (values : Bor Members) (introspection : Bool) where
   abbrev pub asked : Execution
-  asked = with_introspection (with_values (with_operation (started schema document) operation) (Coerced values)) introspection
+  asked = with_introspection (with_values (with_operation (with_implementers (started schema document) implementers) operation) (Coerced values)) introspection
 
   -- the response to what was prepared is that of the operation on its root type
   executed_over : {X : Type 0} (types : X → List ℕ) (resolves : Resolving X) (root : X) (found : Option ObjectType) (response : ExecutionResponse)
@@ -80,23 +79,24 @@ module _ (schema : Bor Schema) (document : Bor ExecutableDocument) (operation : 
       let same : there.0 ≡ made = same_ok (on_root schema.now (Coerced values) operation.now (Some T)) there.0 made there.1 refl in
       subst (λ (p : Prepared). AreLooks (request_in asked p.variables types resolves) p.root root p.operation.selection_set.selections before after) same there.2
 
-module _ {X : Type 0} (types : X → List ℕ) (resolves : Resolving X) (root : X) (schema : Bor Schema) (document : Bor ExecutableDocument) (operation : Bor Operation) (values : Bor Members) where
+module _ {X : Type 0} (types : X → List ℕ) (resolves : Resolving X) (root : X) (schema : Bor Schema) (document : Bor ExecutableDocument) (implementers : Bor (List (List ℕ × Implementers))) (operation : Bor Operation)
+    (values : Bor Members) where
   looked_by : (introspection : Bool) (before after : ℕ) (T : ObjectType) → IsRoot schema.now operation.now T → (response : ExecutionResponse)
-      → ExecutionCounts (asked schema document operation values introspection) types resolves root before after (Ok response)
+      → ExecutionCounts (asked schema document implementers operation values introspection) types resolves root before after (Ok response)
       → ExecutionLooks introspection types resolves root schema.now document.now operation.now values.now T before after
   looked_by true before after T is response h =
-      looked_over schema document operation values true (type_of_thing types) (thing_meaning resolves) (of_user schema.now root) before after
+      looked_over schema document implementers operation values true (type_of_thing types) (thing_meaning resolves) (of_user schema.now root) before after
       (object_of schema.now operation.now.selection_set.ty.text) T is response h
   looked_by false before after T is response h =
-      looked_over schema document operation values false types resolves root before after (object_of schema.now operation.now.selection_set.ty.text) T is response h
+      looked_over schema document implementers operation values false types resolves root before after (object_of schema.now operation.now.selection_set.ty.text) T is response h
 
-  executed_by : (introspection : Bool) (response : ExecutionResponse) → ExecutionAnswers (asked schema document operation values introspection) types resolves root (Ok response)
+  executed_by : (introspection : Bool) (response : ExecutionResponse) → ExecutionAnswers (asked schema document implementers operation values introspection) types resolves root (Ok response)
       → (T : ObjectType) × IsRoot schema.now operation.now T × IsResponseBy introspection types resolves root schema.now document.now operation.now values.now T response
   executed_by true response h =
-      executed_over schema document operation values true (type_of_thing types) (thing_meaning resolves) (of_user schema.now root)
+      executed_over schema document implementers operation values true (type_of_thing types) (thing_meaning resolves) (of_user schema.now root)
       (object_of schema.now operation.now.selection_set.ty.text) response h
   executed_by false response h =
-      executed_over schema document operation values false types resolves root (object_of schema.now operation.now.selection_set.ty.text) response h
+      executed_over schema document implementers operation values false types resolves root (object_of schema.now operation.now.selection_set.ty.text) response h
 
   -- and it is explained with no premise where the user's resolver leaves nothing out
   fully_by : (introspection : Bool) (T : ObjectType) (response : ExecutionResponse)
@@ -116,12 +116,12 @@ module _ {X : Type 0} (types : X → List ℕ) (resolves : Resolving X) (root : 
       let made : Prepared = record { operation = operation.now; root = T; variables = values.now } in ok_or_err (on_root schema.now (Coerced values) operation.now (Some T)) made e refl h
 
   refused_by_asked : (introspection : Bool) → is_some (object_of schema.now operation.now.selection_set.ty.text) ≡ true → (e : RequestError)
-      → ExecutionAnswers (asked schema document operation values introspection) types resolves root (Err (Fault e)) → ⊥
+      → ExecutionAnswers (asked schema document implementers operation values introspection) types resolves root (Err (Fault e)) → ⊥
   refused_by_asked true some e h = refused_by_none (object_of schema.now operation.now.selection_set.ty.text) some e h
   refused_by_asked false some e h = refused_by_none (object_of schema.now operation.now.selection_set.ty.text) some e h
 
   -- an operation that begins at an object type is not refused
-  pub never_refused : (introspection : Bool) (execution : Execution) → execution ≡ asked schema document operation values introspection
+  pub never_refused : (introspection : Bool) (execution : Execution) → execution ≡ asked schema document implementers operation values introspection
       → is_some (object_of schema.now operation.now.selection_set.ty.text) ≡ true → (why : Refused RequestError) (e : RequestError) → why ≡ Fault e
       → ExecutionAnswers execution types resolves root (Err why) → ⊥
   never_refused introspection execution is some why e fault h =
@@ -129,7 +129,7 @@ module _ {X : Type 0} (types : X → List ℕ) (resolves : Resolving X) (root : 
       refused_by_asked introspection some e (subst (λ (x : Execution). ExecutionAnswers x types resolves root (Err (Fault e))) is told)
 
   -- and so are the bytes that print it
-  pub executed_bytes : {E : Type 0} (introspection : Bool) (execution : Execution) → execution ≡ asked schema document operation values introspection
+  pub executed_bytes : {E : Type 0} (introspection : Bool) (execution : Execution) → execution ≡ asked schema document implementers operation values introspection
       → (before after : ℕ) (response : ExecutionResponse) (result : Result Written E) → ExecutionAnswers execution types resolves root (Ok response)
       → ExecutionCounts execution types resolves root before after (Ok response) → IfOk result (IsPrint response)
       → IfOk result (IsResultOf introspection types resolves root schema.now document.now operation.now values.now before after)
@@ -258,11 +258,6 @@ unanswered_by w (refused.Request kind.Depth e sources) h = no_depth (request_err
 unanswered_by w (refused.Request kind.Variable e sources) h = no_variables (request_error e sources) h
 
 -- ---- from what is wanted to the response
-
--- what is wrong with the texts is a cause
-pub wrong_texts : (w : Wanted) (found : TextFaults) → AreTextsRead w.schema w.query (Err (Fault found)) → (r : Refusal) → r ≡ of_texts found → IsCause w r
-wrong_texts w (faults.Schema list) h r is = subst (IsCause w) (sym is) h
-wrong_texts w (faults.Document list) h r is = subst (IsCause w) (sym is) h
 
 -- an execution looks at least at the operation's own selections
 least_looks : {X : Type 0} (types : X → List ℕ) (resolves : Resolving X) (root : X) (schema : Schema) (document : ExecutableDocument) (o : Operation) (values : Members)

@@ -2,12 +2,15 @@ pub mod Wanted
 pub mod Depths
 pub mod Meant
 pub mod Ready
+pub mod AtHand
+pub mod Made
 pub mod Answered
 pub mod Unanswered
 pub mod Responding
 pub mod AnswerError
 pub mod Told
 pub mod Answering
+pub mod Service
 pub mod Task
 pub mod Reply
 pub mod Reports

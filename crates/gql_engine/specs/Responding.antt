@@ -14,8 +14,6 @@ use Rattle.gql_parser.specs.SchemaFaults.{SchemaFaults}
 use Rattle.gql_schema_types.specs.declared.schema.Schema.{Schema}
 use Rattle.gql_source.specs.File.{Files}
 use Rattle.gql_engine.specs.Meant.{IsNoDocument}
-use Rattle.gql_engine.specs.declared.meaning.TextFaults.{TextFaults}
-use Rattle.gql_engine.specs.declared.meaning.TextFaults.TheVariants as faults
 use Rattle.gql_engine.specs.declared.answer_error.AnswerError.{AnswerError}
 use Rattle.gql_engine.specs.declared.answer_error.AnswerError.TheVariants as error
 use Rattle.gql_engine.specs.declared.answer_error.RequestKind.{RequestKind}
@@ -62,11 +60,6 @@ pub record Performs {X : Type 0} (type_of : X → List ℕ) (resolves : Resolvin
 abbrev pub IsResponse : {X : Type 0} → (X → List ℕ) → Resolving X → X → Wanted → (before after : ℕ) → Result Written (Refused Refusal)
     → Type 0
 IsResponse type_of resolves root wanted before after result = OrCause wanted (Responds type_of resolves root wanted before after) result
-
--- what is wrong with the texts, as a refusal
-abbrev pub of_texts : TextFaults → Refusal
-of_texts (faults.Schema list) = refused.Schema list
-of_texts (faults.Document list) = refused.Document list
 
 -- the errors that a refusal is told as
 abbrev pub told : Refusal → List GraphQLError

@@ -6,12 +6,14 @@ ghost use Rattle.gql_engine.specs.declared.answer_error.AnswerError.TheVariants 
 ghost use Rattle.jb_read.specs.Spelling.{JsonText};
 ghost use Rattle.gql_engine.specs.AnswerError.{ComesFor, HasCause, IsUnread, IsValid, call_by, call_of};
 ghost use Rattle.gql_engine.specs.Answering.{Answers, AnswersWithin, GivesAnswer};
+ghost use Rattle.gql_engine.specs.Made.{IsMadeOf};
 ghost use Rattle.gql_engine.specs.Responding.{IsAnswer};
 ghost use Rattle.gql_engine.specs.Wanted.{wanted_by};
 
 use crate::answer_error::{AnswerError, VariablesFault};
 use crate::call::Call;
-use crate::responding::respond;
+use crate::made::Made;
+use crate::responding::respond_with;
 use crate::wanted::Wanted;
 use bytes::Bytes;
 use gql_collect::Steps;
@@ -82,32 +84,37 @@ pub fn answer<O: ObjectValue, L: Ledger>(
         variables,
         introspection,
     };
-    answer_call(alloc, &call, root, steps)
+    answer_call(alloc, &call, Made::Nothing, root, steps)
 }
 
-/// The response, or the first cause of a refusal; where a cause holds its refusal comes, unless memory fails.
+/// The response, or the first cause of a refusal; where a cause holds its refusal comes, unless memory fails. What was made of the
+/// texts before is not made again.
 pub(crate) fn answer_call<O: ObjectValue, L: Ledger>(
     alloc: Global,
     call: &Call<'_>,
+    made: Made<'_>,
     root: &O,
     steps: &mut Steps<L>,
 ) -> Result<Bytes, AnswerError>
+    requires { IsMadeOf call.now.schema.now call.now.query.now made }
     ensures answer { GivesAnswer O.type_of O.resolves (O.seen root.now) (call_by call.now) result }
     ensures answered { IfOk result (AnswersWithin O.type_of O.resolves (O.seen root.now) (call_by call.now) steps.old steps.new) }
 {
     laws::each_text_has_one_answer();
     text_laws::texts_have_one_schema();
     text_laws::texts_have_one_document_each();
-    answer_or_refuse(alloc, call, root, steps)
+    answer_or_refuse(alloc, call, made, root, steps)
 }
 
 /// The response, or the first cause of a refusal.
 fn answer_or_refuse<O: ObjectValue, L: Ledger>(
     alloc: Global,
     call: &Call<'_>,
+    made: Made<'_>,
     root: &O,
     steps: &mut Steps<L>,
 ) -> Result<Bytes, AnswerError>
+    requires { IsMadeOf call.now.schema.now call.now.query.now made }
     ensures answered { IfOk result (AnswersWithin O.type_of O.resolves (O.seen root.now) (call_by call.now) steps.old steps.new) }
     ensures refused { IfErr result (HasCause (call_by call.now)) }
 {
@@ -121,7 +128,7 @@ fn answer_or_refuse<O: ObjectValue, L: Ledger>(
                 variables,
                 introspection: call.introspection,
             };
-            answer_wanted(alloc, &wanted, root, steps)
+            answer_wanted(alloc, &wanted, made, root, steps)
         }
         None => Err(AnswerError::Variables(VariablesFault::NotObject)),
     }
@@ -143,12 +150,14 @@ fn read_variables(alloc: Global, variables: &Bytes) -> Result<Value, AnswerError
 fn answer_wanted<O: ObjectValue, L: Ledger>(
     alloc: Global,
     wanted: &Wanted<'_>,
+    made: Made<'_>,
     root: &O,
     steps: &mut Steps<L>,
 ) -> Result<Bytes, AnswerError>
+    requires { IsMadeOf wanted.now.schema.now wanted.now.query.now made }
     ensures answered { IsAnswer O.type_of O.resolves (O.seen root.now) (wanted_by wanted.now) steps.old steps.new result }
 {
-    match respond(alloc, wanted, root, steps) {
+    match respond_with(alloc, wanted, made, root, steps) {
         Ok(written) => Ok(written.bytes),
         Err(Refused::Fault(refusal)) => Err(refusal.into_error(alloc)?),
         Err(Refused::Memory) => Err(AnswerError::Memory),

@@ -6,6 +6,9 @@
 //! does, that each refusal has its cause, and that a valid request is answered, unless memory or a stream fails. The program
 //! also checks the texts of a request, and tries itself.
 //!
+//! A [`Service`] is a schema that is checked once. Each request that it is asked is answered as [`answer`] answers it with the text
+//! of that schema, and so is a query that was [`Prepared`] once.
+//!
 //! The modules have what stands below, one for each part of the work, under the names that users of GraphQL in Rust know. The names
 //! that most users need are here too.
 #![tactic(auto)]
@@ -14,13 +17,17 @@ mod answer_error;
 mod answering;
 mod call;
 mod list_reports;
+mod made;
 mod meaning;
 mod output;
+mod prepared;
 pub mod program;
+mod question;
 mod refusal;
 mod reply;
 mod responding;
 mod response_bytes;
+mod service;
 mod steps_before;
 mod task;
 mod uncounted;
@@ -143,5 +150,8 @@ pub use jb_io::{ANSWERED, MISUSED, NO_MEMORY, REFUSED, SINK_FAILED, SOURCE_FAILE
 pub use jb_read::from_bytes_whole;
 pub use jb_tree::{ByteString, Listed, Map, Memory, Number, Refused, Text, Value};
 pub use list_reports::reports;
+pub use prepared::Prepared;
 pub use program::{run, run_in_memory};
+pub use question::Question;
+pub use service::Service;
 pub use uncounted::answer_uncounted;

@@ -3,11 +3,10 @@
 ghost use Rattle.std.specs.Prelude.{◌≡◌, Some, IfOk};
 ghost use Rattle.jb_print.specs.Compact.{compact};
 ghost use Rattle.gql_diag.specs.Refusal.{refusal_value};
-ghost use Rattle.gql_engine.specs.Responding.{IsOfStep, of_texts, told, told_as};
+ghost use Rattle.gql_engine.specs.Responding.{IsOfStep, told, told_as};
 ghost use Rattle.gql_engine.specs.Told.{errors_told};
 
 use crate::answer_error::{AnswerError, RequestKind};
-use crate::meaning::TextFaults;
 use bytes::Bytes;
 use gql_diag::{DiagnosticList, RequestError, refusal_of_diagnostics, refusal_of_request};
 use gql_source::SourceMap;
@@ -57,16 +56,6 @@ impl Refusal {
                 Ok(AnswerError::Request { kind, error })
             }
         }
-    }
-}
-
-/// What is wrong with the texts.
-pub(crate) fn of_texts(faults: TextFaults) -> Refusal
-    ensures { result ≡ of_texts faults }
-{
-    match faults {
-        TextFaults::Schema(list) => Refusal::Schema(list),
-        TextFaults::Document(list) => Refusal::Document(list),
     }
 }
 

@@ -25,11 +25,11 @@ use std::sync::ledger::Ledger;
 pub(crate) fn choose<'t>(
     alloc: Global,
     wanted: &Wanted<'_>,
-    texts: &'t Texts,
+    texts: &Texts<'t>,
 ) -> Result<&'t Operation, Refused<Refusal>>
-    requires { AreMeant wanted.now.schema.now wanted.now.query.now texts.now.schema texts.now.document }
+    requires { AreMeant wanted.now.schema.now wanted.now.query.now texts.now.schema.now texts.now.document.now }
     ensures { OrCause (wanted_by wanted.now)
-        (λ operation. chosen (text_of wanted.now.operation_name) texts.now.document.operations ≡ Some operation.now) result }
+        (λ operation. chosen (text_of wanted.now.operation_name) texts.now.document.now.operations ≡ Some operation.now) result }
 {
     let sources = &texts.document.as_ref().sources;
     match texts
@@ -46,14 +46,14 @@ pub(crate) fn choose<'t>(
 pub(crate) fn check_depth<L: Ledger>(
     alloc: Global,
     wanted: &Wanted<'_>,
-    texts: &Texts,
+    texts: &Texts<'_>,
     operation: &Operation,
     steps: &mut Steps<L>,
 ) -> Result<(), Refused<Refusal>>
-    requires meant { AreMeant wanted.now.schema.now wanted.now.query.now texts.now.schema texts.now.document }
-    requires chosen { chosen (text_of wanted.now.operation_name) texts.now.document.operations ≡ Some operation.now }
-    ensures shallow { OrCause (wanted_by wanted.now) (λ _. IsShallow wanted.now.introspection texts.now.document operation.now) result }
-    ensures looks { steps.new ≤ steps.old + depth_looks wanted.now.introspection texts.now.document operation.now }
+    requires meant { AreMeant wanted.now.schema.now wanted.now.query.now texts.now.schema.now texts.now.document.now }
+    requires chosen { chosen (text_of wanted.now.operation_name) texts.now.document.now.operations ≡ Some operation.now }
+    ensures shallow { OrCause (wanted_by wanted.now) (λ _. IsShallow wanted.now.introspection texts.now.document.now operation.now) result }
+    ensures looks { steps.new ≤ steps.old + depth_looks wanted.now.introspection texts.now.document.now operation.now }
     ensures rises { steps.old ≤ steps.new }
 {
     if wanted.introspection {
@@ -67,20 +67,20 @@ pub(crate) fn check_depth<L: Ledger>(
 fn check_depth_on<L: Ledger>(
     alloc: Global,
     wanted: &Wanted<'_>,
-    texts: &Texts,
+    texts: &Texts<'_>,
     operation: &Operation,
     steps: &mut Steps<L>,
 ) -> Result<(), Refused<Refusal>>
-    requires meant { AreMeant wanted.now.schema.now wanted.now.query.now texts.now.schema texts.now.document }
-    requires chosen { chosen (text_of wanted.now.operation_name) texts.now.document.operations ≡ Some operation.now }
+    requires meant { AreMeant wanted.now.schema.now wanted.now.query.now texts.now.schema.now texts.now.document.now }
+    requires chosen { chosen (text_of wanted.now.operation_name) texts.now.document.now.operations ≡ Some operation.now }
     requires on { wanted.now.introspection ≡ true }
-    ensures shallow { OrCause (wanted_by wanted.now) (λ _. IsShallow wanted.now.introspection texts.now.document operation.now) result }
-    ensures looks { steps.new ≤ steps.old + all_selections texts.now.document operation.now }
+    ensures shallow { OrCause (wanted_by wanted.now) (λ _. IsShallow wanted.now.introspection texts.now.document.now operation.now) result }
+    ensures looks { steps.new ≤ steps.old + all_selections texts.now.document.now operation.now }
     ensures rises { steps.old ≤ steps.new }
 {
     text_laws::valid_documents_run();
     let sources = &texts.document.as_ref().sources;
-    match check_max_depth(alloc, &texts.document, operation, steps) {
+    match check_max_depth(alloc, texts.document, operation, steps) {
         Ok(()) => Ok(()),
         Err(refused) => Err(of_step(alloc, RequestKind::Depth, refused, sources)),
     }
@@ -90,17 +90,17 @@ fn check_depth_on<L: Ledger>(
 pub(crate) fn coerce(
     alloc: Global,
     wanted: &Wanted<'_>,
-    texts: &Texts,
+    texts: &Texts<'_>,
     operation: &Operation,
 ) -> Result<Valid<JsonMap>, Refused<Refusal>>
-    requires meant { AreMeant wanted.now.schema.now wanted.now.query.now texts.now.schema texts.now.document }
-    requires chosen { chosen (text_of wanted.now.operation_name) texts.now.document.operations ≡ Some operation.now }
-    requires shallow { IsShallow wanted.now.introspection texts.now.document operation.now }
+    requires meant { AreMeant wanted.now.schema.now wanted.now.query.now texts.now.schema.now texts.now.document.now }
+    requires chosen { chosen (text_of wanted.now.operation_name) texts.now.document.now.operations ≡ Some operation.now }
+    requires shallow { IsShallow wanted.now.introspection texts.now.document.now operation.now }
     ensures { OrCause (wanted_by wanted.now)
-        (λ values. coerced_variables texts.now.schema.types operation.now.variables wanted.now.variables.now ≡ Ok values) result }
+        (λ values. coerced_variables texts.now.schema.now.types operation.now.variables wanted.now.variables.now ≡ Ok values) result }
 {
     let sources = &texts.document.as_ref().sources;
-    match coerce_variable_values(alloc, &texts.schema, operation, wanted.variables) {
+    match coerce_variable_values(alloc, texts.schema, operation, wanted.variables) {
         Ok(values) => Ok(values),
         Err(refused) => Err(of_step(alloc, RequestKind::Variable, refused, sources)),
     }

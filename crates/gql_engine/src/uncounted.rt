@@ -3,10 +3,12 @@
 ghost use Rattle.std.specs.Prelude.{◌≡◌, ◌<◌};
 ghost use Rattle.gql_engine.specs.AnswerError.{call_by, call_of};
 ghost use Rattle.gql_engine.specs.Answering.{GivesAnswer};
+ghost use Rattle.gql_engine.specs.Made.{IsMadeOf};
 
 use crate::answer_error::AnswerError;
 use crate::answering::answer_call;
 use crate::call::Call;
+use crate::made::Made;
 use bytes::Bytes;
 use gql_collect::Steps;
 use gql_resolvers::ObjectValue;
@@ -38,21 +40,23 @@ pub fn answer_uncounted<O: ObjectValue>(
         variables,
         introspection,
     };
-    answer_alone::<O, Brand>(alloc, &call, root, Blank::new(1))
+    answer_alone::<O, Brand>(alloc, &call, Made::Nothing, root, Blank::new(1))
 }
 
 /// The answer, with a counter of its own.
-fn answer_alone<O: ObjectValue, L: Ledger>(
+pub(crate) fn answer_alone<O: ObjectValue, L: Ledger>(
     alloc: Global,
     call: &Call<'_>,
+    made: Made<'_>,
     root: &O,
     blank: Blank,
 ) -> Result<Bytes, AnswerError>
+    requires made { IsMadeOf call.now.schema.now call.now.query.now made }
     requires name { blank.name ≡ L.name }
     requires parts { blank.parts ≡ L.parts }
     requires some { 0 < blank.parts }
     ensures { GivesAnswer O.type_of O.resolves (O.seen root.now) (call_by call.now) result }
 {
     let mut steps = Steps::<L>::open(blank);
-    answer_call(alloc, call, root, &mut steps)
+    answer_call(alloc, call, made, root, &mut steps)
 }

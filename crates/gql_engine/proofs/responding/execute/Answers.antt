@@ -1,7 +1,7 @@
 use Rattle.std.proofs.Common.{◌∙◌, ap}
 use Rattle.std.proofs.lemmas.Result.{IfOk-weaker}
 use Rattle.gql_document_types.specs.ChosenOperation.{text_of}
-use Rattle.gql_exec.specs.Execution.{with_introspection, with_operation, with_values}
+use Rattle.gql_exec.specs.Execution.{with_implementers, with_introspection, with_operation, with_values}
 use Rattle.gql_exec.specs.Running.{IsPrintedIn}
 use Rattle.gql_exec.specs.declared.execution.Execution.{Execution}
 use Rattle.gql_exec.specs.declared.execution.Given.TheVariants.{Coerced}
@@ -13,20 +13,22 @@ use Rattle.gql_engine.proofs.responding.execute.Goals as goal
 
 pub execute_written-requires : goal.execute_written-requires
 execute_written-requires g c = record {
-  acyclic = rw (c.enable_schema_introspection-execution.ensures, c.coerced_variable_values.ensures, c.operation.ensures, c.new.ensures)
-      (c.valid_documents_run.ensures.acyclic c.args.texts.now.schema c.args.wanted.now.query.now c.args.texts.now.document c.requires.meant.is_document);
+  acyclic = rw (c.enable_schema_introspection-execution.ensures, c.coerced_variable_values.ensures, c.operation.ensures, c.implementers_map.ensures, c.new.ensures)
+      (c.valid_documents_run.ensures.acyclic c.args.texts.now.schema.now c.args.wanted.now.query.now c.args.texts.now.document.now c.requires.meant.is_document);
 }
 
 pub returns-in-Ok : goal.returns-in-Ok
 returns-in-Ok g c =
     let values = c.args.values in
     let operation = c.args.operation in
+    let implementers = c.args.texts.now.implementers in
     let is =
     c.enable_schema_introspection-execution.ensures
     ∙ ap (λ (e : Execution). with_introspection e c.args.wanted.now.introspection) (c.coerced_variable_values.ensures
-    ∙ ap (λ (e : Execution). with_values e (Coerced values)) (c.operation.ensures ∙ ap (λ (e : Execution). with_operation e operation) c.new.ensures)) in
+    ∙ ap (λ (e : Execution). with_values e (Coerced values)) (c.operation.ensures
+    ∙ ap (λ (e : Execution). with_operation e operation) (c.implementers_map.ensures ∙ ap (λ (e : Execution). with_implementers e implementers) c.new.ensures))) in
     let given = c.in-Ok.ensures in
-    executed_bytes g.O.ObjectValue.type_of g.O.ObjectValue.resolves (g.O.ObjectValue.seen c.args.root.now) _ _ operation values
+    executed_bytes g.O.ObjectValue.type_of g.O.ObjectValue.resolves (g.O.ObjectValue.seen c.args.root.now) _ _ implementers operation values
     c.args.wanted.now.introspection c.enable_schema_introspection-execution.result is c.args.steps.now c.execute_written.new.steps given.response c.write_response.result
     given.answer given.looks
     (IfOk-weaker c.write_response.result (λ made. (response : ExecutionResponse) → IsPrintedIn response c.in-Ok.response → IsPrint response made) (IsPrint given.response)
@@ -36,14 +38,16 @@ pub unreachable-requires : goal.unreachable-requires
 unreachable-requires g c =
     let values = c.args.values in
     let operation = c.args.operation in
+    let implementers = c.args.texts.now.implementers in
     let is =
     c.enable_schema_introspection-execution.ensures
     ∙ ap (λ (e : Execution). with_introspection e c.args.wanted.now.introspection) (c.coerced_variable_values.ensures
-    ∙ ap (λ (e : Execution). with_values e (Coerced values)) (c.operation.ensures ∙ ap (λ (e : Execution). with_operation e operation) c.new.ensures)) in
+    ∙ ap (λ (e : Execution). with_values e (Coerced values)) (c.operation.ensures
+    ∙ ap (λ (e : Execution). with_operation e operation) (c.implementers_map.ensures ∙ ap (λ (e : Execution). with_implementers e implementers) c.new.ensures))) in
     let meant = c.requires.meant in
     let begins =
-    rooted c.args.texts.now.schema c.args.texts.now.document (text_of c.args.wanted.now.operation_name) operation.now
-    (c.roots_are_object_types.ensures.text c.args.wanted.now.schema.now c.args.texts.now.schema meant.is_schema)
-    (c.valid_documents_run.ensures.roots c.args.texts.now.schema c.args.wanted.now.query.now c.args.texts.now.document meant.is_document) c.requires.chosen in
-    never_refused g.O.ObjectValue.type_of g.O.ObjectValue.resolves (g.O.ObjectValue.seen c.args.root.now) _ _ operation values
+    rooted c.args.texts.now.schema.now c.args.texts.now.document.now (text_of c.args.wanted.now.operation_name) operation.now
+    (c.roots_are_object_types.ensures.text c.args.wanted.now.schema.now c.args.texts.now.schema.now meant.is_schema)
+    (c.valid_documents_run.ensures.roots c.args.texts.now.schema.now c.args.wanted.now.query.now c.args.texts.now.document.now meant.is_document) c.requires.chosen in
+    never_refused g.O.ObjectValue.type_of g.O.ObjectValue.resolves (g.O.ObjectValue.seen c.args.root.now) _ _ implementers operation values
     c.args.wanted.now.introspection c.enable_schema_introspection-execution.result is begins _ _ c.in-Err-Fault.field-0-is c.in-Err-Fault.ensures

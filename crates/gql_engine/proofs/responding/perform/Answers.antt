@@ -10,7 +10,7 @@ returns-in_ok-execute-in-Ok g c = record { variables = c.in-Ok.values; are_coerc
 
 pub returns-in-Err : goal.returns-in-Err
 returns-in-Err g c =
-    same_refusal (λ (values : Members). coerced_variables c.args.texts.now.schema.types c.args.operation.now.variables c.args.wanted.now.variables.now ≡ Ok values)
-    (Performs g.O.ObjectValue.type_of g.O.ObjectValue.resolves (g.O.ObjectValue.seen c.args.root.now) (wanted_by c.args.wanted.now) c.args.texts.now.schema
-    c.args.texts.now.document c.args.operation.now c.args.steps.now c.args.steps.now)
+    same_refusal (λ (values : Members). coerced_variables c.args.texts.now.schema.now.types c.args.operation.now.variables c.args.wanted.now.variables.now ≡ Ok values)
+    (Performs g.O.ObjectValue.type_of g.O.ObjectValue.resolves (g.O.ObjectValue.seen c.args.root.now) (wanted_by c.args.wanted.now) c.args.texts.now.schema.now
+    c.args.texts.now.document.now c.args.operation.now c.args.steps.now c.args.steps.now)
     (wanted_by c.args.wanted.now) c.in-Err.refused c.in-Err.ensures

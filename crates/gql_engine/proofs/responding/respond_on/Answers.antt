@@ -11,7 +11,7 @@ pub returns-in-Err : goal.returns-in-Err
 returns-in-Err g c =
     record {
       answered =
-          same_refusal (λ (operation : Bor Operation). chosen (text_of c.args.wanted.now.operation_name) c.args.texts.now.document.operations ≡ Some operation.now)
+          same_refusal (λ (operation : Bor Operation). chosen (text_of c.args.wanted.now.operation_name) c.args.texts.now.document.now.operations ≡ Some operation.now)
           (Responds g.O.ObjectValue.type_of g.O.ObjectValue.resolves (g.O.ObjectValue.seen c.args.root.now) (wanted_by c.args.wanted.now) c.args.steps.now c.args.steps.now)
           (wanted_by c.args.wanted.now) c.in-Err.refused c.in-Err.ensures;
     }

@@ -12,8 +12,8 @@ use Rattle.gql_engine.proofs.steps_before.choose.Goals as goal
 
 pub returns-in-Err : goal.returns-in-Err
 returns-in-Err c =
-    let meant : MeantBy (wanted_by c.args.wanted.now) = record { schema = c.args.texts.now.schema; document = c.args.texts.now.document; are = c.requires } in
-    unchosen (λ (operation : Bor OperationOf). chosen (text_of c.args.wanted.now.operation_name) c.args.texts.now.document.operations ≡ Some operation.now)
+    let meant : MeantBy (wanted_by c.args.wanted.now) = record { schema = c.args.texts.now.schema.now; document = c.args.texts.now.document.now; are = c.requires } in
+    unchosen (λ (operation : Bor OperationOf). chosen (text_of c.args.wanted.now.operation_name) c.args.texts.now.document.now.operations ≡ Some operation.now)
     (wanted_by c.args.wanted.now) meant c.in-Err.refused c.of_step.result
     (subst (λ (d : ExecutableDocument). IsChosen (text_of c.args.wanted.now.operation_name) d.operations (Err c.in-Err.refused)) c.as_ref-2.ensures c.in-Err.ensures)
     (subst (λ (d : ExecutableDocument). IsOfStep Operation d.sources c.in-Err.refused c.of_step.result) c.as_ref.ensures c.of_step.ensures)

@@ -11,11 +11,11 @@ use Rattle.gql_engine.proofs.steps_before.coerce.Goals as goal
 
 pub returns-in-Ok : goal.returns-in-Ok
 returns-in-Ok c =
-    was_coerced fault_told (coerced_variables c.args.texts.now.schema.types c.args.operation.now.variables c.args.wanted.now.variables.now) c.in-Ok.values c.in-Ok.ensures
+    was_coerced fault_told (coerced_variables c.args.texts.now.schema.now.types c.args.operation.now.variables c.args.wanted.now.variables.now) c.in-Ok.values c.in-Ok.ensures
 
 pub returns-in-Err : goal.returns-in-Err
 returns-in-Err c =
-    let meant : MeantBy (wanted_by c.args.wanted.now) = record { schema = c.args.texts.now.schema; document = c.args.texts.now.document; are = c.requires.meant } in
-    uncoerced_at (λ (values : Members). coerced_variables c.args.texts.now.schema.types c.args.operation.now.variables c.args.wanted.now.variables.now ≡ Ok values)
+    let meant : MeantBy (wanted_by c.args.wanted.now) = record { schema = c.args.texts.now.schema.now; document = c.args.texts.now.document.now; are = c.requires.meant } in
+    uncoerced_at (λ (values : Members). coerced_variables c.args.texts.now.schema.now.types c.args.operation.now.variables c.args.wanted.now.variables.now ≡ Ok values)
     (wanted_by c.args.wanted.now) meant c.args.operation.now c.requires.chosen c.requires.shallow c.in-Err.refused c.of_step.result c.in-Err.ensures
     (subst (λ (d : ExecutableDocument). IsOfStep Variable d.sources c.in-Err.refused c.of_step.result) c.as_ref.ensures c.of_step.ensures)
