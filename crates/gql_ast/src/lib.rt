@@ -30,5 +30,6 @@ pub use gql_ast_definitions::{
     OperationDefinition, ScalarTypeDefinition, ScalarTypeExtension, SchemaDefinition,
     SchemaExtension, Selection, UnionTypeDefinition, UnionTypeExtension, VariableDefinition,
 };
+pub use jb_text::Memory;
 pub use type_text::print_type;
 pub use value_text::print_value;

@@ -34,6 +34,7 @@ pub use convert::{Convert, first, gather};
 pub use copying::Copying;
 pub use directive::{Argument, Directive, arguments, directives};
 pub use gql_cst::{SyntaxKind, Tree};
+pub use jb_text::Memory;
 pub use literal::{description, string_text};
 pub use name::{Name, NameFault};
 pub use named_type::{named_type_in, named_types};

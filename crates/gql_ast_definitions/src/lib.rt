@@ -14,6 +14,7 @@ pub use extension::{
     ScalarTypeExtension, SchemaExtension, UnionTypeExtension,
 };
 pub use field_definition::{EnumValueDefinition, FieldDefinition, InputValueDefinition};
+pub use jb_text::Memory;
 pub use operation::{FragmentDefinition, OperationDefinition, VariableDefinition};
 pub use schema_definition::{DirectiveDefinition, DirectiveLocation, SchemaDefinition};
 pub use selection::{Field, FragmentSpread, InlineFragment, Selection};

@@ -31,6 +31,7 @@ mod wanted;
 mod wrapped;
 
 pub use arguments::coerce_arguments;
+pub use jb_text::Memory;
 pub use scalar::{enum_takes, scalar_takes};
 pub use told::{ArgumentFault, InputCoercionError};
 pub use variables::coerce_variables;

@@ -36,6 +36,7 @@ mod variable_values;
 pub use group::Group;
 pub use grouped::Grouped;
 pub use grouping::collect_fields;
+pub use jb_text::Memory;
 pub use max_depth::check_max_depth;
 pub use pieces::Pieces;
 pub use plan::{Node, Part};

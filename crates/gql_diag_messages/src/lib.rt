@@ -16,4 +16,5 @@ mod rule_text;
 pub use details::{Details, RuleFault};
 pub use diagnostic_data::DiagnosticData;
 pub use family::{Family, list_fault};
+pub use jb_text::Memory;
 pub use rule::Rule;

@@ -44,3 +44,4 @@ pub use gql_document_types::{
     ExecutableDocument, ExpandFault, Field, FieldSet, Fragment, FragmentSpread, InlineFragment,
     Operation, Selection, SelectionSet, expand_fragments,
 };
+pub use jb_text::Memory;

@@ -28,6 +28,7 @@ pub use document::{ExecutableDocument, FieldSet};
 pub use expand::{ExpandFault, expand_fragments};
 pub use fragment::Fragment;
 pub use gql_ast_base::Copying;
+pub use jb_text::Memory;
 pub use operation::Operation;
 pub use selection::{Field, FragmentSpread, InlineFragment, Selection, SelectionSet};
 pub use spreads::{add_spreads, spread_graph};

@@ -27,5 +27,6 @@ pub use gql_resolvers::{
     FieldError, ObjectValue, RequestInfo, ResolveError, ResolveInfo, ResolvedValue,
 };
 pub use introspected::Introspected;
+pub use jb_text::Memory;
 pub use partial::partial_execute;
 pub use written_response::WrittenResponse;

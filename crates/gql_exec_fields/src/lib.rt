@@ -27,6 +27,7 @@ mod tree_output;
 
 pub use asking::is_introspection;
 pub use executing::Executing;
+pub use jb_text::Memory;
 pub use output::Output;
 pub use path::{Path, Step};
 pub use text_output::{OpenList, OpenObject, TextOutput};

@@ -23,6 +23,7 @@ mod seen;
 
 pub use chains::{Judged, is_marked, judge};
 pub use exploration::{Compares, DocumentSets, explore};
+pub use jb_text::Memory;
 pub use pair::Pair;
 pub use reach::{Graph, flood, targets};
 pub use seen::Seen;

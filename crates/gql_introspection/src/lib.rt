@@ -22,5 +22,6 @@ mod shown;
 mod type_def;
 mod wrapped;
 
+pub use jb_text::Memory;
 pub use meta_object::MetaObject;
 pub use root_fields::{schema_field, type_field};

@@ -55,5 +55,6 @@ mod schema_reading;
 mod stopped;
 
 pub use document_reading::document_of_text;
+pub use jb_text::Memory;
 pub use parser::Parser;
 pub use schema_reading::schema_of_text;

@@ -10,6 +10,7 @@ mod request;
 mod request_reading;
 mod self_test;
 
+pub use jb_tree::Memory;
 pub use request::{Member, Request, RequestFault, decode};
 pub use request_reading::read_message;
 pub use self_test::self_test_text;

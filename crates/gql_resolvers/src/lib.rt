@@ -33,6 +33,7 @@ mod scalar;
 
 pub use data_object::DataObject;
 pub use fitting::{fitting_object, list_misfit};
+pub use jb_text::Memory;
 pub use leaf::leaf_misfit;
 pub use messages::resolver_error;
 pub use misfit::Misfit;

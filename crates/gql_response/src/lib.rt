@@ -18,6 +18,7 @@ mod request_error;
 pub use execution_response::ExecutionResponse;
 pub use fault::ResponseFault;
 pub use graphql_error::GraphQLError;
+pub use jb_text::Memory;
 pub use json::{JsonMap, JsonValue};
 pub use path::ResponseDataPathSegment;
 pub use request_error::RequestError;

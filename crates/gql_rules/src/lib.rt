@@ -39,5 +39,6 @@ mod value_uses;
 mod variable_faults;
 mod variables;
 
+pub use jb_text::Memory;
 pub use standalone::validate_standalone;
 pub use validate::validate_document;

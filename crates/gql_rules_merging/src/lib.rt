@@ -21,3 +21,4 @@ mod response_keys;
 mod same_value;
 
 pub use field_selection_merging::list_conflicting_fields;
+pub use jb_text::Memory;

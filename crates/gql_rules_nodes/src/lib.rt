@@ -35,6 +35,7 @@ mod walk;
 mod ways;
 
 pub use document_nodes::list_document_nodes;
+pub use jb_text::Memory;
 pub use reaching::{is_reached, reached};
 pub use spread_faults::list_spread_faults;
 pub use unique_variable::list_unique_variable;

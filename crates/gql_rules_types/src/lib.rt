@@ -35,5 +35,6 @@ mod undefined_definition;
 mod union_member_object_type;
 
 pub use interfaces::list_interfaces;
+pub use jb_text::Memory;
 pub use schema_rules::{list_directive_definitions, list_schema_definition};
 pub use types::list_types;

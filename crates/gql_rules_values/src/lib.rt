@@ -35,6 +35,7 @@ pub use arguments::{Call, list_arguments};
 pub use by_name::ByName;
 pub use directives::list_directives;
 pub use fault::{list_fault, list_long_chain, list_name};
+pub use jb_text::Memory;
 pub use known::{Defined, is_defined, is_known};
 pub use literals::list_literal;
 pub use one_of_value::{has_one_key, list_one_of_literal};

@@ -25,4 +25,5 @@ pub use gql_schema_types::{
     EnumType, ExtendedType, Implementers, ImplementersMap, InputObjectType, InterfaceType,
     MetaFields, Named, ObjectType, ScalarType, Schema, SchemaDefinition, Table, UnionType,
 };
+pub use jb_text::Memory;
 pub use schema_builder::SchemaBuilder;

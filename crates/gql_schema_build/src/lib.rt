@@ -47,6 +47,7 @@ mod union_member_name_collision;
 pub use build::build_schema;
 pub use built_in::BuiltIn;
 pub use executable_definition::list_executable_definitions;
+pub use jb_text::Memory;
 pub use type_definition::TypeDefinition;
 pub use type_extension::TypeExtension;
 pub use type_kind::TypeKind;

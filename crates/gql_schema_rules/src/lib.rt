@@ -20,4 +20,5 @@ mod schema_faults;
 mod validate;
 
 pub use checks::{check_arguments, check_directives, check_literal};
+pub use jb_text::Memory;
 pub use validate::validate_schema;

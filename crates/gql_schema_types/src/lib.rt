@@ -17,6 +17,7 @@ mod valid;
 
 pub use called::{argument_called, directive_called, is_among};
 pub use implementers::{Implementers, ImplementersMap};
+pub use jb_text::Memory;
 pub use meta_fields::MetaFields;
 pub use named::Named;
 pub use schema::{Schema, SchemaDefinition};

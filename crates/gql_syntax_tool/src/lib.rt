@@ -5,5 +5,6 @@ pub mod program;
 mod reply;
 mod start;
 
+pub use gql_cst::Memory;
 pub use program::run;
 pub use start::Start;

@@ -7,3 +7,4 @@
 mod from_json;
 
 pub use from_json::{FromJson, FromJsonFault};
+pub use jb_text::Memory;
