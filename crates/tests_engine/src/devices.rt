@@ -1,6 +1,6 @@
 //! The program on a source and a sink that move a byte a call, each call of which fails once.
 
-use crate::runs::{Case, Failing, ran};
+use crate::runs::{Case, Failing, ran, ran_in_pieces};
 use gql_engine::{ANSWERED, MISUSED, REFUSED, SINK_FAILED, SOURCE_FAILED};
 use std::alloc::Global;
 use std::test::Fail;
@@ -112,6 +112,20 @@ fn calls_that_are_not_made_disturb_nothing(rt: HostRuntime) -> Result<(), Fail> 
     for case in &NOT_READING {
         assert!(rt; is_undisturbed(rt.alloc(), case, 1)?, "{}", case.output);
     }
+    Ok(())
+}
+
+/// A sink takes ten bytes at its first call and fails at its second: it has just these ten.
+#[test]
+fn the_second_write_fails_the_run(rt: HostRuntime) -> Result<(), Fail> {
+    let case = &READING[0];
+    let failing = Failing {
+        read: None,
+        write: Some(2),
+    };
+    let (status, written) = ran_in_pieces(rt.alloc(), case.words, case.input, failing, 10)?;
+    assert_eq!(rt; status, SINK_FAILED);
+    assert_eq!(rt; written.as_slice(), b"{\"errors\":");
     Ok(())
 }
 

@@ -33,10 +33,23 @@ pub(crate) fn ran(
     input: &str,
     failing: Failing,
 ) -> Result<(u8, Bytes), Fail> {
+    ran_in_pieces(alloc, words, input, failing, 1)
+}
+
+/// The same on a sink that takes at most `piece` bytes a call.
+pub(crate) fn ran_in_pieces(
+    alloc: Global,
+    words: &[&str],
+    input: &str,
+    failing: Failing,
+    piece: usize,
+) -> Result<(u8, Bytes), Fail>
+    requires { 0 < piece }
+{
     let words = words_of(alloc, words)?;
     let input = Bytes::copy_from_slice(alloc, input.as_bytes())?;
     let mut source = MemorySource::new(input, 1, listed(alloc, failing.read)?);
-    let mut sink = MemorySink::new(alloc, ROOM, 1, listed(alloc, failing.write)?)?;
+    let mut sink = MemorySink::new(alloc, ROOM, piece, listed(alloc, failing.write)?)?;
     let status = counted::<Brand>(
         alloc,
         words.as_slice(),
