@@ -125,7 +125,7 @@ fn the_second_write_fails_the_run(rt: HostRuntime) -> Result<(), Fail> {
     };
     let (status, written) = ran_in_pieces(rt.alloc(), case.words, case.input, failing, 10)?;
     assert_eq!(rt; status, SINK_FAILED);
-    assert_eq!(rt; written.as_slice(), b"{\"errors\":");
+    assert_eq!(rt; written.as_slice(), b"{\"errors\":".as_slice());
     Ok(())
 }
 

@@ -10,7 +10,7 @@ use gql_diag::DiagnosticList;
 use gql_document_types::{ExecutableDocument, Field, Selection};
 use gql_parser::Parser;
 use gql_schema_rules::{check_arguments, check_directives, check_literal};
-use gql_schema_types::Schema;
+use gql_schema_types::{Schema, Valid};
 use gql_source::{FileIds, SourceMap};
 use std::alloc::Global;
 use std::mem::{ManuallyDrop, forget};
@@ -31,7 +31,7 @@ const WRONG: [&str; 3] = [
 /// What the text of a document stands for, whether its rules hold or not.
 fn document_of(
     alloc: Global,
-    schema: &Schema,
+    schema: &Valid<Schema>,
     text: &str,
     ids: &mut FileIds,
 ) -> Result<ManuallyDrop<ExecutableDocument>, Fail>
@@ -114,12 +114,13 @@ fn check(
 fn parts_are_checked_by_themselves(rt: HostRuntime) -> Result<(), Fail> {
     let alloc = rt.alloc();
     let mut ids = FileIds::new();
-    let schema = built(alloc, SCHEMA, &mut ids)?;
+    let schema = ManuallyDrop::into_inner(built(alloc, SCHEMA, &mut ids)?);
+    let schema = ManuallyDrop::new(Valid::assume_valid(schema));
     let document = document_of(alloc, &schema, QUERY, &mut ids)?;
     let field = first_field(&document)?;
     for number in 0..WRONG.len() {
         let mut errors = DiagnosticList::new(alloc, SourceMap::new(alloc));
-        check(alloc, &schema, field, number, &mut errors)?;
+        check(alloc, schema.as_ref(), field, number, &mut errors)?;
         let found = told_list(alloc, errors)?;
         assert_eq!(rt; found.as_str(), WRONG[number]);
     }
