@@ -23,7 +23,7 @@ use Rattle.gql_introspection.specs.MetaMeaning.{meta_row, or_unknown, meta_meani
 use Rattle.gql_introspection.specs.NamedTypes.{type_or_null, named_type, root_type, type_level, type_meaning}
 use Rattle.gql_introspection.specs.RootFields.{type_by, name_argument, type_field_meaning, schema_field_meaning}
 use Rattle.gql_introspection.specs.SchemaMeta.{schema_row}
-use Rattle.gql_introspection.specs.TypeDef.{type_description, scalar_url, type_fields, type_interfaces, possible_types, enum_values, input_fields, type_row}
+use Rattle.gql_introspection.specs.TypeDef.{type_description, scalar_url, type_fields, type_interfaces, possible_types, enum_values, input_fields, one_of, type_row}
 use Rattle.gql_introspection.specs.Wrapped.{wrapped_kind, inner_level, inner_type, is_null_field, wrapped_row}
 use Rattle.gql_resolvers.specs.Resolved.{Meaning, Meanings, gives_object}
 use Rattle.gql_resolvers.specs.Skips.{SkipsNothing, SkipNothing}
@@ -126,6 +126,14 @@ module _ (schema : Schema) where
   inputs-whole arguments (Enum it) = tt
   inputs-whole arguments (InputObject it) = objects-whole _
 
+  one-of-whole : (ty : ExtendedType) → SkipsNothing (one_of ty)
+  one-of-whole (Scalar it) = tt
+  one-of-whole (Object it) = tt
+  one-of-whole (Interface it) = tt
+  one-of-whole (Union it) = tt
+  one-of-whole (Enum it) = tt
+  one-of-whole (InputObject it) = tt
+
   -- ---- each row
 
   schema-row : (f : List ℕ) → IsWholeRow (schema_row schema f)
@@ -148,7 +156,8 @@ module _ (schema : Schema) where
       (column (bytes_eq f (codes "enumValues")) _ _ (values-whole arguments ty)
       (column (bytes_eq f (codes "inputFields")) _ _ (inputs-whole arguments ty)
       (column (bytes_eq f (codes "ofType")) _ _ tt
-      (column (bytes_eq f (codes "specifiedByURL")) _ _ (text-whole _) tt)))))))))
+      (column (bytes_eq f (codes "specifiedByURL")) _ _ (text-whole _)
+      (column (bytes_eq f (codes "isOneOf")) _ _ (one-of-whole ty) tt))))))))))
 
   wrapped-row : (ty : TypeRef) (stripped : Bool) (f : List ℕ) → IsWholeRow (wrapped_row schema ty stripped f)
   wrapped-row ty stripped f =

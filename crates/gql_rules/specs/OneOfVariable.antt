@@ -7,7 +7,8 @@ use Rattle.gql_ast_definitions.specs.declared.operation.VariableDefinition.{Vari
 use Rattle.gql_diag_messages.specs.declared.diagnostic_data.DiagnosticData.{DiagnosticData}
 use Rattle.gql_rules_values.specs.OneOfValue.{one_of_fault}
 use Rattle.gql_rules.specs.UndefinedVariable.{variable_called}
-use Rattle.gql_rules.specs.Uses.{OneOf, Use}
+use Rattle.gql_ast_base.specs.Names.{Named}
+use Rattle.gql_rules.specs.Uses.{Use}
 
 -- the variable may be null, whether its type is defined or not
 abbrev pub is_nullable : VariableDefinition → Bool
@@ -19,7 +20,7 @@ may_be_null variables used = option_map_or is_nullable (variable_called variable
 
 -- the literal whose one member the use is, if it is one
 abbrev pub literal_told : Use → List DiagnosticData
-literal_told used = option_map_or (λ (literal : OneOf). one_of_fault literal.name literal.location ∷ []) used.place.one_of []
+literal_told used = option_map_or (λ (name : Named). one_of_fault name used.place.literal ∷ []) used.place.one_of []
 
 abbrev pub one_of_variable : List VariableDefinition → Use → List DiagnosticData
 one_of_variable variables used = if may_be_null variables used then literal_told used else []

@@ -1,7 +1,7 @@
 -- Where variables are used, and what is wanted there: section 5.8 of GraphQL October 2021.
 use Rattle.std.specs.Prelude.{ℕ, ◌==◌, Bool, false, List, [], ◌∷◌, ◌++◌, length, Option, Some, None, is_some, if◌then◌else◌}
 use Rattle.std.specs.List.{flat_map}
-use Rattle.std.specs.Option.{option_and_then, option_map, option_map_or}
+use Rattle.std.specs.Option.{option_and_then, option_map_or}
 use Rattle.gql_source.specs.Span.{Span}
 use Rattle.gql_ast_base.specs.Names.{Named}
 use Rattle.gql_ast_definitions.specs.declared.field_definition.InputValueDefinition.{InputValueDefinition}
@@ -24,17 +24,13 @@ use Rattle.gql_schema_types.specs.declared.schema.Schema.{Schema}
 use Rattle.gql_schema_types.specs.declared.types.ExtendedType.{ExtendedType}
 use Rattle.gql_schema_types.specs.declared.types.ExtendedType.TheVariants as type
 
--- a literal of one key at a one-of input object: the name of that type, and the place of the literal
-pub record OneOf : Type 0 where
-  pub name : Named
-  pub location : Option Span
-
--- what is wanted where a value stands: its type, if one is known, and whether an argument or input field with a default stands there; and the
--- literal at a one-of input object whose one member the value is, if it is one
+-- what is wanted where a value stands: its type, if one is known, and whether an argument or input field with a default stands there; the name
+-- of the one-of input object whose one member the value is, if it is one; and the place of the object literal that it is a member of
 pub record Place : Type 0 where
   pub ty : Option TypeRef
   pub has_default : Bool
-  pub one_of : Option OneOf
+  pub one_of : Option Named
+  pub literal : Option Span
 
 -- a use of a variable: the whole `$name` and its place in the text
 pub record Use : Type 0 where
@@ -43,22 +39,19 @@ pub record Use : Type 0 where
   pub location : Option Span
 
 -- an argument or an input field, if it is defined
-abbrev pub input_place : Option InputValueDefinition → Option OneOf → Place
-input_place None one_of = record { ty = None; has_default = false; one_of = one_of }
-input_place (Some definition) one_of = record { ty = Some definition.ty; has_default = is_some definition.default_value; one_of = one_of }
+abbrev pub input_place : Option InputValueDefinition → Option Named → Option Span → Place
+input_place None one_of literal = record { ty = None; has_default = false; one_of = one_of; literal = literal }
+input_place (Some definition) one_of literal =
+    record { ty = Some definition.ty; has_default = is_some definition.default_value; one_of = one_of; literal = literal }
 
 -- an item, where a list is wanted; it has no default
 abbrev pub item_place : Place → Place
-item_place place = record { ty = option_and_then item_type place.ty; has_default = false; one_of = None }
+item_place place = record { ty = option_and_then item_type place.ty; has_default = false; one_of = None; literal = None }
 
 -- a field of an input object type
 abbrev pub field_of : List ℕ → ExtendedType → Option InputValueDefinition
 field_of key (type.InputObject it) = entry input_name key it.fields
 field_of key _ = None
-
--- a literal of this place, at a one-of input object of this name
-abbrev pub literal_at : Option Span → Named → OneOf
-literal_at location name = record { name = name; location = location }
 
 -- the name of a one-of input object
 abbrev pub one_of_name : ExtendedType → Option Named
@@ -82,30 +75,31 @@ module _ (types : List ExtendedType) where
   member_definition key ty = option_and_then (field_of key) (type_called (named_type ty).text types)
 
   -- what is wanted of a key's value, where an input object is wanted
-  abbrev pub member_place : Place → Named → Option OneOf → Place
-  member_place place key one_of = input_place (option_and_then (member_definition key.text) place.ty) one_of
+  abbrev pub member_place : Place → Named → Option Named → Option Span → Place
+  member_place place key one_of literal = input_place (option_and_then (member_definition key.text) place.ty) one_of literal
 
   -- the name of the one-of input object that is wanted, within all lists
   abbrev pub wanted_one_of : TypeRef → Option Named
   wanted_one_of ty = option_and_then one_of_name (type_called (named_type ty).text types)
 
-  -- an object literal of this place, where a one-of input object is wanted, and with one key too
-  abbrev pub one_of_wanted : Option Span → Place → Option OneOf
-  one_of_wanted location place = option_map (literal_at location) (option_and_then wanted_one_of place.ty)
+  abbrev pub one_of_wanted : Place → Option Named
+  one_of_wanted place = option_and_then wanted_one_of place.ty
 
-  abbrev pub one_of_literal : {X : Type 0} → Option Span → Place → List (Named × X) → Option OneOf
-  one_of_literal location place members = if has_one_key members then one_of_wanted location place else None
+  -- the same where an object literal stands there that has one key
+  abbrev pub one_of_literal : {X : Type 0} → Place → List (Named × X) → Option Named
+  one_of_literal place members = if has_one_key members then one_of_wanted place else None
 
   abbrev pub items_uses : Place → List ValueUses → List Use
   items_uses place items = flat_map (λ uses. uses (item_place place)) items
 
-  -- in members of which the last may be the one of a literal
-  abbrev pub each_uses : Place → Option OneOf → List (Named × ValueUses) → List Use
-  each_uses place one_of [] = []
-  each_uses place one_of (member ∷ rest) = member.1 (member_place place member.0 (of_last (length rest) one_of)) ++ each_uses place one_of rest
+  -- in members of a literal of this place, of which the last may be the one of a one-of input object
+  abbrev pub each_uses : Option Span → Place → Option Named → List (Named × ValueUses) → List Use
+  each_uses literal place one_of [] = []
+  each_uses literal place one_of (member ∷ rest) =
+      member.1 (member_place place member.0 (of_last (length rest) one_of) literal) ++ each_uses literal place one_of rest
 
   abbrev pub members_uses : Option Span → Place → List (Named × ValueUses) → List Use
-  members_uses location place members = each_uses place (one_of_literal location place members) members
+  members_uses literal place members = each_uses literal place (one_of_literal place members) members
 
   abbrev pub kind_step : ValueKind-F KindUses ValueUses → KindUses
   kind_step (ValueKind-F.Variable name) location place = record { name = name; place = place; location = location } ∷ []
@@ -122,7 +116,7 @@ module _ (types : List ExtendedType) where
 
   -- those in arguments that have these definitions
   abbrev pub argument_uses : List InputValueDefinition → Argument → List Use
-  argument_uses definitions argument = value_uses argument.value (input_place (entry input_name argument.name.text definitions) None)
+  argument_uses definitions argument = value_uses argument.value (input_place (entry input_name argument.name.text definitions) None None)
 
   abbrev pub arguments_uses : List InputValueDefinition → List Argument → List Use
   arguments_uses definitions arguments = flat_map (argument_uses definitions) arguments

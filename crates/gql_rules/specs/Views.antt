@@ -1,18 +1,19 @@
 -- What is lent, as plain values.
 use Rattle.std.specs.Prelude.{List, map}
-use Rattle.std.specs.Option.{option_copied, option_map}
+use Rattle.std.specs.Option.{option_copied}
 use Rattle.gql_rules.specs.Judged.{Judged}
 use Rattle.gql_rules.specs.Uses as plain
 use Rattle.gql_rules.specs.declared.judged.JudgedUse.{JudgedUse}
-use Rattle.gql_rules.specs.declared.uses.OneOf.{OneOf}
 use Rattle.gql_rules.specs.declared.uses.Place.{Place}
 use Rattle.gql_rules.specs.declared.uses.Use.{Use}
 
-abbrev pub literal_of : OneOf → plain.OneOf
-literal_of one_of = record { name = one_of.name.now; location = one_of.location }
-
 abbrev pub place_of : Place → plain.Place
-place_of place = record { ty = option_copied place.ty; has_default = place.has_default; one_of = option_map literal_of place.one_of }
+place_of place = record {
+  ty = option_copied place.ty;
+  has_default = place.has_default;
+  one_of = option_copied place.one_of;
+  literal = place.literal;
+}
 
 abbrev pub use_of : Use → plain.Use
 use_of used = record { name = used.name.now; place = place_of used.place; location = used.location }

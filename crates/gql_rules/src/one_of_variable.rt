@@ -44,8 +44,8 @@ fn list_literal(
 ) -> Result<(), Memory>
     ensures { OnOk result (faults.new ≡ faults.old ++ spec.literal_told (seen.use_of used.now)) }
 {
-    match &used.place.one_of {
-        Some(literal) => list_one_of_literal(alloc, literal.name, literal.location, faults),
+    match used.place.one_of {
+        Some(name) => list_one_of_literal(alloc, name, used.place.literal, faults),
         None => Ok(()),
     }
 }

@@ -1,7 +1,7 @@
 //! Uses of variables, and what is wanted where they stand (GraphQL October 2021, section 5.8).
 
 ghost use Rattle.std.specs.Prelude.{◌≡◌, map};
-ghost use Rattle.std.specs.Option.{option_copied, option_map};
+ghost use Rattle.std.specs.Option.{option_copied};
 ghost use Rattle.gql_rules.specs.Uses as spec;
 ghost use Rattle.gql_rules.specs.Views as seen;
 
@@ -11,20 +11,15 @@ use gql_rules_values::has_one_key;
 use gql_schema_types::{ExtendedType, Table};
 use gql_source::SourceSpan;
 
-/// A literal of one key at a one-of input object: the name of that type, and the place of the literal.
-#[derive(Clone, Copy)]
-pub(crate) struct OneOf<'d> {
-    pub(crate) name: &'d Name,
-    pub(crate) location: Option<SourceSpan>,
-}
-
 /// What is wanted where a value stands: its type, if one is known, and whether the argument or input field there has a default;
-/// and the literal at a one-of input object whose one member the value is, if it is one.
+/// the name of the one-of input object whose one member the value is, if it is one; and the place of the object literal that it is
+/// a member of.
 #[derive(Drop)]
 pub(crate) struct Place<'d> {
     pub(crate) ty: Option<&'d TypeRef>,
     pub(crate) has_default: bool,
-    pub(crate) one_of: Option<OneOf<'d>>,
+    pub(crate) one_of: Option<&'d Name>,
+    pub(crate) literal: Option<SourceSpan>,
 }
 
 /// A use of a variable.
@@ -39,20 +34,23 @@ impl<'d> Place<'d> {
     /// The place of an argument or of an input field, if it is defined.
     pub(crate) fn of_input(
         definition: Option<&'d InputValueDefinition>,
-        one_of: Option<OneOf<'d>>,
+        one_of: Option<&'d Name>,
+        literal: Option<SourceSpan>,
     ) -> Place<'d>
-        ensures { seen.place_of result ≡ spec.input_place (option_copied definition.entry) (option_map seen.literal_of one_of.entry) }
+        ensures { seen.place_of result ≡ spec.input_place (option_copied definition.entry) (option_copied one_of.entry) literal }
     {
         match definition {
             Some(definition) => Place {
                 ty: Some(&definition.ty),
                 has_default: definition.default_value.is_some(),
                 one_of,
+                literal,
             },
             None => Place {
                 ty: None,
                 has_default: false,
                 one_of,
+                literal,
             },
         }
     }
@@ -65,6 +63,7 @@ impl<'d> Place<'d> {
             ty: self.item_type(),
             has_default: false,
             one_of: None,
+            literal: None,
         }
     }
 
@@ -78,52 +77,48 @@ impl<'d> Place<'d> {
         }
     }
 
-    /// The place of a key's value in an object that stands here, with the literal whose one member the value is, if it is one.
+    /// The place of a key's value in an object literal of this place in the text that stands here, with the name of the one-of input
+    /// object whose one member the value is, if it is one.
     pub(crate) fn member(
         &self,
         types: &'d Table<ExtendedType>,
         key: &Name,
-        one_of: Option<OneOf<'d>>,
+        one_of: Option<&'d Name>,
+        literal: Option<SourceSpan>,
     ) -> Place<'d>
-        ensures { seen.place_of result ≡ spec.member_place types.now (seen.place_of self.now) key.now (option_map seen.literal_of one_of.entry) }
+        ensures { seen.place_of result ≡ spec.member_place types.now (seen.place_of self.now) key.now (option_copied one_of.entry) literal }
     {
         match self.ty {
-            Some(ty) => Place::of_input(member_definition(types, key.as_str(), ty), one_of),
-            None => Place::of_input(None, one_of),
+            Some(ty) => {
+                let definition = member_definition(types, key.as_str(), ty);
+                Place::of_input(definition, one_of, literal)
+            }
+            None => Place::of_input(None, one_of, literal),
         }
     }
 
-    /// An object literal that stands here, of this place in the text and with these members, if it has one key and a one-of input
-    /// object is wanted.
+    /// The name of the one-of input object that is wanted, if one is, where a literal with these members stands here and has one key.
     pub(crate) fn one_of_literal(
         &self,
         types: &'d Table<ExtendedType>,
-        location: Option<SourceSpan>,
         members: &[(Name, Value)],
-    ) -> Option<OneOf<'d>>
-        ensures { option_map seen.literal_of result ≡ spec.one_of_literal types.now location (seen.place_of self.now)
+    ) -> Option<&'d Name>
+        ensures { option_copied result ≡ spec.one_of_literal types.now (seen.place_of self.now)
             (map (λ member. (member.0, spec.value_uses types.now member.1)) members.now) }
     {
         if has_one_key(members) {
-            self.one_of_wanted(types, location)
+            self.one_of_wanted(types)
         } else {
             None
         }
     }
 
-    /// The object literal that stands here, of this place in the text, if a one-of input object is wanted.
-    fn one_of_wanted(
-        &self,
-        types: &'d Table<ExtendedType>,
-        location: Option<SourceSpan>,
-    ) -> Option<OneOf<'d>>
-        ensures { option_map seen.literal_of result ≡ spec.one_of_wanted types.now location (seen.place_of self.now) }
+    /// The name of the one-of input object that is wanted, if one is.
+    fn one_of_wanted(&self, types: &'d Table<ExtendedType>) -> Option<&'d Name>
+        ensures { option_copied result ≡ spec.one_of_wanted types.now (seen.place_of self.now) }
     {
         match self.ty {
-            Some(ty) => {
-                let name = wanted_one_of(types, ty)?;
-                Some(OneOf { name, location })
-            }
+            Some(ty) => wanted_one_of(types, ty),
             None => None,
         }
     }
@@ -153,9 +148,9 @@ fn one_of_name(ty: &ExtendedType) -> Option<&Name>
     }
 }
 
-/// The literal, where no member is left behind this one.
-pub(crate) fn of_last(left: usize, one_of: Option<OneOf<'_>>) -> Option<OneOf<'_>>
-    ensures { option_map seen.literal_of result ≡ spec.of_last left (option_map seen.literal_of one_of.entry) }
+/// The name, where no member is left behind this one.
+pub(crate) fn of_last(left: usize, one_of: Option<&Name>) -> Option<&Name>
+    ensures { option_copied result ≡ spec.of_last left (option_copied one_of.entry) }
 {
     if left == 0 { one_of } else { None }
 }

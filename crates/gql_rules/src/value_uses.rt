@@ -69,11 +69,11 @@ fn add_members<'d>(
     ensures { OnOk result (seen.uses_of uses.new
         ≡ seen.uses_of uses.old ++ spec.members_uses types.now location (seen.place_of place.now) (map (λ member. (member.0, spec.value_uses types.now member.1)) members.now)) }
 {
-    let one_of = place.one_of_literal(types, location, members.as_slice());
+    let one_of = place.one_of_literal(types, members.as_slice());
     let mut left = members.len();
     for member in members.as_slice() {
         left -= 1;
-        let inside = place.member(types, &member.0, of_last(left, one_of));
+        let inside = place.member(types, &member.0, of_last(left, one_of), location);
         add_value(types, inside, &member.1, uses)?;
     }
     Ok(())
@@ -105,7 +105,7 @@ fn add_argument<'d>(
 ) -> Result<(), Memory>
     ensures { OnOk result (seen.uses_of uses.new ≡ seen.uses_of uses.old ++ spec.argument_uses types.now definitions.now argument.now) }
 {
-    let place = Place::of_input(definitions.get(argument.name.as_str()), None);
+    let place = Place::of_input(definitions.get(argument.name.as_str()), None, None);
     add_value(types, place, &argument.value, uses)
 }
 

@@ -8,11 +8,11 @@ pub returns-then-has_one_key : goal.returns-then-has_one_key
 returns-then-has_one_key c =
     let types = c.args.types.now in
     c.one_of_wanted.ensures
-    ∙ chosen (value_uses types) c.args.members.now (one_of_wanted types c.args.location (place_of c.args.self.now)) None c.has_one_key.result true
+    ∙ chosen (value_uses types) c.args.members.now (one_of_wanted types (place_of c.args.self.now)) None c.has_one_key.result true
     c.has_one_key.ensures c.if-has_one_key.true
 
 pub returns-else-has_one_key : goal.returns-else-has_one_key
 returns-else-has_one_key c =
     let types = c.args.types.now in
-    chosen (value_uses types) c.args.members.now (one_of_wanted types c.args.location (place_of c.args.self.now)) None c.has_one_key.result false
+    chosen (value_uses types) c.args.members.now (one_of_wanted types (place_of c.args.self.now)) None c.has_one_key.result false
     c.has_one_key.ensures c.if-has_one_key.false
