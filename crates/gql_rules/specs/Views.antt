@@ -12,7 +12,7 @@ place_of place = record {
   ty = option_copied place.ty;
   has_default = place.has_default;
   one_of = option_copied place.one_of;
-  literal = place.literal;
+  literal = plain.literal_place (option_copied place.literal);
 }
 
 abbrev pub use_of : Use → plain.Use

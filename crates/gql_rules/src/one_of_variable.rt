@@ -45,7 +45,7 @@ fn list_literal(
     ensures { OnOk result (faults.new ≡ faults.old ++ spec.literal_told (seen.use_of used.now)) }
 {
     match used.place.one_of {
-        Some(name) => list_one_of_literal(alloc, name, used.place.literal, faults),
+        Some(name) => list_one_of_literal(alloc, name, used.place.literal_location(), faults),
         None => Ok(()),
     }
 }

@@ -1,6 +1,6 @@
 //! Uses of variables, and what is wanted where they stand (GraphQL October 2021, section 5.8).
 
-ghost use Rattle.std.specs.Prelude.{◌≡◌, map};
+ghost use Rattle.std.specs.Prelude.{◌≡◌, None, map};
 ghost use Rattle.std.specs.Option.{option_copied};
 ghost use Rattle.gql_rules.specs.Uses as spec;
 ghost use Rattle.gql_rules.specs.Views as seen;
@@ -12,14 +12,13 @@ use gql_schema_types::{ExtendedType, Table};
 use gql_source::SourceSpan;
 
 /// What is wanted where a value stands: its type, if one is known, and whether the argument or input field there has a default;
-/// the name of the one-of input object whose one member the value is, if it is one; and the place of the object literal that it is
-/// a member of.
+/// the name of the one-of input object whose one member the value is, if it is one; and the object literal that it is a member of.
 #[derive(Drop)]
 pub(crate) struct Place<'d> {
     pub(crate) ty: Option<&'d TypeRef>,
     pub(crate) has_default: bool,
     pub(crate) one_of: Option<&'d Name>,
-    pub(crate) literal: Option<SourceSpan>,
+    pub(crate) literal: Option<&'d Value>,
 }
 
 /// A use of a variable.
@@ -31,13 +30,20 @@ pub(crate) struct Use<'d> {
 }
 
 impl<'d> Place<'d> {
+    /// The place of an argument, if it is defined.
+    pub(crate) fn of_argument(definition: Option<&'d InputValueDefinition>) -> Place<'d>
+        ensures { seen.place_of result ≡ spec.input_place (option_copied definition.entry) None None }
+    {
+        Place::of_input(definition, None, None)
+    }
+
     /// The place of an argument or of an input field, if it is defined.
-    pub(crate) fn of_input(
+    fn of_input(
         definition: Option<&'d InputValueDefinition>,
         one_of: Option<&'d Name>,
-        literal: Option<SourceSpan>,
+        literal: Option<&'d Value>,
     ) -> Place<'d>
-        ensures { seen.place_of result ≡ spec.input_place (option_copied definition.entry) (option_copied one_of.entry) literal }
+        ensures { seen.place_of result ≡ spec.input_place (option_copied definition.entry) (option_copied one_of.entry) (spec.literal_place (option_copied literal.entry)) }
     {
         match definition {
             Some(definition) => Place {
@@ -77,24 +83,31 @@ impl<'d> Place<'d> {
         }
     }
 
-    /// The place of a key's value in an object literal of this place in the text that stands here, with the name of the one-of input
+    /// The place of a key's value in an object literal that stands here, with the name of the one-of input
     /// object whose one member the value is, if it is one.
     pub(crate) fn member(
         &self,
         types: &'d Table<ExtendedType>,
         key: &Name,
         one_of: Option<&'d Name>,
-        literal: Option<SourceSpan>,
+        literal: &'d Value,
     ) -> Place<'d>
-        ensures { seen.place_of result ≡ spec.member_place types.now (seen.place_of self.now) key.now (option_copied one_of.entry) literal }
+        ensures { seen.place_of result ≡ spec.member_place types.now (seen.place_of self.now) key.now (option_copied one_of.entry) literal.now.location }
     {
         match self.ty {
             Some(ty) => {
                 let definition = member_definition(types, key.as_str(), ty);
-                Place::of_input(definition, one_of, literal)
+                Place::of_input(definition, one_of, Some(literal))
             }
-            None => Place::of_input(None, one_of, literal),
+            None => Place::of_input(None, one_of, Some(literal)),
         }
+    }
+
+    /// Where the object literal stands that the value is a member of.
+    pub(crate) fn literal_location(&self) -> Option<SourceSpan>
+        ensures { result ≡ (seen.place_of self.now).literal }
+    {
+        self.literal?.location
     }
 
     /// The name of the one-of input object that is wanted, if one is, where a literal with these members stands here and has one key.

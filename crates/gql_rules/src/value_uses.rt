@@ -9,7 +9,6 @@ use gql_ast_base::{Argument, Directive, Name, Value, ValueKind};
 use gql_ast_definitions::InputValueDefinition;
 use gql_rules_values::ByName;
 use gql_schema_types::{ExtendedType, Schema, Table};
-use gql_source::SourceSpan;
 use jb_text::{Listed, Memory};
 use std::alloc::Global;
 
@@ -30,7 +29,7 @@ fn add_value<'d>(
             location: value.location,
         }),
         ValueKind::List(items) => add_items(types, &place, items, uses),
-        ValueKind::Object(members) => add_members(types, &place, value.location, members, uses),
+        ValueKind::Object(members) => add_members(types, &place, members, value, uses),
         ValueKind::Null => Ok(()),
         ValueKind::Int(_) => Ok(()),
         ValueKind::Float(_) => Ok(()),
@@ -57,23 +56,23 @@ fn add_items<'d>(
     Ok(())
 }
 
-/// Adds the uses in the values of an object at a place, which stands at this location.
+/// Adds the uses in the values of the members of an object literal at a place.
 #[cycle(uses)]
 fn add_members<'d>(
     types: &'d Table<ExtendedType>,
     place: &Place<'d>,
-    location: Option<SourceSpan>,
     members: &'d Listed<(Name, Value)>,
+    literal: &'d Value,
     uses: &mut Listed<Use<'d>>,
 ) -> Result<(), Memory>
     ensures { OnOk result (seen.uses_of uses.new
-        ≡ seen.uses_of uses.old ++ spec.members_uses types.now location (seen.place_of place.now) (map (λ member. (member.0, spec.value_uses types.now member.1)) members.now)) }
+        ≡ seen.uses_of uses.old ++ spec.members_uses types.now literal.now.location (seen.place_of place.now) (map (λ member. (member.0, spec.value_uses types.now member.1)) members.now)) }
 {
     let one_of = place.one_of_literal(types, members.as_slice());
     let mut left = members.len();
     for member in members.as_slice() {
         left -= 1;
-        let inside = place.member(types, &member.0, of_last(left, one_of), location);
+        let inside = place.member(types, &member.0, of_last(left, one_of), literal);
         add_value(types, inside, &member.1, uses)?;
     }
     Ok(())
@@ -105,7 +104,7 @@ fn add_argument<'d>(
 ) -> Result<(), Memory>
     ensures { OnOk result (seen.uses_of uses.new ≡ seen.uses_of uses.old ++ spec.argument_uses types.now definitions.now argument.now) }
 {
-    let place = Place::of_input(definitions.get(argument.name.as_str()), None, None);
+    let place = Place::of_argument(definitions.get(argument.name.as_str()));
     add_value(types, place, &argument.value, uses)
 }
 

@@ -14,9 +14,9 @@ add_members-loop-member-preserved t c =
     let before = uses_of c.loop-member.uses in
     record {
       left = omega (arith, c.loop-member.invariant.left, c.loop-member-test.true);
-      made = each_step types c.args.location place (option_copied c.one_of_literal-one_of.result) items c.loop-member.member-index (c.loop-member.left - 1) member before
-          (uses_of c.add_value.new.uses) (uses_of c.args.uses.now ++ members_uses types c.args.location place (map (λ m. (m.0, value_uses types m.1)) items))
+      made = each_step types c.args.literal.now.location place (option_copied c.one_of_literal-one_of.result) items c.loop-member.member-index (c.loop-member.left - 1) member before
+          (uses_of c.add_value.new.uses) (uses_of c.args.uses.now ++ members_uses types c.args.literal.now.location place (map (λ m. (m.0, value_uses types m.1)) items))
           c.loop-member-test.true c.member-item.is (omega (arith, c.loop-member.invariant.left, c.loop-member-test.true))
-          (c.in_ok-add_value.ensures ∙ ap (λ p. before ++ value_uses types member.1 p) (c.member-inside.ensures ∙ ap (λ o. member_place types place member.0 o c.args.location) c.of_last.ensures))
+          (c.in_ok-add_value.ensures ∙ ap (λ p. before ++ value_uses types member.1 p) (c.member-inside.ensures ∙ ap (λ o. member_place types place member.0 o c.args.literal.now.location) c.of_last.ensures))
           c.loop-member.invariant.made;
     }

@@ -15,6 +15,6 @@ invariant-add_members-loop-member l = record {
   left : l.left + l.member-index ≡ length l.member-items;
   made :
       uses_of l.uses
-      ++ each_uses l.types l.fn.location (place_of l.place) (option_copied l.one_of) (map (λ member. (member.0, value_uses l.types member.1)) (drop l.member-index l.member-items))
-      ≡ uses_of l.fn.uses ++ members_uses l.types l.fn.location (place_of l.place) (map (λ member. (member.0, value_uses l.types member.1)) l.member-items);
+      ++ each_uses l.types l.literal.location (place_of l.place) (option_copied l.one_of) (map (λ member. (member.0, value_uses l.types member.1)) (drop l.member-index l.member-items))
+      ≡ uses_of l.fn.uses ++ members_uses l.types l.literal.location (place_of l.place) (map (λ member. (member.0, value_uses l.types member.1)) l.member-items);
 }
