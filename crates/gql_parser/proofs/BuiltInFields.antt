@@ -21,7 +21,7 @@ use Rattle.gql_schema.specs.declared.built_in_row.DefinitionRow.TheVariants as r
 use Rattle.gql_schema.specs.declared.built_in_row.FieldRow.{FieldRow}
 use Rattle.gql_schema.specs.declared.built_in_row.TypeForm.{TypeForm}
 use Rattle.gql_schema.specs.declared.built_in_row.TypeForm.TheVariants as form
-use Rattle.gql_schema.specs.declared.built_in_rows.TheConstants.{TYPES}
+use Rattle.gql_schema.proofs.TypeRows.{type_rows}
 use Rattle.gql_schema.specs.declared.built_in_text.TheConstants.{BUILT_IN_TEXT}
 use Rattle.gql_schema_build.specs.DefinitionNames.{definition_name}
 use Rattle.gql_schema_build.specs.TypeSystems.{with_definitions, no_definitions}
@@ -67,7 +67,7 @@ abbrev is_core_row : DefinitionRow → Bool
 is_core_row (row.Object it) = list_all is_core_field (rows.fields_at it.fields)
 is_core_row _ = true
 
-core_rows : list_all is_core_row TYPES.now ≡ true
+core_rows : list_all is_core_row type_rows ≡ true
 unfolding rows.fields_at
 core_rows = refl
 
@@ -112,7 +112,7 @@ types-are sound law built_in is =
     is.types ∙ ap (λ (ds : List Definition). (with_definitions no_definitions ds).types) same ∙ sym other.types
 
 pub built-in-sourced : SoundLaw → OneDocument → (built_in : BuiltIn) → IsBuiltIn built_in → Each OfDefinition built_in.types
-built-in-sourced sound law built_in is = subst (Each OfDefinition) (sym (types-are sound law built_in is)) (of-rows TYPES.now core_rows)
+built-in-sourced sound law built_in is = subst (Each OfDefinition) (sym (types-are sound law built_in is)) (of-rows type_rows core_rows)
 
 -- ---- the types that are named are there, and none is an input object type
 

@@ -1,3 +1,4 @@
 pub mod Cut
 pub mod Types
 pub mod Known
+pub mod TypeRows
