@@ -30,7 +30,7 @@ unfolding flat line_starts line_column escaped digits
 computed = tt
 
 -- an example has no fragments
-ranked : AreRanked [] (λ f. zero)
+pub ranked : AreRanked [] (λ f. zero)
 ranked = record { falls = λ a b edge. absurd (omega (arith, edge.1)); bounded = λ f. omega arith }
 
 abbrev pub response_with : Made Member → ExecutionResponse

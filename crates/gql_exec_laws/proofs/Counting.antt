@@ -15,13 +15,13 @@ use Rattle.gql_schema_types.specs.MetaFields.{named}
 use Rattle.gql_exec_laws.specs.Counting.{field_a, field_b, counted}
 use Rattle.gql_exec_laws.specs.Doubling.{numbered}
 
-in_field : (f : Field) (xs : List Selection) → fields_in (selection.Field f ∷ xs) ≡ f ∷ fields_in xs
+pub in_field : (f : Field) (xs : List Selection) → fields_in (selection.Field f ∷ xs) ≡ f ∷ fields_in xs
 in_field f xs = fields-cons (selection.Field f) xs ∙ ap (λ k. fields_at fields_in k ++ fields_in xs) (out-field f)
 
-in_spread : (s : FragmentSpread) (xs : List Selection) → fields_in (selection.FragmentSpread s ∷ xs) ≡ fields_in xs
+pub in_spread : (s : FragmentSpread) (xs : List Selection) → fields_in (selection.FragmentSpread s ∷ xs) ≡ fields_in xs
 in_spread s xs = fields-cons (selection.FragmentSpread s) xs ∙ ap (λ k. fields_at fields_in k ++ fields_in xs) (out-spread s)
 
-in_inline : (i : InlineFragment) (xs : List Selection) → fields_in (selection.InlineFragment i ∷ xs) ≡ fields_in i.selection_set.selections ++ fields_in xs
+pub in_inline : (i : InlineFragment) (xs : List Selection) → fields_in (selection.InlineFragment i ∷ xs) ≡ fields_in i.selection_set.selections ++ fields_in xs
 in_inline i xs = fields-cons (selection.InlineFragment i) xs ∙ ap (λ k. fields_at fields_in k ++ fields_in xs) (out-inline i)
 
 abbrev inside : InlineFragment

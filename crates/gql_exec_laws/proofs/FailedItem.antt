@@ -28,13 +28,13 @@ fields : flat_sets (setting_on (request failed_items) (list_query f)) (failed_it
 unfolding computed
 fields = simp selected
 
-abbrev made : Made Member
+abbrev pub made : Made Member
 made = (
   Some ((codes "f", json.Array (json.Null ∷ json.Number (pos 42) ∷ json.Null ∷ [])) ∷ []),
   error 0 (codes "resolver error: a") ∷ error 2 (codes "resolver error: b") ∷ [],
 )
 
-same : execute (world failed_items) 1 (list_query f) root [] (failed_items.selections ∷ []) ≡ made
+pub same : execute (world failed_items) 1 (list_query f) root [] (failed_items.selections ∷ []) ≡ made
 unfolding computed
 same = executed failed_items 0 (list_query f) root [] (failed_items.selections ∷ []) (field_at 2 f [] ∷ []) (group f ∷ []) fields refl ∙ simp fitting
 

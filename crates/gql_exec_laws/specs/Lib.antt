@@ -4,3 +4,9 @@ pub mod Example
 pub mod Examples
 pub mod Doubling
 pub mod Counting
+pub mod Depths
+pub mod Nulls
+pub mod DeepFields
+pub mod Inputs
+pub mod Explaining
+pub mod Opening
