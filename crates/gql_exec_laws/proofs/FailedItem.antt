@@ -14,7 +14,7 @@ use Rattle.gql_exec_laws.specs.Parts.{field_at, name_at}
 use Rattle.gql_exec_laws.proofs.Computed.{computed, world, executed, answered}
 use Rattle.gql_exec_laws.proofs.Opened.{selected, nested, fitting, printing}
 
-abbrev group : FieldDefinition → Group
+abbrev pub group : FieldDefinition → Group
 group definition = record { first = field_at 2 definition []; pieces = [] ∷ [] }
 
 -- the failure of the item with this index
@@ -24,7 +24,7 @@ error index message =
 
 -- ---- items that may be null
 
-fields : flat_sets (setting_on (request failed_items) (list_query f)) (failed_items.selections ∷ []) ≡ field_at 2 f [] ∷ []
+pub fields : flat_sets (setting_on (request failed_items) (list_query f)) (failed_items.selections ∷ []) ≡ field_at 2 f [] ∷ []
 unfolding computed
 fields = simp selected
 

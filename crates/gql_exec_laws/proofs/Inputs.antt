@@ -1,5 +1,5 @@
 -- Values of a variable of lists of lists, computed.
-use Rattle.std.proofs.Common.{rules, ◌≡◌, ℕ, ℤ, List, [], ◌∷◌, ap, ◌∙◌}
+use Rattle.std.proofs.Common.{rules, ◌≡◌, ℕ, ℤ, List, [], ◌∷◌, codes, ap, ◌∙◌}
 use Rattle.jb_tree.specs.declared.value.Value.{Value, out-Value, the_lemmas as value_lemmas}
 use Rattle.jb_tree.specs.declared.value.Value.TheVariants as json
 use Rattle.jb_tree.specs.declared.value.Value.TheOpen.{Value-F}
@@ -12,8 +12,9 @@ use Rattle.gql_coerce.specs.InputValue.{array, coerced, leaf, level}
 use Rattle.gql_coerce.specs.Outcome.{mapped}
 use Rattle.gql_coerce.specs.Wrapped.{wrap}
 use Rattle.gql_coerce.proofs.Coerced.{coerced-by_rule}
-use Rattle.gql_exec_laws.specs.Inputs.{IsTakenAs, list, one, two}
-use Rattle.gql_exec_laws.proofs.Opened.{fitting, out-number}
+use Rattle.gql_exec_laws.specs.Inputs.{IsRefused, IsTakenAs, list, one, two, word}
+use Rattle.gql_exec_laws.proofs.Opened.{fitting, out-number, printing}
+use Rattle.gql_exec_laws.proofs.Computed.{computed}
 
 out-array : (values : List Value) → out-Value (json.Array values) ≡ Value-F.Array values
 out-array values = search (rules, value_lemmas)
@@ -44,3 +45,20 @@ each = simp (by-number, by-array, wrap-named, wrap-list, fitting)
 
 pub whole : IsTakenAs (list (list (one ∷ two ∷ []) ∷ [])) (list (list (one ∷ two ∷ []) ∷ []))
 whole = simp (by-number, by-array, wrap-named, fitting)
+
+out-text : (bytes : List ℕ) → out-Value (json.String bytes) ≡ Value-F.String bytes
+out-text bytes = search (rules, value_lemmas)
+
+by-text : (types : List ExtendedType) (bytes : List ℕ) (d : List ℕ) (type : TypeRef)
+    → coerced types (json.String bytes) d type ≡ mapped (wrap type) (leaf types d (named_type type) (json.String bytes))
+by-text types bytes d type =
+    ap (λ rule. rule d type) (coerced-by_rule types (json.String bytes))
+    ∙ ap (λ k. level types (coerced types) k (json.String bytes) d type) (out-text bytes)
+
+pub refused-text : IsRefused word (codes "could not coerce variable v: \"a\" to type Int")
+unfolding computed
+refused-text = simp (by-text, out-text, fitting, printing)
+
+pub refused-inside : IsRefused (list (one ∷ list (word ∷ []) ∷ [])) (codes "could not coerce variable v: \"a\" to type Int")
+unfolding computed
+refused-inside = simp (by-number, by-text, by-array, out-text, wrap-list, fitting, printing)

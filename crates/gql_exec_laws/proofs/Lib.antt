@@ -20,3 +20,4 @@ pub mod DeepFields
 pub mod Inputs
 pub mod Explaining
 pub mod Ways
+pub mod Unlisted

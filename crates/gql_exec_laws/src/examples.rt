@@ -1,6 +1,6 @@
 //! Small examples of the definitions that execution is made of.
 
-ghost use Rattle.std.specs.Prelude.{◌≡◌, ◌⊎◌, ◌∷◌, ℕ, [], suc, List, None, Option, Some, Contains};
+ghost use Rattle.std.specs.Prelude.{◌≡◌, ◌⊎◌, ◌∷◌, ℕ, [], codes, suc, List, None, Option, Some, Contains};
 ghost use Rattle.gql_ast_base.specs.declared.type_ref.TypeRef.TheVariants as ty;
 ghost use Rattle.gql_collect.specs.DepthPlace.{depth_place};
 ghost use Rattle.gql_collect.specs.View.{fragments_nested, nested};
@@ -17,7 +17,7 @@ ghost use Rattle.gql_exec_laws.specs.Depths.{depth_in};
 ghost use Rattle.gql_exec_laws.specs.Example.{IsAnswered, request, root};
 ghost use Rattle.gql_exec_laws.specs.Examples.{failed_items, int};
 ghost use Rattle.gql_exec_laws.specs.Explaining.{nulls, with_nulls};
-ghost use Rattle.gql_exec_laws.specs.Inputs.{IsTakenAs, list, one, two};
+ghost use Rattle.gql_exec_laws.specs.Inputs.{IsRefused, IsTakenAs, list, one, two, word};
 ghost use Rattle.gql_exec_laws.specs.Nulls.{at_field, at_item, at_list, inner_list_null, item_null, outer_list_null, stricter_type, strict_int};
 ghost use Rattle.gql_exec_laws.specs.Opening.{IsOpened, to_items};
 
@@ -44,12 +44,14 @@ pub fn the_type_of_the_object_decides()
 {}
 
 /// Of the list whose first and third items fail: its errors and its nulls explain each other, and whatever errors are listed,
-/// they explain no other data.
+/// they explain no other data; and where none is listed, no data is explained.
 pub fn errors_and_nulls_explain_each_other()
     ensures explained { IsFullyExplained (request failed_items) failed_items.root_type root failed_items.selections with_nulls }
     ensures only { (errors : List GraphQLError) (found : Option (List Member))
         → IsExplainedBy (plain_world (request failed_items)) failed_items.root_type root (failed_items.selections ∷ []) (Contains errors) found
         → found ≡ nulls }
+    ensures unlisted { (found : Option (List Member))
+        → IsExplainedBy (plain_world (request failed_items)) failed_items.root_type root (failed_items.selections ∷ []) (Contains []) found → ⊥ }
 {}
 
 /// A fragment is as deep as what it selects: of `{ __schema { types { ...F } } }`, two where `F` selects
@@ -70,11 +72,13 @@ pub fn places_of_a_query_of_the_schema()
 {}
 
 /// A value for a variable of `[[Int]]` stands in lists of its own as far as it isn't in lists: 1 is taken as `[[1]]`, `[1, 2]` as
-/// `[[1], [2]]`, and `[[1, 2]]` as it is (section 3.11).
+/// `[[1], [2]]`, and `[[1, 2]]` as it is. A text is no value for it, at any depth (section 3.11).
 pub fn values_stand_in_lists_of_their_own()
     ensures single { IsTakenAs one (list (list (one ∷ []) ∷ [])) }
     ensures each { IsTakenAs (list (one ∷ two ∷ [])) (list (list (one ∷ []) ∷ list (two ∷ []) ∷ [])) }
     ensures whole { IsTakenAs (list (list (one ∷ two ∷ []) ∷ [])) (list (list (one ∷ two ∷ []) ∷ [])) }
+    ensures text { IsRefused word (codes "could not coerce variable v: \"a\" to type Int") }
+    ensures inside { IsRefused (list (one ∷ list (word ∷ []) ∷ [])) (codes "could not coerce variable v: \"a\" to type Int") }
 {}
 
 /// A list of objects of one type opens two ways, that of the root and that to the objects, however many objects it has; one that is
