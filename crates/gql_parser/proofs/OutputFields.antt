@@ -224,16 +224,16 @@ output-there es name front behind output = by_entry (entry definition_name name 
 -- what passes for each of these names passes for a name that is among them
 all-any : (p : List ℕ → Bool) (n : List ℕ) (all : List (List ℕ)) → list_all p all ≡ true → list_any (bytes_eq n) all ≡ true → p n ≡ true
 all-any p n [] passes among = absurd cc
-all-any p n (m ∷ all) passes among = by_test (bytes_eq n m) refl among
+all-any p n (m ∷ all) passes among = by_test (λ below. all-any p n all (both-true (p m) (list_all p all) passes).1 below) (bytes_eq n m) refl among
   where
     both-true : (a b : Bool) → (a && b) ≡ true → (a ≡ true) × (b ≡ true)
     both-true true true h = (refl, refl)
     both-true true false h = absurd (cc)
     both-true false b h = absurd (cc)
 
-    by_test : (b : Bool) → bytes_eq n m ≡ b → (b || list_any (bytes_eq n) all) ≡ true → p n ≡ true
-    by_test true is among = ap p ((bytes_eq-Decides n m).0 is) ∙ (both-true (p m) (list_all p all) passes).0
-    by_test false is among = all-any p n all (both-true (p m) (list_all p all) passes).1 among
+    by_test : (list_any (bytes_eq n) all ≡ true → p n ≡ true) → (b : Bool) → bytes_eq n m ≡ b → (b || list_any (bytes_eq n) all) ≡ true → p n ≡ true
+    by_test rest true is among = ap p ((bytes_eq-Decides n m).0 is) ∙ (both-true (p m) (list_all p all) passes).0
+    by_test rest false is among = rest among
 
 abbrev is_other : List ℕ → List ℕ → Bool
 is_other m n = not (bytes_eq n m)
@@ -390,9 +390,9 @@ module _ (sound : SoundLaw) (one : OneDocument) (scalars : ScalarsLaw) (places :
 -- ---- by its text
 
 pub text-unreserved : SoundLaw → OneDocument → ScalarsLaw → PlacesLaw → (text : List ℕ) (schema : Schema) → SchemaText text schema → HaveNoReservedFields schema
-text-unreserved sound one scalars places text schema h =
+text-unreserved sound one scalars places text S h =
     subst HaveNoReservedFields (sym h.settled) (no-reserved-fields sound one scalars places text h.taken h.definitions h.holds)
 
 pub text-outputs : SoundLaw → OneDocument → ScalarsLaw → PlacesLaw → (text : List ℕ) (schema : Schema) → SchemaText text schema → HaveOutputTypes schema
-text-outputs sound one scalars places text schema h =
+text-outputs sound one scalars places text S h =
     subst HaveOutputTypes (sym h.settled) (output-fields sound one scalars places text h.taken h.definitions h.holds)
