@@ -37,6 +37,7 @@ use Rattle.gql_rules_types.specs.InterfaceRules.{interfaces_faults}
 use Rattle.gql_rules_types.specs.EmptyInputValueSet.{empty_input_value_set}
 use Rattle.gql_rules_types.specs.InputType.{input_type}
 use Rattle.gql_rules_types.specs.InputValues.{type_faults as value_type_faults, default_faults, input_value_faults, input_field_faults, input_fields_faults}
+use Rattle.gql_rules_types.specs.OneOfField.{one_of_fields}
 use Rattle.gql_rules_types.specs.ReservedName.{reserved_name}
 use Rattle.gql_rules_types.specs.SchemaRules.{schema_definition_faults, directive_definitions_faults}
 use Rattle.gql_rules_types.specs.TypeRules.{name_faults, if_written, type_faults, types_faults}
@@ -102,7 +103,8 @@ module _ (schema : Schema) (holds : AreSchemaFaults schema []) (fields : Each Of
       let E = if_written it.location (empty_input_value_set it.name it.fields) in
       let D = directive_faults TypesAndScalars schema.types at.InputObject schema.directive_definitions it.directives in
       let F = input_fields_faults schema it.fields in
-      back_empty D F (back_empty E (D ++ F) (back_empty N (E ++ (D ++ F)) none))
+      let O = one_of_fields it in
+      front_empty F O (back_empty D (F ++ O) (back_empty E (D ++ (F ++ O)) (back_empty N (E ++ (D ++ (F ++ O))) none)))
 
   -- an input object has another name than each built-in scalar
   module _ (name : List ℕ) (it : InputObjectType) (found : type_called name schema.types ≡ Some (type.InputObject it)) where
