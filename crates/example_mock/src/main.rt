@@ -3,6 +3,7 @@
 
 use bytes::Bytes;
 use gql_engine::{AnswerError, DataObject, Question, Service, Value, from_bytes_whole};
+use std::alloc::Global;
 use std::io::{self, Write};
 
 const SCHEMA: &str =
@@ -49,15 +50,27 @@ fn answer_all(rt: HostRuntime, service: &Service, data: &Value) -> io::Result<()
     };
     let root = DataObject::root(data);
     for (query, variables) in REQUESTS {
-        let question = Question {
-            query,
-            operation_name: None,
-            variables: &Bytes::from_static(variables),
-            introspection: false,
-        };
-        print_answer(rt, service.answer_uncounted(rt.alloc(), &question, &root))?;
+        print_answer(rt, answer(rt.alloc(), service, &root, query, variables))?;
     }
     Ok(())
+}
+
+/// What a service answers to a query with the values of its variables.
+fn answer(
+    alloc: Global,
+    service: &Service,
+    root: &DataObject<'_>,
+    query: &str,
+    variables: &'static [u8],
+) -> Result<Bytes, AnswerError> {
+    let variables = Bytes::from_static(variables);
+    let question = Question {
+        query,
+        operation_name: None,
+        variables: &variables,
+        introspection: false,
+    };
+    service.answer_uncounted(alloc, &question, root)
 }
 
 /// Prints the response to a request, or why there is none.

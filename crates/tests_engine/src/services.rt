@@ -73,11 +73,11 @@ fn by_answer(alloc: Global, query: &str, variables: &Bytes) -> Result<Bytes, Fai
 }
 
 /// What a service gives of it.
-fn by_service(
+fn by_service<'q>(
     alloc: Global,
     service: &Service,
-    query: &str,
-    variables: &Bytes,
+    query: &'q str,
+    variables: &'q Bytes,
 ) -> Result<Bytes, Fail> {
     let no_members = Map::new(alloc);
     let root = DataObject::root(&no_members);
