@@ -63,10 +63,11 @@ fn answer(
     query: &str,
     variables: &'static [u8],
 ) -> Result<Bytes, AnswerError> {
+    let operation_name = None;
     let variables = Bytes::from_static(variables);
     let question = Question {
         query,
-        operation_name: None,
+        operation_name,
         variables: &variables,
         introspection: false,
     };
