@@ -15,11 +15,12 @@ import tempfile
 
 from shared.trying import PATIENCE, ROOT, built
 
-NO_MEMORY = 3
+# Where memory runs out, and where it runs out before the program has its words.
+NO_MEMORY, NO_WORDS = 3, 7
 
 NAMES = [
     "first",
-    "a-failed-item-nulls-its-list",
+    "a-failed-item-nulls-itself",
     "introspection-through-a-fragment-too-deep",
     "thirty-fragments-that-spread-twice",
     "a-request-with-everything",
@@ -42,7 +43,7 @@ def refusals(path, words, text, library, counted):
     lines = []
     for number in range(1, asked + 1):
         made, _asked = run(path, words, text, library, counted, number)
-        if made not in (whole, (NO_MEMORY, b"")):
+        if made not in (whole, (NO_MEMORY, b""), (NO_WORDS, b"")):
             lines.append(f"{' '.join(words)}, piece {number} of {asked}: {made}")
     return asked, lines
 
