@@ -50,25 +50,36 @@ fn answer_all(rt: HostRuntime, service: &Service, data: &Value) -> io::Result<()
     };
     let root = DataObject::root(data);
     for (query, variables) in REQUESTS {
-        print_answer(rt, answer(rt.alloc(), service, &root, query, variables))?;
+        answer_one(rt, service, &root, query, variables)?;
     }
     Ok(())
 }
 
+/// Answers one request.
+fn answer_one(
+    rt: HostRuntime,
+    service: &Service,
+    root: &DataObject<'_>,
+    query: &'static str,
+    variables: &'static [u8],
+) -> io::Result<()> {
+    let variables = Bytes::from_static(variables);
+    let answer = ask(rt.alloc(), service, root, query, &variables);
+    print_answer(rt, answer)
+}
+
 /// What a service answers to a query with the values of its variables.
-fn answer(
+fn ask<'q>(
     alloc: Global,
     service: &Service,
     root: &DataObject<'_>,
-    query: &str,
-    variables: &'static [u8],
+    query: &'q str,
+    variables: &'q Bytes,
 ) -> Result<Bytes, AnswerError> {
-    let operation_name = None;
-    let variables = Bytes::from_static(variables);
     let question = Question {
         query,
-        operation_name,
-        variables: &variables,
+        operation_name: None,
+        variables,
         introspection: false,
     };
     service.answer_uncounted(alloc, &question, root)
