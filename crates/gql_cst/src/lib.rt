@@ -1,7 +1,7 @@
 //! The syntax of GraphQL texts.
 //!
-//! [`parse_document`], [`parse_selection_set`] and [`parse_type`] read a text by the grammar of GraphQL October 2021,
-//! appendix B, and give its concrete [`Tree`]: every token of the text, white space and comments included, in the nodes
+//! [`parse_document`], [`parse_selection_set`], [`parse_type`] and [`parse_const_value`] read a text by the grammar of
+//! GraphQL October 2021, appendix B, and give its concrete [`Tree`]: every token of the text, white space and comments included, in the nodes
 //! of the grammar. They stop at the first thing that is wrong, which is the [`CstError`] of what was [`Parsed`], or at
 //! one of the [`Limits`].
 //!
@@ -39,5 +39,5 @@ pub use gql_lexer::{
     string_value,
 };
 pub use limits::{Limits, Memory, Parsed};
-pub use parse::{parse_document, parse_selection_set, parse_type};
+pub use parse::{parse_const_value, parse_document, parse_selection_set, parse_type};
 pub use tree::{Nodes, Tree};

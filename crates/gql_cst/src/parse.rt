@@ -1,4 +1,4 @@
-//! Reads a whole text: a document, a selection set, or a reference to a type.
+//! Reads a whole text: a document, a selection set, a reference to a type, or a constant value.
 
 ghost use Rattle.std.specs.Prelude.{◌≡◌, true, IfOk, OnOk, is_some};
 ghost use Rattle.gql_cst.specs.Cut.{IsCutTree};
@@ -110,4 +110,15 @@ pub fn parse_type(alloc: Global, text: &str, limits: &Limits) -> Result<Parsed, 
         text,
         limits,
     )
+}
+
+/// The tree of a constant value, which is one without variables (Value with Const, GraphQL October 2021, section 2.9), as
+/// default values are. Its kind is `Value`. The errors are those of [`parse_document`].
+pub fn parse_const_value(alloc: Global, text: &str, limits: &Limits) -> Result<Parsed, Memory>
+    ensures parse { IfOk result (IsParse Rule.ConstValue text.now limits.now) }
+    ensures accepts { IfOk result (Accepts Rule.ConstValue text.now limits.now) }
+    ensures cut { IfOk result (IsCutTree Rule.ConstValue text.now) }
+    ensures spans { IfOk result IsSpanned }
+{
+    parse(alloc, Rule::ConstValue, SyntaxKind::Value, text, limits)
 }

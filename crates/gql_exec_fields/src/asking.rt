@@ -23,7 +23,7 @@ use std::alloc::{AllocError, Global};
 
 /// What comes of a field: what its resolver gives, its failure, or the fault of an argument.
 #[derive(Drop)]
-pub(crate) enum Asked<O> {
+pub enum Asked<O> {
     Gave(ResolvedValue<O>),
     Failed(FieldError),
     Refused(ArgumentFault),
@@ -32,7 +32,7 @@ pub(crate) enum Asked<O> {
 impl<'s> Executing<'s> {
     /// What comes of a field on an object of the type that it is planned on (GraphQL October 2021, sections 6.4.1 and 6.4.2).
     /// `Err` only when out of memory.
-    pub(crate) fn ask<O: ObjectValue>(
+    pub fn ask<O: ObjectValue>(
         &self,
         object_type: &ObjectType,
         object: &O,

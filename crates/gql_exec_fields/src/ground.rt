@@ -11,14 +11,14 @@ use gql_schema_types::Schema;
 
 impl<'s> Executing<'s> {
     /// The schema that the request is executed against.
-    pub(crate) fn schema(&self) -> &'s Schema
+    pub fn schema(&self) -> &'s Schema
         ensures { result.now ≡ self.now.request.schema.now }
     {
         self.request.schema.as_ref()
     }
 
     /// The document that is executed.
-    pub(crate) fn document(&self) -> &'s ExecutableDocument
+    pub fn document(&self) -> &'s ExecutableDocument
         ensures { result.now ≡ self.now.request.document.now }
     {
         self.request.document.as_ref()

@@ -19,13 +19,13 @@ use std::alloc::Global;
 
 /// A place: what is around it, the last step to it, its type, and the group of its field, whose fields are the document's.
 #[derive(Clone, Copy)]
-pub(crate) struct Place<'p, 's> {
-    pub(crate) around: &'p Path<'p>,
-    pub(crate) step: Step<'p>,
-    pub(crate) ty: &'p TypeRef,
-    pub(crate) group: &'p Group<'s>,
+pub struct Place<'p, 's> {
+    pub around: &'p Path<'p>,
+    pub step: Step<'p>,
+    pub ty: &'p TypeRef,
+    pub group: &'p Group<'s>,
     /// The type of the schema that the place's type names, within all lists.
-    pub(crate) named: Option<&'s ExtendedType>,
+    pub named: Option<&'s ExtendedType>,
 }
 
 impl<'p, 's> Place<'p, 's> {
@@ -38,8 +38,21 @@ impl<'p, 's> Place<'p, 's> {
         Ok(segments)
     }
 
-    /// Lists the error of a fault at this place. Its line and column are looked up in the files. `Err` only when out of
-    /// memory.
+    /// The error of a fault at this place. Its line and column are looked up in the files. `Err` only when out of memory.
+    pub fn error_of(
+        &self,
+        alloc: Global,
+        sources: &SourceMap,
+        fault: RequestError,
+    ) -> Result<GraphQLError, Memory>
+        ensures { IfOk result (λ error. error ≡ spec.listed_at sources.now (spec.place_path self.now) fault) }
+    {
+        let mut error = fault.to_graphql_error(alloc, sources)?;
+        error.path = self.to_segments(alloc)?;
+        Ok(error)
+    }
+
+    /// Lists the error of a fault at this place. `Err` only when out of memory.
     pub(crate) fn list(
         &self,
         alloc: Global,
@@ -49,8 +62,7 @@ impl<'p, 's> Place<'p, 's> {
     ) -> Result<(), Memory>
         ensures { OnOk result (errors.new ≡ errors.old ++ spec.listed_at sources.now (spec.place_path self.now) fault ∷ []) }
     {
-        let mut error = fault.to_graphql_error(alloc, sources)?;
-        error.path = self.to_segments(alloc)?;
+        let error = self.error_of(alloc, sources, fault)?;
         errors.push(error)
     }
 
@@ -68,7 +80,7 @@ impl<'p, 's> Place<'p, 's> {
 }
 
 /// The type of a list's items; at no list's type it stands for itself.
-pub(crate) fn item_of(ty: &TypeRef) -> &TypeRef
+pub fn item_of(ty: &TypeRef) -> &TypeRef
     ensures { result.now ≡ places.item_type ty.now }
 {
     match ty.item_type() {
