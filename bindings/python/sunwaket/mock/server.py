@@ -1,0 +1,192 @@
+"""The server: `/graphql` by GraphQL over HTTP, a page at `/`, and `/status`, where the page learns what is wrong with the files."""
+
+import contextlib
+import json
+import pathlib
+import socket
+import threading
+import time
+from http.server import BaseHTTPRequestHandler, ThreadingHTTPServer
+from urllib.parse import urlsplit
+
+import sunwaket
+
+from . import selections
+from .http_rules import JSON, Fault, accepted, from_address, from_body, parameters, refusal_status
+from .source import Source
+
+# The engine takes at most two megabytes of a thread's stack, and the reading of queries recurs as deep as they are nested.
+STACK = 32 << 20
+
+PAGE = pathlib.Path(__file__).with_name("page.html")
+METHODS = "GET, HEAD, POST, OPTIONS"
+
+
+class MockServer(ThreadingHTTPServer):
+    """A server over a schema and data."""
+
+    daemon_threads = False
+    request_queue_size = 128
+
+    def __init__(self, settings):
+        self.settings, self.source = settings, Source(settings)
+        self.idle, self.lock, self.is_ending = set(), threading.Lock(), False
+        threading.stack_size(STACK)
+        super().__init__((settings.host, settings.port), Handler)
+
+    def waits(self, connection, is_idle):
+        """Notes whether a connection waits for its next request. One that would wait while the server ends is closed."""
+        with self.lock:
+            (self.idle.add if is_idle else self.idle.discard)(connection)
+            if is_idle and self.is_ending:
+                connection.shutdown(socket.SHUT_RD)
+
+    def end(self):
+        """Takes no further request, and lets those that run end."""
+        with self.lock:
+            self.is_ending = True
+            for connection in self.idle:
+                with contextlib.suppress(OSError):
+                    connection.shutdown(socket.SHUT_RD)
+        self.shutdown()
+
+    @property
+    def address(self):
+        """Where the page is."""
+        return f"http://{self.settings.host}:{self.server_address[1]}/"
+
+
+def executed(query, data, name, variables, introspection):
+    """The response, made with handles of this thread's own, so that several threads execute at once."""
+    with query.share() as mine:
+        if not isinstance(data, sunwaket.Data):
+            return mine.execute(data, name, variables, introspection=introspection)
+        with data.share() as own:
+            return mine.execute(own, name, variables, introspection=introspection)
+
+
+class Handler(BaseHTTPRequestHandler):
+    """One connection."""
+
+    protocol_version = "HTTP/1.1"
+    server_version = "sunwaket"
+    sys_version = ""
+    # Headers and body in one packet: else each answer waits for the other side's acknowledgement.
+    wbufsize = 1 << 16
+    disable_nagle_algorithm = True
+
+    def setup(self):
+        self.timeout = self.server.settings.time_limit
+        super().setup()
+
+    def handle_one_request(self):
+        self.server.waits(self.connection, True)
+        try:
+            super().handle_one_request()
+        finally:
+            self.server.waits(self.connection, False)
+
+    def parse_request(self):
+        self.server.waits(self.connection, False)
+        return super().parse_request()
+
+    def do_GET(self):
+        """The page, the status, or a query in the address."""
+        path = urlsplit(self.path).path
+        if path in ("/", "/index.html"):
+            self.answer(200, "text/html", PAGE.read_bytes())
+        elif path == "/status":
+            self.server.source.current()
+            self.answer(200, JSON, json.dumps({"faults": self.server.source.faults}).encode())
+        else:
+            self.respond()
+
+    do_HEAD = do_GET
+
+    def do_POST(self):
+        """A request in the body."""
+        self.respond()
+
+    def do_OPTIONS(self):
+        """The methods, and for pages of other origins what they may send."""
+        headers = {"Allow": METHODS}
+        if self.server.settings.origin:
+            headers |= {"Access-Control-Allow-Methods": METHODS, "Access-Control-Allow-Headers": "Content-Type", "Access-Control-Max-Age": "600"}
+        self.answer(204, None, b"", headers)
+
+    def other(self):
+        """Any other method."""
+        self.close_connection = True
+        self.refuse(JSON, Fault(405, "the method is GET or POST", Allow=METHODS))
+
+    do_PUT = do_DELETE = do_PATCH = other
+
+    def body(self):
+        """The bytes of the request, which are read whatever comes of it, so that the connection can go on."""
+        length = self.headers.get("Content-Length", "")
+        if not length.isdigit():
+            self.close_connection = True
+            raise Fault(411, "the length of the request is missing")
+        if int(length) > self.server.settings.body_limit:
+            self.close_connection = True
+            raise Fault(413, f"the request has more than {self.server.settings.body_limit} bytes")
+        return self.rfile.read(int(length))
+
+    def posted(self, body):
+        """The parameters that the body tells."""
+        kind = self.headers.get_content_type() if self.headers.get("Content-Type") else None
+        return from_body(body, kind, self.headers.get_content_charset() or "utf-8")
+
+    def respond(self):
+        """Answers the request, or says why it is not answered."""
+        kind, parts = JSON, urlsplit(self.path)
+        try:
+            body = self.body() if self.command == "POST" else None
+            if parts.path != "/graphql":
+                raise Fault(404, "there is nothing here but /graphql")
+            kind = accepted(self.headers.get("Accept"))
+            given = from_address(parts.query) if body is None else self.posted(body)
+            self.execute(kind, *parameters(given))
+        except Fault as fault:
+            self.refuse(kind, fault)
+        except sunwaket.Refused as refused:
+            self.answer(refusal_status(kind), kind, refused.json)
+        except MemoryError:
+            self.refuse(kind, Fault(503, "out of memory"))
+        except RecursionError:
+            self.refuse(kind, Fault(400, "the query is nested too deep"))
+
+    def execute(self, kind, text, name, variables):
+        """Answers a query."""
+        settings, served = self.server.settings, self.server.source.current()
+        if served is None:
+            raise Fault(503, "; ".join(self.server.source.faults))
+        query, document = served.query(text)
+        if self.command != "POST" and query.kind(name) not in ("query", None):
+            raise Fault(405, "only queries are executed by GET", Allow="POST, OPTIONS")
+        operation = document.operation(name)
+        if settings.depth is not None and operation and selections.depth(document, operation.selections) > settings.depth:
+            raise Fault(refusal_status(kind), f"the query is nested deeper than {settings.depth}")
+        data = served.data_for(document, name, variables)
+        reply = executed(query, data, name, variables, settings.introspection)
+        time.sleep(settings.latency / 1000)
+        self.answer(200, kind, reply)
+
+    def refuse(self, kind, fault):
+        """Answers with a fault."""
+        self.answer(fault.status, kind, json.dumps({"errors": fault.errors}).encode(), fault.headers)
+
+    def answer(self, status, kind, body, headers=()):
+        """Sends an answer. The body is left out for HEAD."""
+        self.send_response(status)
+        if kind:
+            self.send_header("Content-Type", f"{kind}; charset=utf-8")
+        if status != 204:
+            self.send_header("Content-Length", str(len(body)))
+        if self.server.settings.origin:
+            self.send_header("Access-Control-Allow-Origin", self.server.settings.origin)
+        for name, value in dict(headers).items():
+            self.send_header(name, value)
+        self.end_headers()
+        if self.command != "HEAD":
+            self.wfile.write(body)

@@ -1,0 +1,4 @@
+pub mod Literal
+pub mod ReadBack
+pub mod Said
+pub mod Written
