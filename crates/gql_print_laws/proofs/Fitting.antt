@@ -17,7 +17,7 @@ use Rattle.gql_ast_base.specs.Names.{is_name}
 use Rattle.gql_print_laws.specs.Literal.{Literal, null, variable, int, float, string, truth, name, list, object, Literals, no_literal, literal_then, Pairs, no_pair, pair_then}
 use Rattle.gql_print_laws.specs.Said.{Text, over, under, row_of, words_of}
 use Rattle.gql_print_laws.specs.Written.{content_said, items_said, more_items, pairs_said, more_pairs, IsConstant, AreConstant, ArePairs}
-use Rattle.gql_print_laws.proofs.Numbers.{int_word, float_word}
+use Rattle.gql_print_laws.proofs.NumberWords.{int_word, float_word}
 use Rattle.gql_print_laws.proofs.Named.{name_is_name}
 
 -- a way to write a constant value, and the words of the literal written so

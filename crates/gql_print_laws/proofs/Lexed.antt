@@ -9,21 +9,15 @@ use Rattle.gql_print_laws.specs.Literal.{Literal, null, variable, int, float, st
 use Rattle.gql_print_laws.specs.Said.{Text, Said, over, token, space, under, text_of, IsPiece, Lexes}
 use Rattle.gql_print_laws.specs.Written.{truth_word, content_said, items_said, more_items, pairs_said, more_pairs, Ends, IsConstant, AreConstant, ArePairs}
 use Rattle.gql_print_laws.proofs.Pieces.{Begins, follows, mark_piece, comma_piece, blank_piece, name_piece, name_starts}
-use Rattle.gql_print_laws.proofs.Numbers.{int_alone, float_alone, number_text}
+use Rattle.gql_print_laws.proofs.NumberWords.{number_text}
+use Rattle.gql_print_laws.proofs.Numbers.{int_alone, float_alone}
 use Rattle.gql_print_laws.proofs.Strings.{string_piece}
 
 abbrev Starts : Said → Type 0
 Starts s = (rest : Text) → Begins (text_of s ++ rest)
 
--- a token in front: what comes behind does not matter
-front : (t : Text) (s : Said) (rest : Text) → Begins (t ++ (text_of s ++ rest)) → Begins ((t ++ text_of s) ++ rest)
-front t s rest b = subst Begins (sym (append_assoc t (text_of s) rest)) b
-
 alone : (t : Text) (rest : Text) → Begins (t ++ rest) → Begins ((t ++ []) ++ rest)
 alone t rest b = subst (λ l. Begins (l ++ rest)) (sym (append-nil t)) b
-
-mark_begins : (b : ℕ) (rest : Text) → Begins (b ∷ []) → Begins (b ∷ rest)
-mark_begins b rest h = record { low = h.low; blank = h.blank }
 
 -- each literal begins with a token
 pub starts : (l : Literal) → IsConstant l → Starts (content_said l)
@@ -34,7 +28,7 @@ starts (float t) h rest = let n = number_text t h.0.begins in alone t rest (reco
 starts (string t) h rest = record { low = omega arith; blank = refl }
 starts (truth true) h rest = record { low = omega arith; blank = refl }
 starts (truth false) h rest = record { low = omega arith; blank = refl }
-starts (name t) h rest = subst (λ l. Begins (l ++ rest)) (sym (append-nil (t ++ [])) ) (alone t rest (name_starts t rest h.0))
+starts (name t) h rest = subst (λ l. Begins (l ++ rest)) (sym (append-nil (t ++ []))) (alone t rest (name_starts t rest h.0))
 starts (list ls) h rest = record { low = omega arith; blank = refl }
 starts (object ps) h rest = record { low = omega arith; blank = refl }
 
@@ -89,11 +83,16 @@ truth_name true = refl
 truth_name false = refl
 
 pair_lexes : (k : Text) (l : Literal) → is_name k ≡ true → IsConstant l → (rest : Text) → Lexes (content_said l) rest → Lexes (pair_said k l) rest
-pair_lexes k l n h rest x =
-    (name_piece k _ n (record { low = omega arith; stops = refl }),
-    (mark_piece 58 _ refl (omega arith) (omega arith),
-    (blank_piece _ (value_starts l h over rest),
-    (refl, (x, tt)))))
+pair_lexes k l n h rest x = (
+  name_piece k _ n (record { low = omega arith; stops = refl }),
+  (
+    mark_piece 58 _ refl (omega arith) (omega arith),
+    (
+      blank_piece _ (value_starts l h over rest),
+      (refl, (x, tt)),
+    ),
+  ),
+)
 
 mutual
   pub lexes : (l : Literal) → IsConstant l → (rest : Text) → Ends rest → Lexes (content_said l) rest
@@ -113,10 +112,13 @@ mutual
 
   lexes_more : (ls : Literals) → AreConstant ls → (rest : Text) → Ends rest → Lexes (more_items ls) rest
   lexes_more no_literal h rest e = (mark_piece 93 rest refl (omega arith) e.low, tt)
-  lexes_more (literal_then l ls) h rest e =
-      (comma_piece _ (omega arith),
-      (blank_piece _ (value_starts l h.0 (more_items ls) rest),
-      (refl, (lexes l h.0 (text_of (more_items ls) ++ rest) (items_end ls rest), lexes_more ls h.1 rest e))))
+  lexes_more (literal_then l ls) h rest e = (
+    comma_piece _ (omega arith),
+    (
+      blank_piece _ (value_starts l h.0 (more_items ls) rest),
+      (refl, (lexes l h.0 (text_of (more_items ls) ++ rest) (items_end ls rest), lexes_more ls h.1 rest e)),
+    ),
+  )
 
   lexes_pairs : (ps : Pairs) → ArePairs ps → (rest : Text) → Ends rest → Lexes (pairs_said ps) rest
   lexes_pairs no_pair h rest e = (mark_piece 125 rest refl (omega arith) e.low, tt)
@@ -124,7 +126,10 @@ mutual
 
   lexes_more_pairs : (ps : Pairs) → ArePairs ps → (rest : Text) → Ends rest → Lexes (more_pairs ps) rest
   lexes_more_pairs no_pair h rest e = (mark_piece 125 rest refl (omega arith) e.low, tt)
-  lexes_more_pairs (pair_then k l ps) h rest e =
-      (comma_piece _ (omega arith),
-      (blank_piece _ (pair_starts k l h.0 (more_pairs ps) rest),
-      (refl, (pair_lexes k l h.0 h.1.0 (text_of (more_pairs ps) ++ rest) (lexes l h.1.0 (text_of (more_pairs ps) ++ rest) (pairs_end ps rest)), lexes_more_pairs ps h.1.1 rest e))))
+  lexes_more_pairs (pair_then k l ps) h rest e = (
+    comma_piece _ (omega arith),
+    (
+      blank_piece _ (pair_starts k l h.0 (more_pairs ps) rest),
+      (refl, (pair_lexes k l h.0 h.1.0 (text_of (more_pairs ps) ++ rest) (lexes l h.1.0 (text_of (more_pairs ps) ++ rest) (pairs_end ps rest)), lexes_more_pairs ps h.1.1 rest e)),
+    ),
+  )

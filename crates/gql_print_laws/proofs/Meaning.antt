@@ -18,7 +18,7 @@ use Rattle.gql_print_laws.specs.Said.{Text, Said, text_of, forest_at, IsPiece, L
 use Rattle.gql_print_laws.specs.Written.{truth_word, content_said, items_said, more_items, pairs_said, more_pairs, IsConstant, AreConstant, ArePairs}
 use Rattle.gql_print_laws.proofs.Rest.{Rest, cut, boundary}
 use Rattle.gql_print_laws.proofs.Laid.{piece_leaf, first_part, second_part}
-use Rattle.gql_print_laws.proofs.Numbers.{int_stands, float_stands}
+use Rattle.gql_print_laws.proofs.NumberWords.{int_stands, float_stands}
 use Rattle.gql_print_laws.proofs.Strings.{string_stands}
 
 -- ---- levels of literals
@@ -259,7 +259,7 @@ module _ (text : Text) (file : FileId) where
         let a = second_part text n (44 ∷ []) (32 ∷ behind) rest r in
         let b = second_part text (n + 1) (32 ∷ []) behind rest a in
         let m = item_more l ls _ _ (means l h.0 at (text_of (more_items ls) ++ rest) (inner_rest at (content_said l) (more_items ls) rest b) x.1.1.1.0)
-            (more_mean ls h.1 (at + length (text_of (content_said l))) rest (second_part text at (text_of (content_said l)) (text_of (more_items ls)) rest b) x.1.1.1.1) in
+        (more_mean ls h.1 (at + length (text_of (content_said l))) rest (second_part text at (text_of (content_said l)) (text_of (more_items ls)) rest b) x.1.1.1.1) in
         record { found = m.found; is = past_spaces _ _ _ _ (tree_then kind.Value 0 0 (forest_at at (content_said l)) (forest_at (at + length (text_of (content_said l))) (more_items ls))) ∙ m.is; same = m.same }
 
     pairs_mean : (ps : Pairs) → ArePairs ps → (n : ℕ) (rest : Text) → Rest text n (text_of (pairs_said ps) ++ rest) → Lexes (pairs_said ps) rest → PairsMean ps (forest_at n (pairs_said ps))

@@ -43,14 +43,14 @@ reads_back l file h =
     record {
       read = m.found;
       is = record {
-      children = forest_at 0 s;
-      tree = record {
-        tiles = subst (λ k. Tiles text 0 (leaves (forest_at 0 s)) k) long (laid text s 0 [] r x);
-        sentence = tree rule.ConstValue kind.Value v.way refl v.one
-            (subst (λ ws. Fits v.way ws (shown text (forest_at 0 s)) []) (sym (words_are text s 0 [] r x))
-            (subst (λ y. Fits v.way (words_of s) y []) (sym (shown_is text s 0 [] r x)) f)) done;
-      };
-      means = m.is;
+        children = forest_at 0 s;
+        tree = record {
+          tiles = subst (λ k. Tiles text 0 (leaves (forest_at 0 s)) k) long (laid text s 0 [] r x);
+          sentence = tree rule.ConstValue kind.Value v.way refl v.one
+              (subst (λ ws. Fits v.way ws (shown text (forest_at 0 s)) []) (sym (words_are text s 0 [] r x))
+              (subst (λ y. Fits v.way (words_of s) y []) (sym (shown_is text s 0 [] r x)) f)) done;
+        };
+        means = m.is;
       };
       same = m.same;
     }

@@ -78,7 +78,6 @@ control_value b small rest =
     let low : hex_value (digit_char (b % 16)) ≡ b % 16 = hex_of_digit (b % 16) (omega arith) in
     omega (arith, high, low)
 
-
 control_unit : (b : ℕ) → b < 32 → (rest : Text) → is_unit (control b rest) 2 ≡ true
 unfolding is_unit
 control_unit b small rest =
@@ -178,19 +177,19 @@ each_item b =
                                                 | inl e ↦ subst Item (sym e) tab_item
                                                 | inr tab ↦ control_item b small (no_short b quote backslash backspace form_feed line_feed return tab)
                                               ]
-                                            )
+                                              )
                                         ]
-                                      )
+                                        )
                                   ]
-                                )
+                                  )
                             ]
-                          )
+                            )
                       ]
-                    )
+                      )
                 ]
-              )
+                )
           ]
-        )
+          )
     ]
 
 -- ---- rows of items
@@ -298,9 +297,9 @@ block_not (b ∷ t) =
     let s : (slice_index ((escaped b ++ inside t) ++ 34 ∷ []) 0 == 0x22) ≡ false = ap (λ l. slice_index l 0 == 0x22) j ∙ f in
     let k : is_block_quote (quoted (b ∷ t)) 0 ≡ false = rw s refl in
     and_false (nat_le 6 (length (quoted (b ∷ t)))) (is_block_quote (quoted (b ∷ t)) 0) (is_block_quote (quoted (b ∷ t)) (length (quoted (b ∷ t)) - 3)) k where
-  and_false : (x y z : Bool) → y ≡ false → ((x && y) && z) ≡ false
-  and_false true y z h = rw h refl
-  and_false false y z h = refl
+      and_false : (x y z : Bool) → y ≡ false → ((x && y) && z) ≡ false
+      and_false true y z h = rw h refl
+      and_false false y z h = refl
 
 pub string_stands : (t : Text) → string_text (quoted t) ≡ t
 unfolding string_text values

@@ -8,7 +8,8 @@ use Rattle.gql_grammar.specs.declared.symbol.Terminal.TheVariants.{NameButLitera
 use Rattle.gql_grammar.specs.Word.{takes}
 use Rattle.gql_cst.specs.Words.{word_of}
 use Rattle.gql_ast_base.specs.Names.{is_name}
-use Rattle.gql_print_laws.specs.Literal.{Literal, null, variable, int, float, string, truth, name, list, object, Literals, no_literal, literal_then, Pairs, no_pair, pair_then}
+use Rattle.gql_print_laws.specs.Literal.{Literal, null, variable, int, float, string, truth, name, list, object}
+use Rattle.gql_print_laws.specs.Literal.{Literals, no_literal, literal_then, Pairs, no_pair, pair_then}
 use Rattle.gql_print_laws.specs.Said.{Text, Said, over, token, space, under}
 use Rattle.jb_print.specs.Quoted.{quoted}
 
@@ -39,7 +40,8 @@ abbrev mutual
 
   pub pairs_said : Pairs → Said
   pairs_said no_pair = token (codes "}") over
-  pairs_said (pair_then k l ps) = under kind.ObjectField (token k (token (codes ":") (space (codes " ") (under kind.Value (content_said l) over)))) (more_pairs ps)
+  pairs_said (pair_then k l ps) =
+      under kind.ObjectField (token k (token (codes ":") (space (codes " ") (under kind.Value (content_said l) over)))) (more_pairs ps)
 
   pub more_pairs : Pairs → Said
   more_pairs no_pair = token (codes "}") over

@@ -30,7 +30,7 @@ returns c =
     let law = c.texts_have_one_tree.ensures in
     λ text file one other h k.
     one_kind (placed file h.children one) (placed file k.children other)
-        (sym (value_is text file h.children one h.means)
-        ∙ node_once (value-blind text file) kind.Value refl (tree kind.Value 0 0 h.children) (tree kind.Value 0 0 k.children) refl refl
-        (law.ends ConstValue text h.children h.tree) (law.ends ConstValue text k.children k.tree) (law.tree ConstValue text h.children k.children h.tree k.tree)
-        ∙ value_is text file k.children other k.means)
+    (sym (value_is text file h.children one h.means)
+    ∙ node_once (value-blind text file) kind.Value refl (tree kind.Value 0 0 h.children) (tree kind.Value 0 0 k.children) refl refl
+    (law.ends ConstValue text h.children h.tree) (law.ends ConstValue text k.children k.tree) (law.tree ConstValue text h.children k.children h.tree k.tree)
+    ∙ value_is text file k.children other k.means)
