@@ -138,7 +138,7 @@ number_quote b h = grind (arith, nat_tests, h)
 
 -- ---- the parts of a number are the same with something behind it
 
-pub whole_at : Text → ℕ → ℕ
+unfoldable pub whole_at : Text → ℕ → ℕ
 whole_at t s = if slice_index t s == 0x30 then s + 1 else digits t s
 
 whole_other : (t : Text) (s : ℕ) → (slice_index t s == 0x30) ≡ false → whole_at t s ≡ digits t s

@@ -5,6 +5,7 @@ use Rattle.gql_source.specs.declared.file_id.FileId.{FileId}
 use Rattle.gql_grammar.specs.declared.rule.Rule.TheVariants.{ConstValue}
 use Rattle.gql_grammar.specs.declared.syntax_kind.SyntaxKind.TheVariants as kind
 use Rattle.gql_cst.specs.Forest.{Forest}
+use Rattle.gql_ast_base.specs.Kinds.{is_kind}
 use Rattle.gql_ast_base.specs.Parts.{head, location}
 use Rattle.gql_ast_base.specs.Values.{contents, value_of, value_step}
 use Rattle.gql_ast_base.specs.declared.value.Value.{Value}
@@ -19,7 +20,7 @@ placed file children found = record { kind = found; location = location file (tr
 
 value_is : (text : List ℕ) (file : FileId) (children : Forest) (found : ValueKind) → head (contents text file children) ≡ Some found
     → value_of text file (tree kind.Value 0 0 children) ≡ Some (placed file children found)
-unfolding value_step
+unfolding value_step is_kind
 value_is text file children found h = rw (h) refl
 
 one_kind : (a b : Value) → Some a ≡ Some b → a.kind ≡ b.kind
