@@ -1,0 +1,2 @@
+pub mod Covariant
+pub mod Merge
