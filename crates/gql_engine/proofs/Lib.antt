@@ -1,5 +1,6 @@
 mod Results
 mod InTurn
+mod KeptTexts
 mod Causes
 mod Runs
 mod Responses

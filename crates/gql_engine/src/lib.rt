@@ -30,6 +30,7 @@ mod response_bytes;
 mod service;
 mod steps_before;
 mod task;
+mod text_in;
 mod uncounted;
 mod wanted;
 
@@ -69,7 +70,9 @@ pub mod executable {
 /// The rules on schemas and documents, and marks of what passed them (sections 3 and 5).
 pub mod validation {
     pub use gql_diag::{DiagnosticList, WithErrors};
-    pub use gql_rules::{validate_document, validate_standalone};
+    pub use gql_rules::{
+        PossibleTypes, validate_document, validate_document_with, validate_standalone,
+    };
     pub use gql_schema_rules::{check_arguments, check_directives, check_literal, validate_schema};
     pub use gql_schema_types::Valid;
 }
@@ -85,7 +88,7 @@ pub mod diagnostic {
 
 /// Texts, with their files and places, and what they stand for.
 pub mod parser {
-    pub use gql_parser::{Parser, document_of_text, schema_of_text};
+    pub use gql_parser::{Parser, document_of_text, document_of_text_with, schema_of_text};
     pub use gql_source::{
         FileId, FileIds, LineColumn, LineCursor, SourceFile, SourceMap, SourceSpan,
     };

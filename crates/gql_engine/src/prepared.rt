@@ -2,6 +2,7 @@
 
 ghost use Rattle.std.specs.Prelude.{◌≡◌, IfOk};
 ghost use Rattle.gql_engine.specs.AnswerError.{call_by, call_of};
+ghost use Rattle.gql_engine.specs.AtHand.{IsDocumentOver};
 ghost use Rattle.gql_engine.specs.Answering.{AnswersWithin, GivesAnswer};
 ghost use Rattle.gql_engine.specs.Meant.{AreMeant};
 ghost use Rattle.gql_engine.specs.Service.{IsPreparationOf};
@@ -12,15 +13,16 @@ use crate::call::Call;
 use crate::made::Made;
 use crate::meaning::Texts;
 use crate::service::Service;
+use crate::text_in::{QUERY_FILE, text_in};
 use crate::uncounted::answer_alone;
 use bytes::Bytes;
 use gql_collect::Steps;
 use gql_diag::DiagnosticList;
 use gql_document_types::ExecutableDocument;
-use gql_parser::{document_of_text, laws as text_laws};
+use gql_parser::{document_of_text_with, laws as text_laws};
 use gql_resolvers::ObjectValue;
 use gql_schema_types::Valid;
-use jb_tree::{Refused, Text};
+use jb_tree::Refused;
 use std::alloc::Global;
 use std::marker::{Brand, Model};
 use std::sync::ledger::{Blank, Ledger};
@@ -30,7 +32,6 @@ use std::sync::ledger::{Blank, Ledger};
 /// A contract sees the texts of the schema and of the query.
 pub struct Prepared<'s> {
     service: &'s Service,
-    query: Text,
     document: Valid<ExecutableDocument>,
 }
 
@@ -38,20 +39,19 @@ impl<'s> Drop for Prepared<'s> {
     fn drop(self) {
         let Prepared {
             service: _,
-            query: _,
             document: _,
         } = self;
     }
 }
 
 impl<'s> Model for Prepared<'s> {
-    ghost use Rattle.gql_engine.specs.AtHand.{IsDocumentOver, TwoTexts};
+    ghost use Rattle.gql_engine.specs.AtHand.{IsDocumentOver, TwoTexts, query_text_in};
 
     ghost Value = { TwoTexts };
 
-    ghost view = { λ prepared. record { schema = prepared.service.now; query = prepared.query } };
+    ghost view = { λ prepared. record { schema = prepared.service.now; query = query_text_in prepared.document } };
 
-    ghost invariant = { λ prepared. IsDocumentOver prepared.service.now prepared.query prepared.document };
+    ghost invariant = { λ prepared. IsDocumentOver prepared.service.now (query_text_in prepared.document) prepared.document };
 }
 
 impl<'s> Prepared<'s> {
@@ -64,12 +64,9 @@ impl<'s> Prepared<'s> {
         ensures { IsPreparationOf service.now query.now result }
     {
         text_laws::texts_have_one_schema();
-        match document_of_text(alloc, service.schema(), query) {
-            Ok(document) => Ok(Prepared {
-                service,
-                query: Text::from_str(alloc, query)?,
-                document: Valid::assume_valid(document),
-            }),
+        let possible = service.possible_types();
+        match document_of_text_with(alloc, service.schema(), possible, query) {
+            Ok(document) => Ok(Prepared { service, document }),
             Err(Refused::Fault(list)) => Err(Refused::Fault(list)),
             Err(Refused::Memory) => Err(Refused::Memory),
         }
@@ -83,12 +80,24 @@ impl<'s> Prepared<'s> {
         self.service.schema_text()
     }
 
-    /// The text of the query.
+    /// The text of the query. The document has it in its file, so it is kept once.
     #[must_use]
     pub fn query_text(&self) -> &str
         ensures { result.now ≡ self.now.query }
     {
-        self.query.as_str()
+        text_in(&self.document.as_ref().sources, QUERY_FILE)
+    }
+
+    /// What the query means against the schema, by itself.
+    #[must_use]
+    pub fn into_document(self) -> Valid<ExecutableDocument>
+        ensures { IsDocumentOver self.schema self.query result }
+    {
+        let Prepared {
+            service: _,
+            document,
+        } = self;
+        document
     }
 
     /// What both texts mean.

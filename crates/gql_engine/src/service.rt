@@ -6,6 +6,7 @@ ghost use Rattle.std.specs.Str.{bytes_eq};
 ghost use Rattle.gql_engine.specs.Answering.{AnswersWithin, GivesAnswer};
 ghost use Rattle.gql_engine.specs.Service.{IsPreparationOf, IsServiceOf, asked_of};
 ghost use Rattle.gql_parser.specs.SchemaText.{SchemaText};
+ghost use Rattle.gql_rules_nodes.specs.PossibleTable.{ArePossibleIn};
 ghost use Rattle.gql_schema_types.specs.Implementers.{implementers_of};
 ghost use Rattle.gql_schema_types.specs.declared.schema.Schema.{Schema as SchemaOf};
 
@@ -14,14 +15,16 @@ use crate::answering::answer_call;
 use crate::made::Made;
 use crate::prepared::Prepared;
 use crate::question::Question;
+use crate::text_in::{SCHEMA_FILE, text_in};
 use crate::uncounted::answer_alone;
 use bytes::Bytes;
 use gql_collect::Steps;
 use gql_diag::DiagnosticList;
 use gql_parser::{laws as text_laws, schema_of_text};
 use gql_resolvers::ObjectValue;
+use gql_rules::PossibleTypes;
 use gql_schema_types::{ImplementersMap, Schema, Valid};
-use jb_tree::{Memory, Refused, Text};
+use jb_tree::{Memory, Refused};
 use std::alloc::Global;
 use std::marker::{Brand, Model};
 use std::sync::ledger::{Blank, Ledger};
@@ -30,30 +33,28 @@ use std::sync::ledger::{Blank, Ledger};
 ///
 /// A contract sees the text of its schema.
 pub struct Service {
-    text: Text,
     schema: Valid<Schema>,
-    implementers: ImplementersMap,
+    possible: PossibleTypes,
 }
 
 impl Drop for Service {
     fn drop(self) {
         let Service {
-            text: _,
             schema: _,
-            implementers: _,
+            possible: _,
         } = self;
     }
 }
 
 impl Model for Service {
     ghost use Rattle.std.specs.Prelude.{List, ℕ};
-    ghost use Rattle.gql_engine.specs.AtHand.{IsAtHand};
+    ghost use Rattle.gql_engine.specs.AtHand.{IsAtHand, schema_text_in};
 
     ghost Value = { List ℕ };
 
-    ghost view = { λ service. service.text };
+    ghost view = { λ service. schema_text_in service.schema };
 
-    ghost invariant = { λ service. IsAtHand service.text service.schema service.implementers };
+    ghost invariant = { λ service. IsAtHand (schema_text_in service.schema) service.schema service.possible };
 }
 
 impl Service {
@@ -67,31 +68,28 @@ impl Service {
         ensures { IsServiceOf schema_text.now result }
     {
         match schema_of_text(alloc, schema_text) {
-            Ok(schema) => Ok(Service::of_schema(alloc, schema_text, schema)?),
+            Ok(schema) => Ok(Service::of_schema(alloc, schema)?),
             Err(Refused::Fault(list)) => Err(Refused::Fault(list)),
             Err(Refused::Memory) => Err(Refused::Memory),
         }
     }
 
-    /// The service of a schema that this text means.
-    fn of_schema(alloc: Global, text: &str, schema: Schema) -> Result<Service, Memory>
-        requires { SchemaText text.now schema }
-        ensures { IfOk result (λ service. service ≡ text.now) }
+    /// The service of a schema that some text means.
+    fn of_schema(alloc: Global, schema: Valid<Schema>) -> Result<Service, Memory>
+        ghost text: { List ℕ }
+        requires { SchemaText text schema }
+        ensures { IfOk result (λ service. service ≡ text) }
     {
-        let implementers = schema.implementers_map(alloc)?;
-        Ok(Service {
-            text: Text::from_str(alloc, text)?,
-            schema: Valid::assume_valid(schema),
-            implementers,
-        })
+        let possible = PossibleTypes::new(alloc, schema.as_ref())?;
+        Ok(Service { schema, possible })
     }
 
-    /// The text of the schema.
+    /// The text of the schema. The schema has it in its file, so it is kept once.
     #[must_use]
     pub fn schema_text(&self) -> &str
         ensures { result.now ≡ self.now }
     {
-        self.text.as_str()
+        text_in(&self.schema.as_ref().sources, SCHEMA_FILE)
     }
 
     /// The schema that the text means.
@@ -102,14 +100,22 @@ impl Service {
         &self.schema
     }
 
+    /// The objects that are possible for each type of the schema.
+    #[must_use]
+    pub fn possible_types(&self) -> &PossibleTypes
+        ensures { (schema : SchemaOf) → SchemaText self.now schema → ArePossibleIn schema.types result.now }
+    {
+        text_laws::texts_have_one_schema();
+        &self.possible
+    }
+
     /// Which types implement each interface of the schema.
     #[must_use]
     pub fn implementers_map(&self) -> &ImplementersMap
         ensures { (schema : SchemaOf) → SchemaText self.now schema
             → (name : List ℕ) → lookup (bytes_eq name) result.now ≡ implementers_of name schema.types }
     {
-        text_laws::texts_have_one_schema();
-        &self.implementers
+        self.possible_types().implementers_map()
     }
 
     /// Answers a request, as [`answer`](crate::answer) does with the text of the schema: the same bytes, and the same looks on

@@ -1,5 +1,5 @@
 -- What a document without a fault gives execution.
-use Rattle.std.proofs.Common.{◌≡◌, ◌<◌, ◌+◌, ℕ, zero, suc, Bool, true, false, if◌then◌else◌, List, [], ◌∷◌, length, flat_map, Option, Some, None, All, refl, sym, ◌∙◌, ap, subst, arith}
+use Rattle.std.proofs.Common.{◌≡◌, ◌<◌, ◌+◌, ℕ, zero, suc, Bool, true, false, if◌then◌else◌, List, [], ◌∷◌, length, flat_map, Option, Some, None, All, Result, Ok, Err, IfOk, refl, sym, ◌∙◌, ap, subst, arith}
 use Rattle.std.specs.Option.{option_map_or}
 use Rattle.std.proofs.lemmas.List.{length-map}
 use Rattle.std.proofs.lemmas.List.Elements.{All-append, All-cons, All-nil}
@@ -27,6 +27,9 @@ use Rattle.gql_graph.specs.Graph.{Graph}
 use Rattle.gql_graph.proofs.Walks.{from_node}
 use Rattle.gql_graph.specs.Ranks.{IsRanked}
 use Rattle.gql_schema_types.specs.declared.schema.Schema.{Schema}
+use Rattle.jb_text.specs.declared.refused.Refused.{Refused}
+use Rattle.gql_diag.specs.List.{Diagnostics}
+use Rattle.gql_parser.specs.DocumentAnswers.{IsDocumentAnswer}
 use Rattle.gql_parser.specs.DocumentText.{DocumentText, AreDefinitions}
 use Rattle.gql_parser.specs.Running.{AreOnRoots, IsOnRoot}
 use Rattle.gql_parser.proofs.Phases.{front_none, back_none}
@@ -79,6 +82,11 @@ no_cycle fragments are v cycle =
 
 pub acyclic : (schema : Schema) (text : List ℕ) (document : ExecutableDocument) → DocumentText schema text document → AreAcyclic document.fragments
 acyclic schema text document means = no_cycle document.fragments (none_recursive schema document means.holds)
+
+pub acyclic_answer : (schema : Schema) (text : List ℕ) (result : Result ExecutableDocument (Refused Diagnostics)) → IsDocumentAnswer schema text result
+    → IfOk result (λ (document : ExecutableDocument). AreAcyclic document.fragments)
+acyclic_answer schema text (Ok document) means = acyclic schema text document means
+acyclic_answer schema text (Err refused) answer = tt
 
 abbrev pub RanksLaw : Type 0
 RanksLaw = (g : Graph) → ((v : ℕ) → IsOnCycle g v → ⊥) → (rank : ℕ → ℕ) × IsRanked g rank

@@ -54,7 +54,7 @@ mod parser;
 mod schema_reading;
 mod stopped;
 
-pub use document_reading::document_of_text;
+pub use document_reading::{document_of_text, document_of_text_with};
 pub use jb_text::Memory;
 pub use parser::Parser;
 pub use schema_reading::schema_of_text;

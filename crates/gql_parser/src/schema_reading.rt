@@ -11,7 +11,7 @@ use gql_ast::Document;
 use gql_diag::{DiagnosticData, DiagnosticList};
 use gql_schema::SchemaBuilder;
 use gql_schema_rules::validate_schema;
-use gql_schema_types::Schema;
+use gql_schema_types::{Schema, Valid};
 use gql_source::{FileIds, SourceMap};
 use jb_text::{Memory, Refused};
 use std::alloc::{AllocError, Global};
@@ -25,7 +25,7 @@ use std::alloc::{AllocError, Global};
 /// The diagnostics of the first phase that finds something, exactly where one does: the one that ends the reading of the
 /// text, or those of the build, or those of the rules, in the order of lists and with the built-in file and the text's.
 /// Otherwise only when out of memory.
-pub fn schema_of_text(alloc: Global, text: &str) -> Result<Schema, Refused<DiagnosticList>>
+pub fn schema_of_text(alloc: Global, text: &str) -> Result<Valid<Schema>, Refused<DiagnosticList>>
     ensures { IsSchemaRead text.now result }
 {
     let schema = build_read(alloc, text)?;
@@ -122,14 +122,14 @@ fn built_in_schema(alloc: Global) -> Result<Schema, Memory>
 }
 
 /// The schema as validation leaves it, if every rule holds.
-fn ruled(alloc: Global, schema: Schema) -> Result<Schema, Refused<DiagnosticList>>
+fn ruled(alloc: Global, schema: Schema) -> Result<Valid<Schema>, Refused<DiagnosticList>>
     ensures { IsRuled schema result }
 {
     let mut schema = schema;
     let mut errors = DiagnosticList::new(alloc, schema.sources.copy(alloc)?);
     validate_schema(alloc, &mut schema, &mut errors)?;
     if errors.is_empty() {
-        Ok(schema)
+        Ok(Valid::assume_valid(schema))
     } else {
         Err(Refused::Fault(errors))
     }

@@ -2,7 +2,8 @@
 //!
 //! [`validate_document`] lists what is wrong with a document by its schema: one diagnostic for each fault of each rule, in the
 //! order of lists. Spreads that lead nowhere, back or too far come first: where there are some, nothing else is looked at. Each
-//! rule has a file of its own here and in the crates below, and in `specs/`, named after it.
+//! rule has a file of its own here and in the crates below, and in `specs/`, named after it. [`validate_document_with`] takes the
+//! [`PossibleTypes`] of the schema, which are made once where many documents are checked.
 //!
 //! The rules on the uses of variables (sections 5.8.3 to 5.8.5) are those of this crate: uses of variables that are not defined,
 //! variables that are not used, and uses where values of the variable's type may not stand, or null may not, as in a literal of a
@@ -39,6 +40,7 @@ mod value_uses;
 mod variable_faults;
 mod variables;
 
+pub use gql_rules_nodes::PossibleTypes;
 pub use jb_text::Memory;
 pub use standalone::validate_standalone;
-pub use validate::validate_document;
+pub use validate::{validate_document, validate_document_with};

@@ -3,7 +3,7 @@
 ghost use Rattle.std.specs.Prelude.{◌≡◌, ◌++◌, OnOk};
 ghost use Rattle.gql_rules_nodes.specs.InvalidFragmentSpread as spec;
 
-use crate::possible_types::PossibleTypes;
+use crate::known_types::KnownTypes;
 use gql_diag_messages::{DiagnosticData, Rule};
 use gql_document_types::{Fragment, FragmentSpread};
 use gql_rules_values::list_fault;
@@ -16,19 +16,19 @@ use std::alloc::Global;
 /// has no type.
 pub(crate) fn list_invalid_spread(
     alloc: Global,
-    possible: &PossibleTypes<'_>,
+    known: &KnownTypes<'_>,
     fragments: &Table<Fragment>,
     parent: &str,
     spread: &FragmentSpread,
     faults: &mut Listed<DiagnosticData>,
 ) -> Result<(), Memory>
     ensures { OnOk result (faults.new
-        ≡ faults.old ++ spec.spread_at possible.now.schema.now.types fragments.now parent.now spread.now.fragment_name.text spread.now.location) }
+        ≡ faults.old ++ spec.spread_at known.now.schema.now.types fragments.now parent.now spread.now.fragment_name.text spread.now.location) }
 {
     match fragments.get(spread.fragment_name.as_str()) {
         Some(fragment) => list_invalid_fragment_spread(
             alloc,
-            possible,
+            known,
             spread.fragment_name.as_str(),
             parent,
             fragment.selection_set.ty.as_str(),
@@ -43,16 +43,16 @@ pub(crate) fn list_invalid_spread(
 /// stands in and for its condition.
 pub(crate) fn list_invalid_fragment_spread(
     alloc: Global,
-    possible: &PossibleTypes<'_>,
+    known: &KnownTypes<'_>,
     name: &str,
     parent: &str,
     condition: &str,
     place: Option<SourceSpan>,
     faults: &mut Listed<DiagnosticData>,
 ) -> Result<(), Memory>
-    ensures { OnOk result (faults.new ≡ faults.old ++ spec.invalid_spread possible.now.schema.now.types name.now parent.now condition.now place) }
+    ensures { OnOk result (faults.new ≡ faults.old ++ spec.invalid_spread known.now.schema.now.types name.now parent.now condition.now place) }
 {
-    if possible.can_meet(parent, condition) {
+    if known.can_meet(parent, condition) {
         Ok(())
     } else {
         list_fault(

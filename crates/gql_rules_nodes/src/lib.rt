@@ -6,7 +6,7 @@
 //! [`Visitor`] says what it finds at one node; [`walk_document`] adds all that it finds, in the order of the nodes.
 //!
 //! - [`list_document_nodes`] lists what is wrong with each node of a document by itself: one diagnostic for each fault of each
-//!   rule, by one walk.
+//!   rule, by one walk. The [`PossibleTypes`] that it asks follow from the schema alone, and serve any number of documents.
 //! - [`list_spread_faults`] lists spreads that lead nowhere, back or too far, without which no other rule on documents makes
 //!   sense; [`list_unused_fragments`] lists fragments that no operation reaches (section 5.5).
 //!
@@ -18,6 +18,7 @@ mod composite;
 mod document_nodes;
 mod invalid_fragment_spread;
 mod invalid_fragment_target;
+mod known_types;
 mod missing_subselection;
 mod node_rules;
 mod possible_types;
@@ -36,6 +37,7 @@ mod ways;
 
 pub use document_nodes::list_document_nodes;
 pub use jb_text::Memory;
+pub use possible_types::PossibleTypes;
 pub use reaching::{is_reached, reached};
 pub use spread_faults::list_spread_faults;
 pub use unique_variable::list_unique_variable;

@@ -5,8 +5,8 @@ ghost use Rattle.gql_rules_nodes.specs.DocumentNodes as spec;
 
 use crate::invalid_fragment_spread::{list_invalid_fragment_spread, list_invalid_spread};
 use crate::invalid_fragment_target::list_invalid_fragment_target;
+use crate::known_types::KnownTypes;
 use crate::missing_subselection::list_missing_subselection;
-use crate::possible_types::PossibleTypes;
 use crate::variables::list_variables;
 use crate::visitor::Visitor;
 use gql_ast_base::{Directive, Name, OperationType};
@@ -22,7 +22,7 @@ use std::alloc::Global;
 #[derive(Clone, Copy)]
 pub(crate) struct NodeRules<'d> {
     pub(crate) alloc: Global,
-    pub(crate) possible: &'d PossibleTypes<'d>,
+    pub(crate) known: &'d KnownTypes<'d>,
     pub(crate) fragments: &'d Table<Fragment>,
 }
 
@@ -31,7 +31,7 @@ impl Visitor for NodeRules<'_> {
 
     ghost use Rattle.gql_rules_nodes.specs.DocumentNodes.{node_faults};
 
-    ghost at = { λ rules. node_faults rules.possible.now.schema.now rules.fragments.now };
+    ghost at = { λ rules. node_faults rules.known.now.schema.now rules.fragments.now };
 
     fn operation(
         &self,
@@ -45,7 +45,7 @@ impl Visitor for NodeRules<'_> {
         )?;
         list_variables(
             self.alloc,
-            self.possible.schema,
+            self.known.schema,
             operation.variables.as_slice(),
             faults,
         )
@@ -63,7 +63,7 @@ impl Visitor for NodeRules<'_> {
         )?;
         list_invalid_fragment_target(
             self.alloc,
-            &self.possible.schema.types,
+            &self.known.schema.types,
             fragment.name.as_str(),
             fragment.selection_set.ty.as_str(),
             fragment.location,
@@ -79,7 +79,7 @@ impl Visitor for NodeRules<'_> {
     ) -> Result<(), Memory> {
         self.list_directives(DirectiveLocation::Field, &field.directives, faults)?;
         self.list_arguments(field, faults)?;
-        list_missing_subselection(self.alloc, &self.possible.schema.types, field, faults)
+        list_missing_subselection(self.alloc, &self.known.schema.types, field, faults)
     }
 
     fn spread(
@@ -95,7 +95,7 @@ impl Visitor for NodeRules<'_> {
         )?;
         list_invalid_spread(
             self.alloc,
-            self.possible,
+            self.known,
             self.fragments,
             ty.as_str(),
             spread,
@@ -126,12 +126,12 @@ impl NodeRules<'_> {
         directives: &Listed<Directive>,
         faults: &mut Listed<DiagnosticData>,
     ) -> Result<(), Memory>
-        ensures { OnOk result (faults.new ≡ faults.old ++ spec.directives_at self.now.possible.now.schema.now location directives.now) }
+        ensures { OnOk result (faults.new ≡ faults.old ++ spec.directives_at self.now.known.now.schema.now location directives.now) }
     {
         list_directives(
             self.alloc,
             Defined::Types,
-            self.possible.schema,
+            self.known.schema,
             location,
             directives.as_slice(),
             faults,
@@ -144,7 +144,7 @@ impl NodeRules<'_> {
         field: &Field,
         faults: &mut Listed<DiagnosticData>,
     ) -> Result<(), Memory>
-        ensures { OnOk result (faults.new ≡ faults.old ++ spec.arguments_at self.now.possible.now.schema.now field.now) }
+        ensures { OnOk result (faults.new ≡ faults.old ++ spec.arguments_at self.now.known.now.schema.now field.now) }
     {
         let call = Call {
             directive: false,
@@ -154,7 +154,7 @@ impl NodeRules<'_> {
         list_arguments(
             self.alloc,
             Defined::Types,
-            &self.possible.schema.types,
+            &self.known.schema.types,
             &call,
             field.definition.arguments.as_slice(),
             field.arguments.as_slice(),
@@ -169,7 +169,7 @@ impl NodeRules<'_> {
         fragment: &InlineFragment,
         faults: &mut Listed<DiagnosticData>,
     ) -> Result<(), Memory>
-        ensures { OnOk result (faults.new ≡ faults.old ++ spec.condition_at self.now.possible.now.schema.now.types ty.now fragment.now) }
+        ensures { OnOk result (faults.new ≡ faults.old ++ spec.condition_at self.now.known.now.schema.now.types ty.now fragment.now) }
     {
         match &fragment.type_condition {
             Some(condition) => self.list_present_condition(ty, fragment, condition, faults),
@@ -185,11 +185,11 @@ impl NodeRules<'_> {
         condition: &Name,
         faults: &mut Listed<DiagnosticData>,
     ) -> Result<(), Memory>
-        ensures { OnOk result (faults.new ≡ faults.old ++ spec.one_condition self.now.possible.now.schema.now.types ty.now fragment.now.location condition.now) }
+        ensures { OnOk result (faults.new ≡ faults.old ++ spec.one_condition self.now.known.now.schema.now.types ty.now fragment.now.location condition.now) }
     {
         list_invalid_fragment_target(
             self.alloc,
-            &self.possible.schema.types,
+            &self.known.schema.types,
             "",
             condition.as_str(),
             fragment.location,
@@ -197,7 +197,7 @@ impl NodeRules<'_> {
         )?;
         list_invalid_fragment_spread(
             self.alloc,
-            self.possible,
+            self.known,
             "",
             ty.as_str(),
             condition.as_str(),

@@ -14,7 +14,7 @@ pub returns-then-is_empty : goal.returns-then-is_empty
 returns-then-is_empty c = (
   none_broken c.args.schema c.new-errors.result.items c.validate_schema.new.errors.items (ap (λ (d : Diagnostics). d.items) c.new-errors.ensures)
       c.in_ok-validate_schema.ensures.faults (c.is_empty.ensures.0 c.if-is_empty.true),
-  c.in_ok-validate_schema.ensures.schema,
+  c.assume_valid.ensures ∙ c.in_ok-validate_schema.ensures.schema,
 )
 
 pub returns-else-is_empty : goal.returns-else-is_empty

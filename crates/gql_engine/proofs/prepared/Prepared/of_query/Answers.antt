@@ -1,13 +1,15 @@
--- What the prover leaves open of `Prepared::of_query`: a text means one schema at most, so the document is over each that it means.
+-- What the prover leaves open of `Prepared::of_query`: the document has its text, and a text means one schema at most, so the document
+-- is over each that it means.
 use Rattle.std.proofs.Common.{◌≡◌, ℕ, List, sym, subst}
-use Rattle.gql_document_types.specs.declared.document.ExecutableDocument.{ExecutableDocument}
 use Rattle.gql_parser.specs.DocumentText.{DocumentText}
 use Rattle.gql_schema_types.specs.declared.schema.Schema.{Schema}
+use Rattle.gql_engine.proofs.KeptTexts.{query_text-kept}
 use Rattle.gql_engine.proofs.prepared.Prepared.of_query.Goals as goal
 
 pub invariant_of-result : goal.invariant_of-result
 invariant_of-result c = λ schema means.
+    let document = c.in-Ok.document in
+    let answer = c.in-Ok.ensures.answer in
     let one : c.schema.result.now ≡ schema = c.texts_have_one_schema.ensures.schema c.args.service.now c.schema.result.now schema c.schema.ensures means in
-    subst (λ (document : ExecutableDocument). DocumentText schema c.in_ok-from_str-in-Ok.field-0 document) (sym c.assume_valid.ensures)
-    (subst (λ (query : List ℕ). DocumentText schema query c.in-Ok.document) (sym c.in_ok-from_str-in-Ok.ensures)
-    (subst (λ (S : Schema). DocumentText S c.args.query.now c.in-Ok.document) one c.in-Ok.ensures))
+    subst (λ (query : List ℕ). DocumentText schema query document) (sym (query_text-kept c.schema.result.now c.args.query.now document answer))
+    (subst (λ (S : Schema). DocumentText S c.args.query.now document) one answer)

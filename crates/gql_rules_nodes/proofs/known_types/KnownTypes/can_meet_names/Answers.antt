@@ -1,7 +1,7 @@
 use Rattle.std.proofs.Common.{◌∙◌}
 use Rattle.gql_schema_types.specs.Types.{type_called}
 use Rattle.gql_rules_nodes.proofs.Possible.{other_way}
-use Rattle.gql_rules_nodes.proofs.possible_types.PossibleTypes.can_meet_names.Goals as goal
+use Rattle.gql_rules_nodes.proofs.known_types.KnownTypes.can_meet_names.Goals as goal
 
 pub returns-in-Some : goal.returns-in-Some
 returns-in-Some c =

@@ -1,5 +1,5 @@
 use Rattle.gql_rules.proofs.Listed.{on_refusal, some_listed}
-use Rattle.gql_rules.proofs.validate.validate_document.Goals as goal
+use Rattle.gql_rules.proofs.validate.validate_document_with.Goals as goal
 use Rattle.gql_rules.specs.DocumentFaults.{AreDocumentFaults}
 
 pub returns-clause-some : goal.returns-clause-some

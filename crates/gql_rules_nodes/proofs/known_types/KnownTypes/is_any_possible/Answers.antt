@@ -1,7 +1,7 @@
 use Rattle.std.proofs.Common.{◌∙◌}
 use Rattle.gql_schema_types.specs.Types.{type_called}
 use Rattle.gql_rules_nodes.proofs.Possible.{any_at}
-use Rattle.gql_rules_nodes.proofs.possible_types.PossibleTypes.is_any_possible.Goals as goal
+use Rattle.gql_rules_nodes.proofs.known_types.KnownTypes.is_any_possible.Goals as goal
 
 pub returns-in-Some : goal.returns-in-Some
 returns-in-Some c =

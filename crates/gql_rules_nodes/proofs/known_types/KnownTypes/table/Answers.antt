@@ -5,13 +5,13 @@ use Rattle.gql_schema_types.specs.Entries.{is_called}
 use Rattle.gql_schema_types.specs.Types.{type_name}
 use Rattle.gql_rules_nodes.proofs.Possible.{table_at}
 use Rattle.gql_rules_nodes.specs.PossibleTypes.{distinct_texts, possible_names}
-use Rattle.gql_rules_nodes.proofs.possible_types.PossibleTypes.table.Goals as goal
+use Rattle.gql_rules_nodes.proofs.known_types.KnownTypes.table.Goals as goal
 
 pub returns-in-Some : goal.returns-in-Some
 returns-in-Some c =
     let self = c.args.self.now in
     let types = self.schema.now.types in
-    c.get.ensures ∙ table_at self.implementers types self.implementers_known self.tables self.tables_known c.args.name.now c.in-Some.at (sym c.in-Some.ensures)
+    c.get.ensures ∙ table_at self.possible.now.implementers types self.implementers_known self.possible.now.tables self.tables_known c.args.name.now c.in-Some.at (sym c.in-Some.ensures)
 
 pub returns-in-None : goal.returns-in-None
 returns-in-None c =
