@@ -3,8 +3,14 @@
 use Rattle.std.proofs.Common.{◌≡◌, ℕ, List, sym, subst}
 use Rattle.gql_parser.specs.DocumentText.{DocumentText}
 use Rattle.gql_schema_types.specs.declared.schema.Schema.{Schema}
-use Rattle.gql_engine.proofs.KeptTexts.{query_text-kept}
+use Rattle.gql_engine.proofs.KeptTexts.{prepared-kept, query_text-kept}
 use Rattle.gql_engine.proofs.prepared.Prepared.of_query.Goals as goal
+
+pub document_of_text_with-requires : goal.document_of_text_with-requires
+document_of_text_with-requires c = c.possible_types-possible.ensures c.schema.result.now c.schema.ensures
+
+pub returns-in-Ok : goal.returns-in-Ok
+returns-in-Ok c = prepared-kept c.args.service.now c.args.query.now c.schema.result.now c.in-Ok.document c.schema.ensures c.in-Ok.ensures.answer
 
 pub invariant_of-result : goal.invariant_of-result
 invariant_of-result c = λ schema means.
