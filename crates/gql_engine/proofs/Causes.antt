@@ -29,13 +29,14 @@ use Rattle.gql_engine.specs.declared.answer_error.AnswerError.{AnswerError}
 use Rattle.gql_engine.specs.declared.answer_error.AnswerError.TheVariants as error
 use Rattle.gql_engine.specs.declared.answer_error.RequestKind.TheVariants as kind
 use Rattle.gql_engine.specs.declared.answer_error.VariablesFault.TheVariants.{Read, NotObject}
-use Rattle.gql_engine.specs.AnswerError.{Call, ComesFor, HasCause, IsNoObject, IsObjectText, IsValid, wanted_with}
+use Rattle.gql_engine.specs.AnswerError.{Call, ComesFor, HasCause, IsNoObject, IsNoVariables, IsObjectText, IsValid, wanted_with}
 use Rattle.gql_engine.specs.Depths.{IsShallow}
 use Rattle.gql_engine.specs.Ready.{Ready}
-use Rattle.gql_engine.specs.Meant.{AreFaults, no_schema, no_document}
+use Rattle.gql_engine.specs.Meant.{AreFaults, Meant, no_schema, no_document}
+use Rattle.gql_engine.specs.Responding.{HasCauseOf}
 use Rattle.gql_engine.specs.Unanswered.{IsUnchosen, IsTooDeep, IsUncoerced, Unanswered, no_texts, no_operation, no_depth, no_variables}
 use Rattle.gql_engine.specs.Wanted.{Members, Wanted}
-use Rattle.gql_engine.proofs.Results.{same_some, some_or_none, same_err, ok_or_err}
+use Rattle.gql_engine.proofs.Results.{same_some, some_or_none, same_ok, same_err, ok_or_err}
 use Rattle.gql_engine.proofs.InTurn.{First, one_error, none_fails}
 
 -- what a text means is one thing, and what is wrong with it is told in one way
@@ -190,16 +191,88 @@ module _ (w : Wanted) where
           ),
         )
 
+    -- the cause of a refusal as the failure of a step
+    of_cause : (e : AnswerError) → e ≢ error.Memory → HasCauseOf w e → OfSchema e
+    of_cause (error.Variables x) told h = absurd h
+    of_cause (error.Schema list) told h = inl (list, h, refl)
+    of_cause (error.Document list) told h = inr (h.schema, h.is_schema, inl (list, h.faults, refl))
+    of_cause (error.Request kind.Operation x) told h = of_unchosen x h
+    of_cause (error.Request kind.Depth x) told h = of_too_deep x h
+    of_cause (error.Request kind.Variable x) told h = of_uncoerced x h
+    of_cause error.Memory told h = absurd (told refl)
+
+    -- two causes are one, and none is that of memory
+    pub one_cause : (e f : AnswerError) → e ≢ error.Memory → HasCauseOf w e → HasCauseOf w f → ComesFor e f
+    one_cause e (error.Variables x) told h k = absurd k
+    one_cause e (error.Schema x) told h k = same_schemas e (error.Schema x) (of_cause e told h) (of_cause (error.Schema x) (λ m. cc m) k)
+    one_cause e (error.Document x) told h k = same_schemas e (error.Document x) (of_cause e told h) (of_cause (error.Document x) (λ m. cc m) k)
+    one_cause e (error.Request x y) told h k = same_schemas e (error.Request x y) (of_cause e told h) (of_cause (error.Request x y) (λ m. cc m) k)
+    one_cause e error.Memory told h k = tt
+
+    -- where nothing is in the way of a response, none holds but that of memory
+    pub memory_of_ready : Ready w → (e : AnswerError) → HasCauseOf w e → e ≡ error.Memory
+    memory_of_ready r (error.Variables x) h = absurd h
+    memory_of_ready r (error.Schema x) h = absurd (none_of_ready r (error.Schema x) (of_cause (error.Schema x) (λ m. cc m) h))
+    memory_of_ready r (error.Document x) h = absurd (none_of_ready r (error.Document x) (of_cause (error.Document x) (λ m. cc m) h))
+    memory_of_ready r (error.Request x y) h = absurd (none_of_ready r (error.Request x y) (of_cause (error.Request x y) (λ m. cc m) h))
+    memory_of_ready r error.Memory h = refl
+
+    -- and it is so in one way
+    pub one_ready_schema : (r s : Ready w) → r.meant.schema ≡ s.meant.schema
+    one_ready_schema r s = laws.one_schema w.schema r.meant.schema s.meant.schema r.meant.are.is_schema s.meant.are.is_schema
+
+    pub one_ready_document : (r s : Ready w) → r.meant.document ≡ s.meant.document
+    one_ready_document r s =
+        laws.one_document s.meant.schema w.query r.meant.document s.meant.document
+        (subst (λ (S : Schema). DocumentText S w.query r.meant.document) (one_ready_schema r s) r.meant.are.is_document) s.meant.are.is_document
+
+    pub one_ready_operation : (r s : Ready w) → r.operation ≡ s.operation
+    one_ready_operation r s =
+        same_some (chosen w.operation_name s.meant.document.operations) r.operation s.operation
+        (subst (λ (Q : ExecutableDocument). chosen w.operation_name Q.operations ≡ Some r.operation) (one_ready_document r s) r.is_chosen) s.is_chosen
+
+    pub one_ready_values : (r s : Ready w) → r.variables ≡ s.variables
+    one_ready_values r s =
+        same_ok (coerced_variables s.meant.schema.types s.operation.variables w.variables) r.variables s.variables
+        (subst (λ (S : Schema). coerced_variables S.types s.operation.variables w.variables ≡ Ok r.variables) (one_ready_schema r s)
+        (subst (λ (o : Operation). coerced_variables r.meant.schema.types o.variables w.variables ≡ Ok r.variables) (one_ready_operation r s) r.are_coerced)) s.are_coerced
+
     pub none_unanswered : {errors : List GraphQLError} → Ready w → Unanswered w errors → ⊥
     none_unanswered r (no_texts list h) = none_of_ready r (of_texts list h).0 (of_texts list h).1
     none_unanswered r (no_operation told h) = none_of_ready r (error.Request kind.Operation told) (of_unchosen told h)
     none_unanswered r (no_depth told h) = none_of_ready r (error.Request kind.Depth told) (of_too_deep told h)
     none_unanswered r (no_variables told h) = none_of_ready r (error.Request kind.Variable told) (of_uncoerced told h)
 
+-- both texts mean something, or something is wrong with one
+pub meant_or_faulty : Laws → (schema query : List ℕ) (list : Diagnostics) → Meant schema query → AreFaults schema query list → ⊥
+meant_or_faulty laws schema query list m (no_schema l h) = laws.no_schema schema m.schema l m.are.is_schema h
+meant_or_faulty laws schema query list m (no_document l h) =
+    laws.no_document h.schema query m.document l
+    (subst (λ (S : Schema). DocumentText S query m.document) (laws.one_schema schema m.schema h.schema m.are.is_schema h.is_schema) m.are.is_document) h.faults
+
 -- ---- the steps of a call
 
+-- a cause of what is wanted is one of the call that wants it
+pub has_cause : (call : Call) (members : Members) → IsObjectText call.variables members → (e : AnswerError) → HasCauseOf (wanted_with call members) e → HasCause call e
+has_cause call members object (error.Variables fault) h = absurd h
+has_cause call members object (error.Schema list) h = record { members = members; object = object; holds = h }
+has_cause call members object (error.Document list) h = record { members = members; object = object; holds = h }
+has_cause call members object (error.Request kind.Operation e) h = record { members = members; object = object; holds = h }
+has_cause call members object (error.Request kind.Depth e) h = record { members = members; object = object; holds = h }
+has_cause call members object (error.Request kind.Variable e) h = record { members = members; object = object; holds = h }
+has_cause call members object error.Memory h = tt
+
+-- and so is that of variables that are not read
+pub unread_cause : (call : Call) (e : AnswerError) → IsNoVariables call.variables e → HasCause call e
+unread_cause call (error.Variables (Read fault)) h = h
+unread_cause call (error.Variables NotObject) h = h
+unread_cause call (error.Schema list) h = absurd h
+unread_cause call (error.Document list) h = absurd h
+unread_cause call (error.Request step e) h = absurd h
+unread_cause call error.Memory h = tt
+
 -- a JSON text of an object has one list of members
-same_members : Laws → (text : List ℕ) (xs ys : Members) → IsObjectText text xs → IsObjectText text ys → xs ≡ ys
+pub same_members : Laws → (text : List ℕ) (xs ys : Members) → IsObjectText text xs → IsObjectText text ys → xs ≡ ys
 same_members laws text xs ys h k =
     let e : object_members h.value ≡ object_members k.value = ap object_members (laws.one_value text h.value k.value h.read k.read) in
     let a : object_members h.value ≡ Some xs = h.object in
@@ -259,7 +332,7 @@ module _ (laws : Laws) (call : Call) where
   steps error.Memory told h = absurd (told refl)
 
   -- two causes are one, and none is that of memory
-  comes : (e f : AnswerError) → e ≢ error.Memory → HasCause call e → HasCause call f → ComesFor e f
+  pub comes : (e f : AnswerError) → e ≢ error.Memory → HasCause call e → HasCause call f → ComesFor e f
   comes e (error.Variables x) told h k = same_steps e (error.Variables x) (steps e told h) (steps (error.Variables x) (λ m. cc m) k)
   comes e (error.Schema x) told h k = same_steps e (error.Schema x) (steps e told h) (steps (error.Schema x) (λ m. cc m) k)
   comes e (error.Document x) told h k = same_steps e (error.Document x) (steps e told h) (steps (error.Document x) (λ m. cc m) k)
@@ -272,19 +345,9 @@ module _ (laws : Laws) (call : Call) where
       none_fails Plain FailsCall (λ members. OfSchema (wanted_with call members)) one_object calls_apart v.members v.object
       (none_of_ready (wanted_with call v.members) laws v.holds)
 
-  only_memory : IsValid call → (e : AnswerError) → HasCause call e → e ≡ error.Memory
+  pub only_memory : IsValid call → (e : AnswerError) → HasCause call e → e ≡ error.Memory
   only_memory v (error.Variables x) h = absurd (no_cause v (error.Variables x) (steps (error.Variables x) (λ m. cc m) h))
   only_memory v (error.Schema x) h = absurd (no_cause v (error.Schema x) (steps (error.Schema x) (λ m. cc m) h))
   only_memory v (error.Document x) h = absurd (no_cause v (error.Document x) (steps (error.Document x) (λ m. cc m) h))
   only_memory v (error.Request x y) h = absurd (no_cause v (error.Request x y) (steps (error.Request x y) (λ m. cc m) h))
   only_memory v error.Memory h = refl
-
-  pub valid_result : {A : Type 0} (result : Result A AnswerError) → IfErr result (HasCause call) → IsValid call → IfErr result (λ e. e ≡ error.Memory)
-  valid_result (Ok a) refused v = tt
-  valid_result (Err e) refused v = only_memory v e refused
-
-  -- where a cause holds its refusal comes, unless memory fails
-  pub exact_result : {A : Type 0} (result : Result A AnswerError) → IfOk result (λ _. IsValid call) → IfErr result (HasCause call)
-      → (e : AnswerError) → e ≢ error.Memory → HasCause call e → IsErrAnd result (ComesFor e)
-  exact_result (Ok a) valid refused e told h = absurd (no_cause valid e (steps e told h))
-  exact_result (Err f) valid refused e told h = comes e f told h refused

@@ -6,10 +6,9 @@ mod Runs
 mod Responses
 mod Replies
 mod SelfTests
-mod Outputs
 mod Words
-mod Promise
-mod Running
-mod Usage
+mod CommandRuns
+mod Served
+mod SelfTestRuns
 mod LongInput
 pub mod Resolving

@@ -1,5 +1,5 @@
 -- What is answered to what is wanted, step by step.
-use Rattle.std.proofs.Common.{◌≡◌, ◌≤◌, ◌+◌, ℕ, Bool, true, false, List, length, Option, Some, None, is_some, Result, Ok, Err, IfOk, IfErr, refl, sym, ap, subst, arith}
+use Rattle.std.proofs.Common.{◌≡◌, ◌≢◌, ◌≤◌, ◌+◌, ℕ, Bool, true, false, List, length, Option, Some, None, is_some, Result, Ok, Err, IfOk, IfErr, IsErrAnd, refl, sym, ap, subst, inl, inr, arith}
 use Rattle.std.specs.Borrow.{Bor}
 use Rattle.jb_text.specs.declared.refused.Refused.{Refused}
 use Rattle.jb_text.specs.declared.refused.Refused.TheVariants.{Fault, Memory}
@@ -29,22 +29,25 @@ use Rattle.gql_schema_types.specs.Schemas.{object_of}
 use Rattle.gql_schema_types.specs.declared.implementers.Implementers.{Implementers}
 use Rattle.gql_schema_types.specs.declared.schema.Schema.{Schema}
 use Rattle.gql_schema_types.specs.declared.types.ObjectType.{ObjectType}
-use Rattle.gql_engine.specs.Meant.{no_schema, no_document}
 use Rattle.gql_engine.specs.declared.answer_error.AnswerError.{AnswerError}
 use Rattle.gql_engine.specs.declared.answer_error.AnswerError.TheVariants as error
 use Rattle.gql_engine.specs.declared.answer_error.RequestKind.TheVariants as kind
-use Rattle.gql_engine.specs.declared.refusal.Refusal.{Refusal}
-use Rattle.gql_engine.specs.declared.refusal.Refusal.TheVariants as refused
+use Rattle.gql_engine.specs.declared.answer_error.RequestKind.{RequestKind}
+use Rattle.gql_engine.specs.declared.ready.ReadyOperation.{ReadyOperation}
 use Rattle.gql_engine.specs.declared.response_bytes.Written.{Written}
-use Rattle.gql_engine.specs.AnswerError.{Asks, Call, HasCause, IsObjectText, wanted_with}
+use Rattle.gql_engine.specs.AnswerError.{Call, ComesFor, HasCause, IsObjectText, IsValid, wanted_with}
 use Rattle.gql_parser.specs.Selecting.{SelectsSomething}
-use Rattle.gql_engine.specs.Answered.{ExecutionLooks, IsFullyExplainedBy, IsPrint, IsResponseBy, IsResponseOver, IsResultOf, IsRoot}
+use Rattle.gql_engine.specs.Answered.{Answered, ExecutionLooks, IsFullyExplainedBy, IsPrint, IsResponseBy, IsResponseOver, IsResultOf, IsRoot}
 use Rattle.gql_engine.specs.Answering.{Answers, AnswersWithin}
 use Rattle.gql_engine.specs.Depths.{IsShallow, all_selections, depth_looks}
-use Rattle.gql_engine.specs.Ready.{IsChosen, MeantBy, Ready}
-use Rattle.gql_engine.specs.Responding.{HasCauseOf, IsAnswer, IsCause, IsOfStep, IsResponse, OrCause, Performs, told}
-use Rattle.gql_engine.specs.Unanswered.{Unanswered, no_texts, no_operation, no_depth, no_variables}
-use Rattle.gql_engine.specs.Wanted.{Members, Wanted}
+use Rattle.gql_engine.specs.Ready.{IsChosen, MeantBy}
+use Rattle.gql_engine.specs.Phases.{IsReady, ready_as}
+use Rattle.gql_engine.specs.Responding.{AnsweredWithin, HasCauseOf, IsOfStep, IsRefusedAt, OrCause, Responds}
+use Rattle.gql_engine.specs.Unanswered.{IsTooDeep, IsUnchosen, IsUncoerced}
+use Rattle.gql_source.specs.File.{Files}
+use Rattle.gql_engine.specs.Wanted.{Members, Wanted, wanted_over}
+use Rattle.gql_engine.specs.declared.wanted.Wanted.{Wanted as WantedHere}
+use Rattle.gql_engine.proofs.Causes.{has_cause}
 use Rattle.gql_engine.proofs.Results.{same_ok, same_err, ok_or_err, true_or_false}
 
 -- ---- the execution
@@ -152,110 +155,124 @@ module _ {X : Type 0} (types : X → List ℕ) (resolves : Resolving X) (root : 
 
 -- ---- the steps before it
 
+one_fault : {E : Type 0} (e x : E) → ◌≡◌ {A = Refused E} (Fault e) (Fault x) → e ≡ x
+one_fault e x h = cc h
+
 pub was_coerced : {A E : Type 0} (tell : CoercionFault → E) (made : Outcome A) (a : A) → outcome_told tell made ≡ Ok a → made ≡ Ok a
 was_coerced {A = A} tell (Ok b) a h = ap (λ (x : A). Ok x) (same_ok (outcome_told tell (Ok b)) b a refl h)
 was_coerced tell (Err fault) a h = absurd (ok_or_err (outcome_told tell (Err fault)) a (tell fault) h refl)
 
-module _ {A : Type 0} (Holds : A → Type 0) (w : Wanted) where
+-- what a step is refused for is a cause, or want of memory
+of_step : (w : Wanted) (step : RequestKind) (sources : Files) (why : Refused RequestError) (answer : AnswerError)
+    → ((e : RequestError) → why ≡ Fault e → IsRefusedAt w step (request_error e sources)) → IsOfStep step sources why answer → HasCauseOf w answer
+of_step w step sources (Fault e) answer cause (inl is) = subst (HasCauseOf w) (sym is) (cause e refl)
+of_step w step sources (Fault e) answer cause (inr is) = subst (HasCauseOf w) (sym is) tt
+of_step w step sources Memory answer cause is = subst (HasCauseOf w) (sym is) tt
+
+module _ (w : Wanted) (meant : MeantBy w) where
   -- the document has no such operation
-  pub unchosen : (meant : MeantBy w) (why : Refused RequestError) (answer : Refused Refusal) → IsChosenAnswer w.operation_name meant.document.operations (Err why)
-      → IsOfStep kind.Operation meant.document.sources why answer → OrCause w Holds (Err answer)
-  unchosen meant (Fault e) (Fault r) h k =
-      subst (IsCause w) (sym k) (record { meant = meant; none = h.0; told = ap (λ (x : RequestError). request_error x meant.document.sources) h.1 })
-  unchosen meant Memory (Fault r) h k = absurd k
-  unchosen meant (Fault e) Memory h k = tt
-  unchosen meant Memory Memory h k = tt
+  pub unchosen : (why : Refused RequestError) (answer : AnswerError) → IsChosenAnswer w.operation_name meant.document.operations (Err why)
+      → IsOfStep kind.Operation meant.document.sources why answer → HasCauseOf w answer
+  unchosen (Fault e) answer h k =
+      of_step w kind.Operation meant.document.sources (Fault e) answer
+      (λ x same. subst (λ (x : RequestError). IsUnchosen w (request_error x meant.document.sources)) (one_fault e x same)
+      (record { meant = meant; none = h.0; told = ap (λ (x : RequestError). request_error x meant.document.sources) h.1 })) k
+  unchosen Memory answer h k = subst (HasCauseOf w) (sym k) tt
 
-  -- the operation goes too deep
-  pub too_deep_at : (meant : MeantBy w) (o : Operation) → IsChosen w meant o → w.introspection ≡ true → (why : Refused RequestError) (answer : Refused Refusal)
-      → IsDepthRefused meant.document.fragments o.selection_set.selections why → IsOfStep kind.Depth meant.document.sources why answer → OrCause w Holds (Err answer)
-  too_deep_at meant o chosen on (Fault e) (Fault r) h k =
-      subst (IsCause w) (sym k) (record {
-        meant = meant;
-        operation = o;
-        is_chosen = chosen;
-        on = on;
-        place = h.0;
-        deep = h.1;
-        told = ap (λ (x : RequestError). request_error x meant.document.sources) h.2;
-      })
-  too_deep_at meant o chosen on Memory (Fault r) h k = absurd k
-  too_deep_at meant o chosen on (Fault e) Memory h k = tt
-  too_deep_at meant o chosen on Memory Memory h k = tt
+  module _ (o : Operation) (is_chosen : IsChosen w meant o) where
+    -- the operation goes too deep
+    pub too_deep_at : w.introspection ≡ true → (why : Refused RequestError) (answer : AnswerError)
+        → IsDepthRefused meant.document.fragments o.selection_set.selections why → IsOfStep kind.Depth meant.document.sources why answer → HasCauseOf w answer
+    too_deep_at on (Fault e) answer h k =
+        of_step w kind.Depth meant.document.sources (Fault e) answer
+        (λ x same. subst (λ (x : RequestError). IsTooDeep w (request_error x meant.document.sources)) (one_fault e x same)
+        (record {
+          meant = meant;
+          operation = o;
+          is_chosen = is_chosen;
+          on = on;
+          place = h.0;
+          deep = h.1;
+          told = ap (λ (x : RequestError). request_error x meant.document.sources) h.2;
+        })) k
+    too_deep_at on Memory answer h k = subst (HasCauseOf w) (sym k) tt
 
-  -- a variable of the operation is not coerced
-  uncoerced : (meant : MeantBy w) (o : Operation) → IsChosen w meant o → IsShallow w.introspection meant.document o → (made : Outcome Members)
-      → coerced_variables meant.schema.types o.variables w.variables ≡ made → (e : RequestError) (r : Refusal)
-      → outcome_told fault_told made ≡ Err e → r ≡ refused.Request kind.Variable e meant.document.sources → IsCause w r
-  uncoerced meant o chosen shallow (Ok values) is e r h k = absurd (ok_or_err (outcome_told fault_told (Ok values)) values e refl h)
-  uncoerced meant o chosen shallow (Err fault) is e r h k =
-      subst (IsCause w) (sym k) (record {
-        meant = meant;
-        operation = o;
-        is_chosen = chosen;
-        is_shallow = shallow;
-        fault = fault;
-        fails = is;
-        told = ap (λ (x : RequestError). request_error x meant.document.sources) (same_err (outcome_told fault_told (Err fault)) e (fault_told fault) h refl);
-      })
+    -- a variable of the operation is not coerced
+    uncoerced : IsShallow w.introspection meant.document o → (made : Outcome Members) → coerced_variables meant.schema.types o.variables w.variables ≡ made
+        → (e : RequestError) → outcome_told fault_told made ≡ Err e → IsUncoerced w (request_error e meant.document.sources)
+    uncoerced shallow (Ok values) is e h = absurd (ok_or_err (outcome_told fault_told (Ok values)) values e refl h)
+    uncoerced shallow (Err fault) is e h = record {
+      meant = meant;
+      operation = o;
+      is_chosen = is_chosen;
+      is_shallow = shallow;
+      fault = fault;
+      fails = is;
+      told = ap (λ (x : RequestError). request_error x meant.document.sources) (same_err (outcome_told fault_told (Err fault)) e (fault_told fault) h refl);
+    }
 
-  -- so is what is answered then
-  pub uncoerced_at : (meant : MeantBy w) (o : Operation) → IsChosen w meant o → IsShallow w.introspection meant.document o
-      → (why : Refused RequestError) (answer : Refused Refusal)
-      → CoercionAnswers (outcome_told fault_told (coerced_variables meant.schema.types o.variables w.variables)) (Err why)
-      → IsOfStep kind.Variable meant.document.sources why answer → OrCause w Holds (Err answer)
-  uncoerced_at meant o chosen shallow (Fault e) (Fault r) h k =
-      uncoerced meant o chosen shallow (coerced_variables meant.schema.types o.variables w.variables) refl e r h k
-  uncoerced_at meant o chosen shallow Memory (Fault r) h k = absurd k
-  uncoerced_at meant o chosen shallow (Fault e) Memory h k = tt
-  uncoerced_at meant o chosen shallow Memory Memory h k = tt
+    pub uncoerced_at : IsShallow w.introspection meant.document o → (why : Refused RequestError) (answer : AnswerError)
+        → CoercionAnswers (outcome_told fault_told (coerced_variables meant.schema.types o.variables w.variables)) (Err why)
+        → IsOfStep kind.Variable meant.document.sources why answer → HasCauseOf w answer
+    uncoerced_at shallow (Fault e) answer h k =
+        of_step w kind.Variable meant.document.sources (Fault e) answer
+        (λ x same. subst (λ (x : RequestError). IsUncoerced w (request_error x meant.document.sources)) (one_fault e x same)
+        (uncoerced shallow (coerced_variables meant.schema.types o.variables w.variables) refl e h)) k
+    uncoerced_at shallow Memory answer h k = subst (HasCauseOf w) (sym k) tt
 
--- a cause does not depend on what a step would have given
-pub same_refusal : {A B : Type 0} (P : A → Type 0) (Q : B → Type 0) (w : Wanted) (answer : Refused Refusal) → OrCause w P (Err answer) → OrCause w Q (Err answer)
-same_refusal P Q w (Fault refusal) h = h
-same_refusal P Q w Memory h = tt
+-- what is given, and what is refused
+pub given_of : {A : Type 0} (w : Wanted) (P : A → Type 0) (result : Result A AnswerError) → OrCause w P result → IfOk result P
+given_of w P (Ok a) h = h
+given_of w P (Err e) h = tt
+
+pub cause_of : {A : Type 0} (w : Wanted) (P : A → Type 0) (result : Result A AnswerError) → OrCause w P result → IfErr result (HasCauseOf w)
+cause_of w P (Ok a) h = tt
+cause_of w P (Err e) h = h
+
+on_ok : {A E : Type 0} {P Q : A → Type 0} (result : Result A E) → ((a : A) → P a → Q a) → IfOk result P → IfOk result Q
+on_ok (Ok a) f h = f a h
+on_ok (Err e) f h = tt
+
+on_err : {A E : Type 0} {P Q : E → Type 0} (result : Result A E) → ((e : E) → P e → Q e) → IfErr result P → IfErr result Q
+on_err (Ok a) f h = tt
+on_err (Err e) f h = f e h
 
 -- ---- the call
 
-module _ {X : Type 0} (types : X → List ℕ) (resolves : Resolving X) (root : X) (call : Call) (members : Members) (object : IsObjectText call.variables members) where
-  has_cause : (e : AnswerError) → HasCauseOf (wanted_with call members) e → HasCause call e
-  has_cause (error.Variables fault) h = absurd h
-  has_cause (error.Schema list) h = record { members = members; object = object; holds = h }
-  has_cause (error.Document list) h = record { members = members; object = object; holds = h }
-  has_cause (error.Request kind.Operation e) h = record { members = members; object = object; holds = h }
-  has_cause (error.Request kind.Depth e) h = record { members = members; object = object; holds = h }
-  has_cause (error.Request kind.Variable e) h = record { members = members; object = object; holds = h }
-  has_cause error.Memory h = tt
+-- the answer, whatever was counted
+pub answers_by : {X : Type 0} (types : X → List ℕ) (resolves : Resolving X) (root : X) (call : Call) (before after : ℕ) (result : Result (List ℕ) AnswerError)
+    → IfOk result (AnswersWithin types resolves root call before after) → IfOk result (Answers types resolves root call)
+answers_by types resolves root call before after (Ok bytes) h = record { members = h.members; object = h.object; holds = h.holds.answered }
+answers_by types resolves root call before after (Err e) h = tt
 
-  pub answered_by : (before after : ℕ) (result : Result (List ℕ) AnswerError) → IsAnswer types resolves root (wanted_with call members) before after result
+-- what it wants is answered or refused, so the call is
+module _ {X : Type 0} (types : X → List ℕ) (resolves : Resolving X) (root : X) (call : Call) (members : Members) (object : IsObjectText call.variables members)
+    (before after : ℕ) (result : Result (List ℕ) AnswerError) where
+  pub answered_from : OrCause (wanted_with call members) (AnsweredWithin types resolves root (wanted_with call members) before after) result
       → IfOk result (AnswersWithin types resolves root call before after)
-  answered_by before after (Ok bytes) h = record { members = members; object = object; holds = h }
-  answered_by before after (Err e) h = tt
+  answered_from h =
+      on_ok result (λ bytes given. record { members = members; object = object; holds = given })
+      (given_of (wanted_with call members) (AnsweredWithin types resolves root (wanted_with call members) before after) result h)
 
-  pub refused_by : (before after : ℕ) (result : Result (List ℕ) AnswerError) → IsAnswer types resolves root (wanted_with call members) before after result
-      → IfErr result (HasCause call)
-  refused_by before after (Ok bytes) h = tt
-  refused_by before after (Err e) h = has_cause e h
+  pub refused_from : OrCause (wanted_with call members) (AnsweredWithin types resolves root (wanted_with call members) before after) result → IfErr result (HasCause call)
+  refused_from h =
+      on_err result (λ e why. has_cause call members object e why)
+      (cause_of (wanted_with call members) (AnsweredWithin types resolves root (wanted_with call members) before after) result h)
 
-module _ {X : Type 0} (types : X → List ℕ) (resolves : Resolving X) (root : X) (call : Call) where
-  -- the answer, whatever was counted
-  pub answers_by : (before after : ℕ) (result : Result (List ℕ) AnswerError) → IfOk result (AnswersWithin types resolves root call before after)
-      → IfOk result (Answers types resolves root call)
-  answers_by before after (Ok bytes) h = record { members = h.members; object = h.object; holds = h.holds.answered }
-  answers_by before after (Err e) h = tt
+-- what is answered is valid, so there is no other cause
+pub exact_by : {X : Type 0} (types : X → List ℕ) (resolves : Resolving X) (root : X) (call : Call)
+    → ((e : AnswerError) → IsValid call → HasCause call e → e ≡ error.Memory)
+    → ((e f : AnswerError) → e ≢ error.Memory → HasCause call e → HasCause call f → ComesFor e f)
+    → (result : Result (List ℕ) AnswerError) → IfOk result (Answers types resolves root call) → IfErr result (HasCause call)
+    → (e : AnswerError) → e ≢ error.Memory → HasCause call e → IsErrAnd result (ComesFor e)
+exact_by types resolves root call valid one (Ok bytes) answered refused e told h =
+    absurd (told (valid e (record { members = answered.members; object = answered.object; holds = answered.holds.ready }) h))
+exact_by types resolves root call valid one (Err f) answered refused e told h = one e f told h refused
 
-  -- what is answered is valid
-  pub valid_by : (result : Result (List ℕ) AnswerError) → IfOk result (Answers types resolves root call) → IfOk result (λ _. Asks call Ready)
-  valid_by (Ok bytes) h = record { members = h.members; object = h.object; holds = h.holds.ready }
-  valid_by (Err e) h = tt
-
--- the cause of a refusal, with the errors that tell it
-pub unanswered_by : (w : Wanted) (r : Refusal) → IsCause w r → Unanswered w (told r)
-unanswered_by w (refused.Schema list) h = no_texts list (no_schema list h)
-unanswered_by w (refused.Document list) h = no_texts list (no_document list h)
-unanswered_by w (refused.Request kind.Operation e sources) h = no_operation (request_error e sources) h
-unanswered_by w (refused.Request kind.Depth e sources) h = no_depth (request_error e sources) h
-unanswered_by w (refused.Request kind.Variable e sources) h = no_variables (request_error e sources) h
+pub valid_by : (call : Call) → ((e : AnswerError) → IsValid call → HasCause call e → e ≡ error.Memory)
+    → (result : Result (List ℕ) AnswerError) → IfErr result (HasCause call) → IsValid call → IfErr result (λ e. e ≡ error.Memory)
+valid_by call only (Ok bytes) refused valid = tt
+valid_by call only (Err e) refused valid = only e valid refused
 
 -- ---- from what is wanted to the response
 
@@ -266,33 +283,54 @@ least_looks : {X : Type 0} (types : X → List ℕ) (resolves : Resolving X) (ro
 least_looks types resolves root schema document o values T true before after h = h.least
 least_looks types resolves root schema document o values T false before after h = h.least
 
+-- the parts of what is ready are those that the execution is told
 module _ {X : Type 0} (types : X → List ℕ) (resolves : Resolving X) (root : X) (w : Wanted) where
-  -- an operation that was performed after its depth was checked
-  pub responds : (before between after : ℕ) (meant : MeantBy w) (o : Operation) → IsChosen w meant o → SelectsSomething o → IsShallow w.introspection meant.document o
-      → before ≤ between → between ≤ before + depth_looks w.introspection meant.document o → (result : Result Written (Refused Refusal))
-      → OrCause w (Performs types resolves root w meant.schema meant.document o between after) result → IsResponse types resolves root w before after result
-  responds before between after meant o chosen some shallow rises looks (Ok written) h = record {
-    answered = record {
-      ready = record { meant = meant; operation = o; is_chosen = chosen; is_shallow = shallow; variables = h.variables; are_coerced = h.are_coerced };
-      executed = h.result.is;
-    };
-    errors = h.result.errors;
-    looks = record {
-      some =
-          let least = least_looks types resolves root meant.schema meant.document o h.variables h.result.is.root_type w.introspection between after h.result.looks in
-          omega (arith, some, rises, least);
-      between = between;
-      rises = rises;
-      depth = looks;
-      execution = h.result.looks;
-    };
-  }
-  responds before between after meant o chosen some shallow rises looks (Err (Fault refusal)) h = h
-  responds before between after meant o chosen some shallow rises looks (Err Memory) h = tt
+  result_of : (introspection : Bool) → introspection ≡ w.introspection → (schema : Schema) (document : ExecutableDocument) (o : Operation) (values : Members) (before after : ℕ)
+      (written : Written) → IsResultOf introspection types resolves root schema document o values before after written
+      → IsResultOf w.introspection types resolves root schema document o values before after written
+  result_of introspection is schema document o values before after written h =
+      subst (λ (b : Bool). IsResultOf b types resolves root schema document o values before after written) is h
 
-  -- as callers are told it
-  pub answer_told : (before after : ℕ) (written : Written) → IsResponse types resolves root w before after (Ok written) → IsAnswer types resolves root w before after (Ok written.bytes)
-  answer_told before after written h = record { answered = h.answered; looks = h.looks }
+  -- the response to what was ready
+  pub answered_ready : {E : Type 0} (before between started after : ℕ) (ready : ReadyOperation) → IsReady w before between ready → (result : Result Written E)
+      → IfOk result (IsResultOf ready.introspection types resolves root ready.schema.now ready.document.now ready.operation.now ready.variables started after)
+      → IfOk result (λ written. Answered types resolves root w written.bytes)
+  answered_ready before between started after ready is (Ok written) h =
+      let made = result_of ready.introspection is.introspection ready.schema.now ready.document.now ready.operation.now ready.variables started after written h in
+      record { ready = ready_as is; executed = made.is }
+  answered_ready before between started after ready is (Err e) h = tt
+
+  -- with its looks
+  pub responds : {E : Type 0} (before between after : ℕ) (ready : ReadyOperation) → IsReady w before between ready → SelectsSomething ready.operation.now
+      → (result : Result Written E)
+      → IfOk result (IsResultOf ready.introspection types resolves root ready.schema.now ready.document.now ready.operation.now ready.variables between after)
+      → IfOk result (Responds types resolves root w before after)
+  responds before between after ready is some (Ok written) h =
+      let made = result_of ready.introspection is.introspection ready.schema.now ready.document.now ready.operation.now ready.variables between after written h in
+      record {
+        answered = record { ready = ready_as is; executed = made.is };
+        errors = made.errors;
+        looks = record {
+          some =
+              let least = least_looks types resolves root ready.schema.now ready.document.now ready.operation.now ready.variables made.is.root_type w.introspection between after made.looks in
+              let rises = is.rises in
+              omega (arith, some, rises, least);
+          between = between;
+          rises = is.rises;
+          depth = is.depth;
+          execution = made.looks;
+        };
+      }
+  responds before between after ready is some (Err e) h = tt
+
+-- the same of other names of the texts
+pub responds_over : {X : Type 0} (types : X → List ℕ) (resolves : Resolving X) (root : X) (wanted : WantedHere) (before after : ℕ) (result : Result Written AnswerError)
+    (schema query schema' query' : List ℕ) → schema ≡ schema' → query ≡ query'
+    → OrCause (wanted_over schema' query' wanted) (Responds types resolves root (wanted_over schema' query' wanted) before after) result
+    → OrCause (wanted_over schema query wanted) (Responds types resolves root (wanted_over schema query wanted) before after) result
+responds_over types resolves root wanted before after result schema query schema' query' is also h =
+    subst (λ (s : List ℕ). OrCause (wanted_over s query wanted) (Responds types resolves root (wanted_over s query wanted) before after) result) (sym is)
+    (subst (λ (q : List ℕ). OrCause (wanted_over schema' q wanted) (Responds types resolves root (wanted_over schema' q wanted) before after) result) (sym also) h)
 
 -- without introspection nothing is checked
 pub shallow_off : (introspection : Bool) (document : ExecutableDocument) (o : Operation) → introspection ≡ false → IsShallow introspection document o

@@ -1,5 +1,5 @@
--- The looks that a self-test takes.
-use Rattle.std.proofs.Common.{◌≡◌, ◌<◌, ◌≤◌, ◌+◌, ◌^◌, ℕ, Bool, true, false, List, Option, Some, subst, arith}
+-- The looks that a self-test takes, and what it tells.
+use Rattle.std.proofs.Common.{◌≡◌, ◌<◌, ◌≤◌, ◌+◌, ◌^◌, ℕ, Bool, true, false, List, length, Option, Some, Result, Ok, Err, IfOk, ap, subst, arith}
 use Rattle.gql_engine.specs.Answered.{ExecutionLooks, IsRoot}
 use Rattle.gql_engine.specs.Depths.{depth_looks}
 use Rattle.gql_engine.specs.Wanted.{Members}
@@ -15,16 +15,20 @@ use Rattle.gql_resolvers.specs.DataMeaning.{data_meaning}
 use Rattle.gql_request.specs.NotAsked.{IsAsked}
 use Rattle.gql_request.specs.Request.{Asked}
 use Rattle.gql_request.specs.SelfTest.{self_test}
+use Rattle.gql_request.specs.declared.request.RequestForm.TheVariants.{Plain}
 use Rattle.gql_parser.specs.SchemaText.{SchemaText}
 use Rattle.gql_schema_types.specs.declared.schema.Schema.{Schema}
 use Rattle.gql_schema_types.specs.declared.types.ObjectType.{ObjectType}
 use Rattle.gql_request.specs.Meaning.{IsSelfTest}
 use Rattle.gql_request.specs.Texts.{query_text, schema_text}
 use Rattle.gql_request.proofs.Ways.{few_looks, few_selections}
-use Rattle.gql_engine.specs.Reply.{Answers, root_of}
+use Rattle.gql_engine.specs.Output.{IsMeasured, Line, Measures, summary}
+use Rattle.gql_engine.specs.Reply.{Answers, RespondsTo, root_of}
+use Rattle.gql_engine.specs.declared.response_bytes.Written.{Written}
+use Rattle.gql_resolvers.proofs.DataSkips.{data-whole}
 
 abbrev pub AsksLaw : Type 0
-AsksLaw = (items : ℕ) (request : Asked) → items < 2 ^ 64 → IsAsked (self_test items) request → (request.schema ≡ schema_text) × (request.query ≡ query_text)
+AsksLaw = (items : ℕ) (request : Asked) → items < 2 ^ 64 → IsAsked Plain (self_test items) request → (request.schema ≡ schema_text) × (request.query ≡ query_text)
 
 abbrev pub MeansLaw : Type 0
 MeansLaw = (schema : Schema) (document : ExecutableDocument) (name : Option (List ℕ)) (operation : Operation) → SchemaText schema_text schema
@@ -56,3 +60,28 @@ nine_at_most asks means items before after text low h =
     let six = six_at_most schema document operation m h.request.introspection (λ (object : Data). object.type_name) data_meaning (root_of h.request) ready.variables h.answered.executed.root_type h.looks.between after
     h.answered.executed.is_root h.looks.execution in
     omega (arith, three, six, h.looks.depth)
+
+-- what the response to it tells
+told_of : AsksLaw → MeansLaw → (items before after : ℕ) → items < 2 ^ 64 → (request : Asked) → IsAsked Plain (self_test items) request → (written : Written)
+    → RespondsTo request before after written → Measures before after items (summary items (length written.bytes) written.errors)
+told_of asks means items before after low request is written h =
+    let answers : Answers before after (self_test items) written.bytes = record {
+      request = request;
+      asks = is;
+      answered = h.answered;
+      explained = h.answered.executed.in_full data-whole;
+      looks = h.looks;
+    } in
+    record {
+      response = written.bytes;
+      answers = answers;
+      few = nine_at_most asks means items before after written.bytes low answers;
+      told = ap (summary items (length written.bytes)) h.errors;
+    }
+
+pub measured : {E : Type 0} → AsksLaw → MeansLaw → (items before after : ℕ) → items < 2 ^ 64 → (request : Asked) → IsAsked Plain (self_test items) request → (written : Written)
+    → RespondsTo request before after written → (result : Result (List ℕ) E) → IfOk result (IsMeasured items written)
+    → IfOk result (Line (Measures before after items))
+measured asks means items before after low request is written h (Ok text) k =
+    record { within = summary items (length written.bytes) written.errors; holds = told_of asks means items before after low request is written h; is = k }
+measured asks means items before after low request is written h (Err e) k = tt

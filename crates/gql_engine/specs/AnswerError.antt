@@ -35,8 +35,9 @@ call_of schema query operation_name variables introspection = record {
   introspection = introspection;
 }
 
-abbrev pub call_by : CallHere → Call
-call_by call = call_of call.schema.now call.query.now call.operation_name call.variables.now call.introspection
+-- the call over these texts
+abbrev pub call_over : (schema query : List ℕ) → CallHere → Call
+call_over schema query call = call_of schema query call.operation_name call.variables.now call.introspection
 
 -- what it wants with these members of the variables' object
 abbrev pub wanted_with : Call → Members → Wanted
@@ -88,8 +89,9 @@ ComesFor error told = error ≡ told
 abbrev pub IsValid : Call → Type 0
 IsValid call = Asks call Ready
 
--- the variables' text is refused as no JSON text, or when out of memory
-abbrev pub IsUnread : List ℕ → AnswerError → Type 0
-IsUnread variables (Variables (Read fault)) = JsonFault variables fault
-IsUnread variables Memory = Unit {0}
-IsUnread variables _ = ⊥
+-- the variables' text is refused as none of an object, or when out of memory
+abbrev pub IsNoVariables : List ℕ → AnswerError → Type 0
+IsNoVariables variables (Variables (Read fault)) = JsonFault variables fault
+IsNoVariables variables (Variables NotObject) = IsNoObject variables
+IsNoVariables variables Memory = Unit {0}
+IsNoVariables variables _ = ⊥

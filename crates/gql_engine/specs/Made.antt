@@ -2,9 +2,14 @@
 use Rattle.std.specs.Prelude.{◌≡◌, ℕ, List}
 use Rattle.gql_engine.specs.declared.made.Made.{Made}
 use Rattle.gql_engine.specs.declared.made.Made.TheVariants.{Nothing, Schema, Both}
+use Rattle.gql_engine.specs.Phases.{Mean}
 
 -- it was made of these texts
 abbrev pub IsMadeOf : (schema query : List ℕ) → Made → Type 0
-IsMadeOf schema query Nothing = Unit {0}
-IsMadeOf schema query (Schema service) = schema ≡ service.now
-IsMadeOf schema query (Both prepared) = (schema ≡ prepared.now.schema) × (query ≡ prepared.now.query)
+IsMadeOf schema query (Nothing schema_text query_text) = (schema ≡ schema_text.now) × (query ≡ query_text.now)
+IsMadeOf schema query (Schema service query_text) = (schema ≡ service.now) × (query ≡ query_text.now)
+IsMadeOf schema query (Both texts) = Mean schema query texts
+
+-- there are such texts
+abbrev pub IsMadeOfSome : Made → Type 0
+IsMadeOfSome made = (schema query : List ℕ) × IsMadeOf schema query made

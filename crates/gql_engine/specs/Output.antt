@@ -1,21 +1,14 @@
 -- What a task writes.
-use Rattle.std.specs.Prelude.{◌≡◌, ◌≤◌, ◌+◌, ℕ, List, [], ◌∷◌, ◌++◌, length, ◌⊎◌, codes}
+use Rattle.std.specs.Prelude.{◌≡◌, ◌≤◌, ◌+◌, ℕ, List, ◌++◌, length, ◌⊎◌, codes}
 use Rattle.std.specs.Fmt.{decimal}
 use Rattle.gql_engine.specs.Answered.{errors_in}
 use Rattle.gql_engine.specs.declared.response_bytes.Written.{Written}
 use Rattle.gql_request.specs.SelfTest.{self_test}
 use Rattle.gql_engine.specs.Reply.{Answers, AreReports, Passes, Refuses, SaysNotAsked}
-use Rattle.gql_engine.specs.declared.output.Output.{Output}
-use Rattle.gql_engine.specs.declared.reply.Reply.{Reply}
-use Rattle.gql_engine.specs.declared.reply.Reply.TheVariants.{Response, Passed, Reports, Refusal}
-use Rattle.jb_io.specs.declared.serving.TheConstants.{ANSWERED, REFUSED}
+use Rattle.gql_engine.specs.Serving.{line}
 use Rattle.gql_engine.specs.declared.task.Task.{Task}
 use Rattle.gql_engine.specs.declared.task.Task.TheVariants.{Request, SelfTest}
 use Rattle.gql_engine.specs.declared.task.Wish.TheVariants.{Answer, Check}
-
--- a text as it is written, with its LF
-abbrev pub line : List ℕ → List ℕ
-line text = text ++ 10 ∷ []
 
 -- the text is one line, of which this holds
 pub record Line (Holds : List ℕ → Type 0) (text : List ℕ) : Type 0 where
@@ -49,19 +42,6 @@ IsRefused (SelfTest items) bytes text = ⊥
 
 -- ---- on the way
 
--- the status tells which of both
-pub record IsOutput (task : Task) (before after : ℕ) (bytes : List ℕ) (output : Output) : Type 0 where
-  pub either : (output.status ≡ ANSWERED) ⊎ (output.status ≡ REFUSED)
-  pub done : output.status ≡ ANSWERED → IsDone task before after bytes output.text
-  pub refused : output.status ≡ REFUSED → IsRefused task bytes output.text
-
--- the output for a reply
-abbrev pub IsOutputOf : Reply → Output → Type 0
-IsOutputOf (Response written) output = (output.status ≡ ANSWERED) × (output.text ≡ line written.bytes)
-IsOutputOf Passed output = (output.status ≡ ANSWERED) × (output.text ≡ line (codes "ok"))
-IsOutputOf (Reports text) output = (output.status ≡ REFUSED) × (output.text ≡ text)
-IsOutputOf (Refusal text) output = (output.status ≡ REFUSED) × (output.text ≡ line text)
-
--- the output of a self-test with this response
-abbrev pub IsMeasured : ℕ → Written → Output → Type 0
-IsMeasured items written output = (output.status ≡ ANSWERED) × (output.text ≡ line (summary items (length written.bytes) written.errors))
+-- the text of a self-test with this response
+abbrev pub IsMeasured : ℕ → Written → List ℕ → Type 0
+IsMeasured items written text = text ≡ line (summary items (length written.bytes) written.errors)

@@ -1,10 +1,7 @@
--- What a request is answered with. The relations hold between the bytes of the request and the text that is written, or what there is
--- before it is written.
-use Rattle.std.specs.Prelude.{◌≡◌, ℕ, List, [], ◌∷◌, unwrap_or}
-use Rattle.jb_tree.specs.declared.value.Value.{Value}
+-- What a request is answered with. The relations hold between the bytes of the request, or what they ask, and the text that is written.
+use Rattle.std.specs.Prelude.{◌≡◌, ℕ, List, [], ◌∷◌, codes, unwrap_or}
 use Rattle.jb_print.specs.Compact.{compact}
-use Rattle.jb_read.specs.Spelling.{JsonText}
-use Rattle.gql_engine.specs.Answered.{Answered, AnswerLooks, IsAnsweredInFull, errors_in}
+use Rattle.gql_engine.specs.Answered.{Answered, AnswerLooks, IsAnsweredInFull}
 use Rattle.gql_engine.specs.Ready.{Ready}
 use Rattle.gql_engine.specs.Unanswered.{Unanswered}
 use Rattle.gql_engine.specs.Wanted.{Wanted}
@@ -17,8 +14,10 @@ use Rattle.gql_request.specs.NotAsked.{IsAsked, NotAsked}
 use Rattle.gql_request.specs.Request.{Asked}
 use Rattle.gql_response.specs.declared.graphql_error.GraphQLError.{GraphQLError}
 use Rattle.gql_engine.specs.Meant.{AreFaults, Meant}
-use Rattle.gql_engine.specs.declared.reply.Reply.{Reply}
-use Rattle.gql_engine.specs.declared.reply.Reply.TheVariants.{Response, Passed, Reports, Refusal}
+use Rattle.gql_request.specs.declared.request.RequestForm.TheVariants.{Plain}
+use Rattle.gql_engine.specs.Responding.{Responds}
+use Rattle.gql_engine.specs.Serving.{line}
+use Rattle.gql_engine.specs.declared.response_bytes.Written.{Written}
 use Rattle.gql_engine.specs.declared.task.Wish.{Wish}
 use Rattle.gql_engine.specs.declared.task.Wish.TheVariants.{Answer, Check}
 
@@ -46,15 +45,15 @@ AnswersAsked request text = Answered (λ object. object.type_name) data_meaning 
 -- counted for it
 pub record Answers (before after : ℕ) (bytes text : List ℕ) : Type 0 where
   pub request : Asked
-  pub asks : IsAsked bytes request
+  pub asks : IsAsked Plain bytes request
   pub answered : AnswersAsked request text
   pub explained : IsAnsweredInFull answered
   pub looks : AnswerLooks answered before after
 
 -- why the bytes are refused, with the errors of each cause
 pub data Cause (bytes : List ℕ) : List GraphQLError → Type 0 where
-  not_asked : (message : List ℕ) → NotAsked bytes message → Cause bytes (message_error message ∷ [])
-  unanswered : (request : Asked) (errors : List GraphQLError) → IsAsked bytes request → Unanswered (wanted_of request) errors → Cause bytes errors
+  not_asked : (message : List ℕ) → NotAsked Plain bytes message → Cause bytes (message_error message ∷ [])
+  unanswered : (request : Asked) (errors : List GraphQLError) → IsAsked Plain bytes request → Unanswered (wanted_of request) errors → Cause bytes errors
 
 -- the text says why the bytes are refused
 pub record Refuses (bytes text : List ℕ) : Type 0 where
@@ -67,13 +66,13 @@ pub record Refuses (bytes text : List ℕ) : Type 0 where
 -- both texts of the request mean something
 pub record Passes (bytes : List ℕ) : Type 0 where
   pub request : Asked
-  pub asks : IsAsked bytes request
+  pub asks : IsAsked Plain bytes request
   pub meant : Meant request.schema request.query
 
 -- the list is what is wrong with the first text of the request that means nothing
 pub record IsFaulty (bytes : List ℕ) (list : Diagnostics) : Type 0 where
   pub request : Asked
-  pub asks : IsAsked bytes request
+  pub asks : IsAsked Plain bytes request
   pub faults : AreFaults request.schema request.query list
 
 -- the text is the reports of that
@@ -85,42 +84,53 @@ pub record AreReports (bytes text : List ℕ) : Type 0 where
 -- the text says why the bytes are no request
 pub record SaysNotAsked (bytes text : List ℕ) : Type 0 where
   pub message : List ℕ
-  pub not_asked : NotAsked bytes message
+  pub not_asked : NotAsked Plain bytes message
   pub written : text ≡ compact (refusal_value (message_error message ∷ []))
 
 -- ---- which requests may not be refused, and which must be
 
 -- nothing is in the way of what is wished
 abbrev pub MustDo : Wish → List ℕ → Type 0
-MustDo Answer bytes = (request : Asked) × IsAsked bytes request × Ready (wanted_of request)
+MustDo Answer bytes = (request : Asked) × IsAsked Plain bytes request × Ready (wanted_of request)
 MustDo Check bytes = Passes bytes
 
 -- there is a cause of a refusal
 pub data MustRefuse (wish : Wish) (bytes : List ℕ) : Type 0 where
-  no_request : (message : List ℕ) → NotAsked bytes message → MustRefuse wish bytes
-  no_answer : (request : Asked) (errors : List GraphQLError) → wish ≡ Answer → IsAsked bytes request → Unanswered (wanted_of request) errors
+  no_request : (message : List ℕ) → NotAsked Plain bytes message → MustRefuse wish bytes
+  no_answer : (request : Asked) (errors : List GraphQLError) → wish ≡ Answer → IsAsked Plain bytes request → Unanswered (wanted_of request) errors
       → MustRefuse wish bytes
   faulty : (list : Diagnostics) → wish ≡ Check → IsFaulty bytes list → MustRefuse wish bytes
 
--- ---- replies on the way
+-- ---- what is wished of a request
 
-abbrev pub IsReply : Wish → (before after : ℕ) → List ℕ → Reply → Type 0
-IsReply Answer before after bytes (Response written) = (is : Answers before after bytes written.bytes) × (written.errors ≡ errors_in is.answered)
-IsReply Answer before after bytes (Refusal text) = Refuses bytes text
-IsReply Check before after bytes Passed = Passes bytes
-IsReply Check before after bytes (Reports text) = AreReports bytes text
-IsReply Check before after bytes (Refusal text) = SaysNotAsked bytes text
-IsReply wish before after bytes reply = ⊥
+-- the text is the line of a response to the request, whose data and errors explain each other; and these looks were counted for it
+pub record IsResponseTo (before after : ℕ) (request : Asked) (text : List ℕ) : Type 0 where
+  pub answered : AnswersAsked request text
+  pub explained : IsAnsweredInFull answered
+  pub looks : AnswerLooks answered before after
 
--- a reply to whatever bytes spell this value
-abbrev pub IsReplyTo : Wish → (before after : ℕ) → Value → Reply → Type 0
-IsReplyTo wish before after value reply = (bytes : List ℕ) → JsonText bytes value → IsReply wish before after bytes reply
+-- with the number of its errors
+abbrev pub RespondsTo : Asked → (before after : ℕ) → Written → Type 0
+RespondsTo request before after written =
+    Responds (λ (object : Data). object.type_name) data_meaning (root_of request) (wanted_of request) before after written
 
--- a reply to whatever bytes spell this request
-abbrev pub IsReplyToAsked : Wish → (before after : ℕ) → Asked → Reply → Type 0
-IsReplyToAsked wish before after request reply = (bytes : List ℕ) → IsAsked bytes request → IsReply wish before after bytes reply
+-- what was asked for
+abbrev pub WishAnswers : Wish → Asked → (before after : ℕ) → List ℕ → Type 0
+WishAnswers Answer request before after text = (response : List ℕ) × IsResponseTo before after request response × (text ≡ line response)
+WishAnswers Check request before after text = Meant request.schema request.query × (text ≡ line (codes "ok"))
 
--- the refusal with one message
-abbrev pub IsRefusedWith : List ℕ → Reply → Type 0
-IsRefusedWith message (Refusal text) = text ≡ compact (refusal_value (message_error message ∷ []))
-IsRefusedWith message reply = ⊥
+-- why it is refused, or what is wrong with the texts
+abbrev pub WishRefuses : Wish → Asked → List ℕ → Type 0
+WishRefuses Answer request text =
+    (errors : List GraphQLError) × Unanswered (wanted_of request) errors × (text ≡ line (compact (refusal_value errors)))
+WishRefuses Check request text = (list : Diagnostics) × AreFaults request.schema request.query list × (text ≡ reports_of list)
+
+-- nothing is in the way
+abbrev pub WishMust : Wish → Asked → Type 0
+WishMust Answer request = Ready (wanted_of request)
+WishMust Check request = Meant request.schema request.query
+
+-- there is a cause of a refusal
+abbrev pub WishMustNot : Wish → Asked → Type 0
+WishMustNot Answer request = (errors : List GraphQLError) × Unanswered (wanted_of request) errors
+WishMustNot Check request = (list : Diagnostics) × AreFaults request.schema request.query list

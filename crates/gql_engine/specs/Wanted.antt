@@ -15,11 +15,11 @@ pub record Wanted : Type 0 where
   pub variables : Members
   pub introspection : Bool
 
--- what is wanted by references to it
-abbrev pub wanted_by : WantedHere → Wanted
-wanted_by wanted = record {
-  schema = wanted.schema.now;
-  query = wanted.query.now;
+-- what is wanted of these texts
+abbrev pub wanted_over : (schema query : List ℕ) → WantedHere → Wanted
+wanted_over schema query wanted = record {
+  schema = schema;
+  query = query;
   operation_name = text_of wanted.operation_name;
   variables = wanted.variables.now;
   introspection = wanted.introspection;

@@ -1,26 +1,24 @@
 //! Answering: a schema, a query and a resolver in, a response out.
 
-ghost use Rattle.std.specs.Prelude.{◌≡◌, ◌≢◌, IfOk, IfErr, IsErrAnd};
+ghost use Rattle.std.specs.Prelude.{◌≡◌, ◌≢◌, ℕ, List, IfOk, IfErr, IsErrAnd};
 ghost use Rattle.gql_engine.specs.declared.answer_error.AnswerError.{AnswerError as Refusal};
 ghost use Rattle.gql_engine.specs.declared.answer_error.AnswerError.TheVariants as refusal;
-ghost use Rattle.jb_read.specs.Spelling.{JsonText};
-ghost use Rattle.gql_engine.specs.AnswerError.{ComesFor, HasCause, IsUnread, IsValid, call_by, call_of};
-ghost use Rattle.gql_engine.specs.Answering.{Answers, AnswersWithin, GivesAnswer};
-ghost use Rattle.gql_engine.specs.Made.{IsMadeOf};
-ghost use Rattle.gql_engine.specs.Responding.{IsAnswer};
-ghost use Rattle.gql_engine.specs.Wanted.{wanted_by};
+ghost use Rattle.gql_engine.specs.AnswerError.{ComesFor, HasCause, IsValid, call_of, call_over, wanted_with};
+ghost use Rattle.gql_engine.specs.Answering.{AnswersWithin, GivesAnswer};
+ghost use Rattle.gql_engine.specs.Made.{IsMadeOf, IsMadeOfSome};
+ghost use Rattle.gql_engine.specs.Responding.{AnsweredWithin, OrCause};
 
-use crate::answer_error::{AnswerError, VariablesFault};
+use crate::answer_error::AnswerError;
 use crate::call::Call;
+use crate::laws;
 use crate::made::Made;
 use crate::responding::respond_with;
+use crate::variables::read_variables;
 use crate::wanted::Wanted;
 use bytes::Bytes;
 use gql_collect::Steps;
-use gql_parser::laws as text_laws;
 use gql_resolvers::ObjectValue;
-use jb_read::{from_bytes_whole, laws};
-use jb_tree::{Refused, Value};
+use jb_tree::Map;
 use std::alloc::Global;
 use std::sync::ledger::Ledger;
 
@@ -78,88 +76,72 @@ pub fn answer<O: ObjectValue, L: Ledger>(
         → IfErr result (λ error. error ≡ refusal.Memory) }
 {
     let call = Call {
-        schema,
-        query,
         operation_name,
         variables,
         introspection,
     };
-    answer_call(alloc, &call, Made::Nothing, root, steps)
+    answer_call(alloc, Made::Nothing { schema, query }, &call, root, steps)
 }
 
-/// The response, or the first cause of a refusal; where a cause holds its refusal comes, unless memory fails. What was made of the
-/// texts before is not made again.
+/// The response to a call over what was made of two texts, or the first cause of a refusal; where a cause holds its refusal comes,
+/// unless memory fails. What was made before is not made again.
 pub(crate) fn answer_call<O: ObjectValue, L: Ledger>(
     alloc: Global,
-    call: &Call<'_>,
     made: Made<'_>,
+    call: &Call<'_>,
     root: &O,
     steps: &mut Steps<L>,
 ) -> Result<Bytes, AnswerError>
-    requires { IsMadeOf call.now.schema.now call.now.query.now made }
-    ensures answer { GivesAnswer O.type_of O.resolves (O.seen root.now) (call_by call.now) result }
-    ensures answered { IfOk result (AnswersWithin O.type_of O.resolves (O.seen root.now) (call_by call.now) steps.old steps.new) }
+    requires { IsMadeOfSome made }
+    ensures answer { (schema query : List ℕ) → IsMadeOf schema query made.entry
+        → GivesAnswer O.type_of O.resolves (O.seen root.now) (call_over schema query call.now) result }
+    ensures answered { (schema query : List ℕ) → IsMadeOf schema query made.entry
+        → IfOk result (AnswersWithin O.type_of O.resolves (O.seen root.now) (call_over schema query call.now) steps.old steps.new) }
 {
-    laws::each_text_has_one_answer();
-    text_laws::texts_have_one_schema();
-    text_laws::texts_have_one_document_each();
-    answer_or_refuse(alloc, call, made, root, steps)
+    laws::causes_exclude_one_another();
+    answer_or_refuse(alloc, made, call, root, steps)
 }
 
 /// The response, or the first cause of a refusal.
 fn answer_or_refuse<O: ObjectValue, L: Ledger>(
     alloc: Global,
-    call: &Call<'_>,
     made: Made<'_>,
+    call: &Call<'_>,
     root: &O,
     steps: &mut Steps<L>,
 ) -> Result<Bytes, AnswerError>
-    requires { IsMadeOf call.now.schema.now call.now.query.now made }
-    ensures answered { IfOk result (AnswersWithin O.type_of O.resolves (O.seen root.now) (call_by call.now) steps.old steps.new) }
-    ensures refused { IfErr result (HasCause (call_by call.now)) }
+    requires { IsMadeOfSome made }
+    ensures answered { (schema query : List ℕ) → IsMadeOf schema query made.entry
+        → IfOk result (AnswersWithin O.type_of O.resolves (O.seen root.now) (call_over schema query call.now) steps.old steps.new) }
+    ensures refused { (schema query : List ℕ) → IsMadeOf schema query made.entry → IfErr result (HasCause (call_over schema query call.now)) }
 {
-    let value = read_variables(alloc, call.variables)?;
-    match value.as_object() {
-        Some(variables) => {
-            let wanted = Wanted {
-                schema: call.schema,
-                query: call.query,
-                operation_name: call.operation_name,
-                variables,
-                introspection: call.introspection,
-            };
-            answer_wanted(alloc, &wanted, made, root, steps)
-        }
-        None => Err(AnswerError::Variables(VariablesFault::NotObject)),
+    match read_variables(alloc, call.variables) {
+        Ok(variables) => answer_wanted(alloc, made, call, &variables, root, steps),
+        Err(refusal) => Err(refusal),
     }
 }
 
-/// The value that the text of the variables spells.
-fn read_variables(alloc: Global, variables: &Bytes) -> Result<Value, AnswerError>
-    ensures read { IfOk result (JsonText variables.now) }
-    ensures refused { IfErr result (IsUnread variables.now) }
-{
-    match from_bytes_whole(alloc, variables) {
-        Ok(value) => Ok(value),
-        Err(Refused::Fault(fault)) => Err(AnswerError::Variables(VariablesFault::Read(fault))),
-        Err(Refused::Memory) => Err(AnswerError::Memory),
-    }
-}
-
-/// The response to what is wanted, or the refusal as callers are told it.
+/// The response where the variables have these values, or the first cause of a refusal.
 fn answer_wanted<O: ObjectValue, L: Ledger>(
     alloc: Global,
-    wanted: &Wanted<'_>,
     made: Made<'_>,
+    call: &Call<'_>,
+    variables: &Map,
     root: &O,
     steps: &mut Steps<L>,
 ) -> Result<Bytes, AnswerError>
-    requires { IsMadeOf wanted.now.schema.now wanted.now.query.now made }
-    ensures answered { IsAnswer O.type_of O.resolves (O.seen root.now) (wanted_by wanted.now) steps.old steps.new result }
+    requires { IsMadeOfSome made }
+    ensures { (schema query : List ℕ) → IsMadeOf schema query made.entry
+        → OrCause (wanted_with (call_over schema query call.now) variables.now) (AnsweredWithin O.type_of O.resolves (O.seen root.now)
+        (wanted_with (call_over schema query call.now) variables.now) steps.old steps.new) result }
 {
-    match respond_with(alloc, wanted, made, root, steps) {
+    let wanted = Wanted {
+        operation_name: call.operation_name,
+        variables,
+        introspection: call.introspection,
+    };
+    match respond_with(alloc, made, &wanted, root, steps) {
         Ok(written) => Ok(written.bytes),
-        Err(Refused::Fault(refusal)) => Err(refusal.into_error(alloc)?),
-        Err(Refused::Memory) => Err(AnswerError::Memory),
+        Err(refusal) => Err(refusal),
     }
 }

@@ -1,12 +1,10 @@
-//! What a call for an answer is given, but for its resolver.
+//! What a call for an answer is given, but for its texts and its resolver.
 
 use bytes::Bytes;
 
-/// The texts of the schema, of the query and of the variables, and what is asked for.
+/// The name of the operation, the text of the variables, and whether introspection is on.
 #[derive(Clone, Copy)]
 pub(crate) struct Call<'c> {
-    pub(crate) schema: &'c str,
-    pub(crate) query: &'c str,
     pub(crate) operation_name: Option<&'c str>,
     pub(crate) variables: &'c Bytes,
     pub(crate) introspection: bool,

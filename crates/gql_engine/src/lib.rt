@@ -9,6 +9,9 @@
 //! A [`Service`] is a schema that is checked once. Each request that it is asked is answered as [`answer`] answers it with the text
 //! of that schema, and so is a query that was [`Prepared`] once.
 //!
+//! Further programs stand on the same pieces as these: [`phases`] has the steps of an answer one by one, [`serving`] the run of a
+//! program that reads requests, and [`laws`] what the definitions say by themselves, as that causes exclude one another.
+//!
 //! The modules have what stands below, one for each part of the work, under the names that users of GraphQL in Rust know. The names
 //! that most users need are here too.
 #![tactic(auto)]
@@ -16,6 +19,8 @@
 mod answer_error;
 mod answering;
 mod call;
+mod decimal_word;
+pub mod laws;
 mod list_reports;
 mod made;
 mod meaning;
@@ -23,15 +28,19 @@ mod output;
 mod prepared;
 pub mod program;
 mod question;
-mod refusal;
+mod ready;
 mod reply;
+mod request_command;
+mod request_serving;
 mod responding;
 mod response_bytes;
+mod self_test;
 mod service;
 mod steps_before;
 mod task;
 mod text_in;
 mod uncounted;
+mod variables;
 mod wanted;
 
 /// Documents as syntax trees, which know of no schema (GraphQL October 2021, section 2).
@@ -110,10 +119,30 @@ pub mod introspection {
     pub use gql_introspection::MetaObject;
 }
 
-/// The steps between the texts and the execution of a request (section 6.1).
+/// Requests: their JSON, and the steps between the texts and the execution (section 6.1).
 pub mod request {
     pub use gql_collect::coerce_variable_values;
     pub use gql_diag::{RequestError, refusal_of_request};
+    pub use gql_request::{Member, Request, RequestFault, RequestForm, decode, read_message};
+}
+
+/// The steps of an answer one by one, for programs that do something else in between: what is wanted, the texts, what nothing is in
+/// the way of, and its execution.
+pub mod phases {
+    pub use crate::meaning::{check_query, check_schema};
+    pub use crate::ready::ReadyOperation;
+    pub use crate::responding::respond;
+    pub use crate::response_bytes::Written;
+    pub use crate::variables::read_variables;
+    pub use crate::wanted::Wanted;
+}
+
+/// Programs that read requests as [`run`] does, each with words and commands of its own.
+pub mod serving {
+    pub use crate::decimal_word::decimal_word;
+    pub use crate::output::{Output, done_with, line, refused_for, refused_with};
+    pub use crate::request_command::RequestCommand;
+    pub use crate::request_serving::{serve_requests, serve_requests_uncounted};
 }
 
 /// Responses (section 7).

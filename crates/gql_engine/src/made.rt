@@ -1,14 +1,21 @@
-//! What is at hand of the texts of a request.
+//! What a response is wanted of: two texts, or what was made of them before.
 
-use crate::prepared::Prepared;
+use crate::meaning::Texts;
 use crate::service::Service;
 
-/// What was made before of the texts that a response is wanted of.
+/// The texts of a schema and of a query, or what is at hand of them.
 #[derive(Clone, Copy)]
 pub(crate) enum Made<'m> {
-    Nothing,
+    /// Nothing: the texts.
+    Nothing {
+        schema: &'m str,
+        query: &'m str,
+    },
     /// The schema.
-    Schema(&'m Service),
+    Schema {
+        service: &'m Service,
+        query: &'m str,
+    },
     /// The schema, and the document against it.
-    Both(&'m Prepared<'m>),
+    Both(Texts<'m>),
 }

@@ -1,104 +1,78 @@
-//! What a task writes.
+//! What is written for an input.
 
-ghost use Rattle.std.specs.Prelude.{◌≡◌, ℕ, List, length, IfOk};
-ghost use Rattle.gql_engine.specs.Output.{IsMeasured, IsOutput, IsOutputOf, line as line_of, summary as summary_of};
-ghost use Rattle.gql_engine.specs.declared.task.Task.TheVariants as tasks;
+ghost use Rattle.std.specs.Prelude.{◌≡◌, IfOk};
+ghost use Rattle.gql_engine.specs.Serving.{line as line_of, message_line, status_of, text_of};
+ghost use Rattle.gql_engine.specs.ToldLine.{IsRefusalLine};
+ghost use Rattle.gql_engine.specs.declared.output.Output.TheVariants as outputs;
 
-use crate::reply::{Reply, reply_to};
-use crate::response_bytes::Written;
-use crate::task::Wish;
+use crate::answer_error::AnswerError;
 use bytes::{Bytes, BytesMut};
-use gql_collect::Steps;
-use gql_request::{laws as request_laws, self_test_text};
+use gql_diag::refusal_of_message;
 use jb_io::{ANSWERED, REFUSED};
 use jb_tree::Memory;
-use std::alloc::{AllocError, Global};
-use std::sync::ledger::Ledger;
+use std::alloc::Global;
 
-/// All that is written, and the status where it is written whole.
+/// All that is written for an input, as it stands.
 #[derive(Drop)]
-pub(crate) struct Output {
-    pub(crate) status: u8,
-    pub(crate) text: Bytes,
+pub enum Output {
+    /// What was asked for.
+    Done(Bytes),
+    /// Why it is refused.
+    Refused(Bytes),
 }
 
-/// The output for the bytes of a request. `Err` when out of memory.
-pub(crate) fn output_of<L: Ledger>(
-    alloc: Global,
-    wish: Wish,
-    input: &Bytes,
-    steps: &mut Steps<L>,
-) -> Result<Output, Memory>
-    ensures { IfOk result (IsOutput (tasks.Request wish) steps.old steps.new input.now) }
-{
-    let reply = reply_to(alloc, wish, input, steps)?;
-    output_for(alloc, reply)
-}
+impl Output {
+    /// The text that is written.
+    #[must_use]
+    pub fn text(&self) -> &[u8]
+        ensures { result.now ≡ text_of self.now }
+    {
+        let (Output::Done(text) | Output::Refused(text)) = self;
+        text.as_slice()
+    }
 
-/// The output for a reply to a request.
-fn output_for(alloc: Global, reply: Reply) -> Result<Output, Memory>
-    ensures { IfOk result (IsOutputOf reply) }
-{
-    match reply {
-        Reply::Response(written) => Ok(Output {
-            status: ANSWERED,
-            text: line(alloc, written.bytes)?,
-        }),
-        Reply::Passed => Ok(Output {
-            status: ANSWERED,
-            text: Bytes::from_static(b"ok\n"),
-        }),
-        Reply::Reports(text) => Ok(Output {
-            status: REFUSED,
-            text,
-        }),
-        Reply::Refusal(text) => Ok(Output {
-            status: REFUSED,
-            text: line(alloc, text)?,
-        }),
+    /// The exit status where it is written whole: [`ANSWERED`] or [`REFUSED`].
+    #[must_use]
+    pub fn status(&self) -> u8
+        ensures { result ≡ status_of self.now }
+    {
+        match self {
+            Output::Done(_) => ANSWERED,
+            Output::Refused(_) => REFUSED,
+        }
     }
 }
 
-/// How many bytes the response to the self-test's request has, and how many errors. That request is answered; if it were not, no
-/// output would be right, and the self-test would end as when out of memory.
-pub(crate) fn self_test<L: Ledger>(
-    alloc: Global,
-    items: u32,
-    steps: &mut Steps<L>,
-) -> Result<Output, Memory>
-    ensures { (input : List ℕ) → IfOk result (IsOutput (tasks.SelfTest items) steps.old steps.new input) }
+/// The line of JSON that refuses with one message: an object with one error (GraphQL October 2021, section 7.1.2). `Err` only when
+/// out of memory.
+pub fn refused_with(alloc: Global, message: &str) -> Result<Output, Memory>
+    ensures { IfOk result (λ output. output ≡ outputs.Refused (message_line message.now)) }
 {
-    request_laws::self_tests_ask_this();
-    request_laws::self_tests_mean_this();
-    let request = self_test_text(alloc, items)?;
-    match reply_to(alloc, Wish::Answer, &request, steps)? {
-        Reply::Response(written) => measured(alloc, items, &written),
-        _ => Err(AllocError),
-    }
+    let text = refusal_of_message(alloc, message)?;
+    Ok(Output::Refused(line(alloc, text)?))
 }
 
-/// The output of a self-test whose response this is.
-fn measured(alloc: Global, items: u32, written: &Written) -> Result<Output, Memory>
-    ensures { IfOk result (IsMeasured items written.now) }
+/// The line that tells a refusal of an answer: its JSON, as [`AnswerError::into_bytes`] has it.
+///
+/// # Errors
+///
+/// [`Memory`] where the refusal is [`AnswerError::Memory`], and when out of memory.
+pub fn refused_for(alloc: Global, refusal: AnswerError) -> Result<Output, Memory>
+    ensures { IfOk result (IsRefusalLine refusal) }
 {
-    Ok(Output {
-        status: ANSWERED,
-        text: line(alloc, summary(alloc, items, written)?)?,
-    })
+    let told = refusal.into_bytes(alloc)?;
+    Ok(Output::Refused(line(alloc, told)?))
 }
 
-/// What the self-test writes, without its line feed.
-fn summary(alloc: Global, items: u32, written: &Written) -> Result<Bytes, Memory>
-    ensures { IfOk result (λ text. text ≡ summary_of items (length written.now.bytes) written.now.errors) }
+/// The line of what was asked for. `Err` only when out of memory.
+pub fn done_with(alloc: Global, text: Bytes) -> Result<Output, Memory>
+    ensures { IfOk result (λ output. output ≡ outputs.Done (line_of text)) }
 {
-    let length = written.bytes.len();
-    let errors = written.errors;
-    let text = format!(in alloc; "selftest {items}: {length} bytes, {errors} errors")?;
-    Bytes::from_string(text)
+    Ok(Output::Done(line(alloc, text)?))
 }
 
-/// A text with one line feed. It goes into the text's own buffer, where nothing else shares that.
-fn line(alloc: Global, text: Bytes) -> Result<Bytes, Memory>
+/// A text with one line feed. It goes into the text's own buffer, where nothing else shares that. `Err` only when out of memory.
+pub fn line(alloc: Global, text: Bytes) -> Result<Bytes, Memory>
     ensures { IfOk result (λ line. line ≡ line_of text) }
 {
     let mut line = match text.try_into_mut() {

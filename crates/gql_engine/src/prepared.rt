@@ -1,7 +1,7 @@
 //! A query that is read and checked once.
 
 ghost use Rattle.std.specs.Prelude.{◌≡◌, IfOk};
-ghost use Rattle.gql_engine.specs.AnswerError.{call_by, call_of};
+ghost use Rattle.gql_engine.specs.AnswerError.{call_of};
 ghost use Rattle.gql_engine.specs.AtHand.{IsDocumentOver};
 ghost use Rattle.gql_engine.specs.Answering.{AnswersWithin, GivesAnswer};
 ghost use Rattle.gql_engine.specs.Meant.{AreMeant};
@@ -111,24 +111,6 @@ impl<'s> Prepared<'s> {
         }
     }
 
-    /// The call for an answer to an operation of the query.
-    fn call<'c>(
-        &'c self,
-        operation_name: Option<&'c str>,
-        variables: &'c Bytes,
-        introspection: bool,
-    ) -> Call<'c>
-        ensures { call_by result ≡ call_of self.now.schema self.now.query operation_name.entry variables.now introspection }
-    {
-        Call {
-            schema: self.schema_text(),
-            query: self.query_text(),
-            operation_name,
-            variables,
-            introspection,
-        }
-    }
-
     /// Answers an operation of the query, as [`answer`](crate::answer) does with both texts: the same bytes, and the same looks on
     /// `steps`.
     ///
@@ -150,8 +132,12 @@ impl<'s> Prepared<'s> {
         ensures answered { IfOk result (AnswersWithin O.type_of O.resolves (O.seen root.now)
             (call_of self.now.schema self.now.query operation_name.entry variables.now introspection) steps.old steps.new) }
     {
-        let call = self.call(operation_name, variables, introspection);
-        answer_call(alloc, &call, Made::Both(self), root, steps)
+        let call = Call {
+            operation_name,
+            variables,
+            introspection,
+        };
+        answer_call(alloc, Made::Both(self.texts()), &call, root, steps)
     }
 
     /// [`Prepared::answer`] without a counter of steps: the same response or refusal.
@@ -170,7 +156,11 @@ impl<'s> Prepared<'s> {
         ensures { GivesAnswer O.type_of O.resolves (O.seen root.now)
             (call_of self.now.schema self.now.query operation_name.entry variables.now introspection) result }
     {
-        let call = self.call(operation_name, variables, introspection);
-        answer_alone::<O, Brand>(alloc, &call, Made::Both(self), root, Blank::new(1))
+        let call = Call {
+            operation_name,
+            variables,
+            introspection,
+        };
+        answer_alone::<O, Brand>(alloc, Made::Both(self.texts()), &call, root, Blank::new(1))
     }
 }

@@ -1,26 +1,23 @@
 //! The program: its words, its input and its output.
 
-ghost use Rattle.std.specs.Prelude.{◌≡◌, ◌≢◌, ◌≤◌, ◌⊎◌, ℕ, List, Option, map, string_bytes, IfErr, IfOk};
-ghost use Rattle.gql_engine.specs.Program.{BreaksOff, IsInput, IsLong, IsUnread, MustDo, MustRefuse, Runs, Writes, WritesOutput, WritesUsage, usage};
+ghost use Rattle.std.specs.Prelude.{◌≡◌, ◌≢◌, ◌≤◌, ◌⊎◌, ℕ, map, string_bytes};
+ghost use Rattle.gql_engine.specs.Program.{BreaksOff, IsInput, IsLong, IsTested, MustDo, MustRefuse, Writes, usage};
 ghost use Rattle.gql_engine.specs.Output.{IsDone, IsRefused};
 ghost use Rattle.gql_engine.specs.Task.{Asks, IsNoCommand, ReadsInput};
 ghost use Rattle.gql_engine.specs.declared.task.Wish.{Wish as WishAsked};
 ghost use Rattle.gql_engine.specs.declared.task.Task.TheVariants as tasks;
 ghost use Rattle.jb_io.specs.Sink.{Takes, TakesFront};
-ghost use Rattle.jb_io.specs.Source.{GivesAtMost, GivesMore, ReadsWhole};
+ghost use Rattle.jb_io.specs.Source.{GivesAtMost, GivesMore};
 ghost use Rattle.jb_io.specs.Stream.{HasFailed};
 
-use crate::output::{Output, output_of, self_test};
+use crate::request_serving::serve_requests;
+use crate::self_test::self_test;
 use crate::task::{Task, Wish, task_asked};
-use bytes::Bytes;
 use gql_collect::Steps;
-use gql_parser::laws as text_laws;
 use jb_io::{
-    ANSWERED, InputFault, MISUSED, NO_MEMORY, REFUSED, SINK_FAILED, SOURCE_FAILED, Sink, SinkFault,
-    Source, SureSink, SureSource, TOO_LONG, read_to_end, write_all,
+    ANSWERED, MISUSED, NO_MEMORY, REFUSED, SINK_FAILED, SOURCE_FAILED, Sink, SinkFault, Source,
+    SureSink, SureSource, TOO_LONG, write_all,
 };
-use jb_read::laws;
-use jb_tree::{Memory, Refused};
 use std::alloc::Global;
 use std::sync::ledger::Ledger;
 
@@ -91,12 +88,12 @@ pub fn run<S: Source, K: Sink, L: Ledger>(
     ensures self_tested { (items : ℕ) → Asks (map string_bytes words.now) (tasks.SelfTest items)
         → (result ≡ ANSWERED) ⊎ ((result ≡ NO_MEMORY) ⊎ (result ≡ SINK_FAILED)) }
 {
-    laws::each_text_has_one_answer();
-    text_laws::texts_have_one_schema();
-    text_laws::texts_have_one_document_each();
     match task_asked(words) {
-        Some(task) => run_task(alloc, task, source, sink, steps),
-        None => write_usage(sink),
+        Some(Task::Request(wish)) => {
+            serve_requests(alloc, Some(wish), USAGE, source, sink, steps)
+        }
+        Some(Task::SelfTest { items }) => run_self_test(alloc, items, sink, steps),
+        None => serve_requests::<Wish, S, K, L>(alloc, None, USAGE, source, sink, steps),
     }
 }
 
@@ -151,44 +148,6 @@ pub fn run_in_memory<L: Ledger>(
     run(alloc, words, source, sink, steps)
 }
 
-/// The run of a task.
-fn run_task<S: Source, K: Sink, L: Ledger>(
-    alloc: Global,
-    task: Task,
-    source: &mut S,
-    sink: &mut K,
-    steps: &mut Steps<L>,
-) -> u8
-    ensures untouched { (items : ℕ) → task ≡ tasks.SelfTest items → source.new ≡ source.old }
-    ensures ran { Runs task steps.old steps.new (S.left source.old) (S.left source.new) (S.faults source.old) (S.faults source.new)
-        (K.taken sink.old) (K.taken sink.new) (K.faults sink.old) (K.faults sink.new) (sink.new ≡ sink.old) result }
-{
-    match task {
-        Task::Request(wish) => run_request(alloc, wish, source, sink, steps),
-        Task::SelfTest { items } => run_self_test(alloc, items, sink, steps),
-    }
-}
-
-/// The run that does with a request what is wished.
-fn run_request<S: Source, K: Sink, L: Ledger>(
-    alloc: Global,
-    wish: Wish,
-    source: &mut S,
-    sink: &mut K,
-    steps: &mut Steps<L>,
-) -> u8
-    ensures { Runs (tasks.Request wish) steps.old steps.new (S.left source.old) (S.left source.new) (S.faults source.old) (S.faults source.new)
-        (K.taken sink.old) (K.taken sink.new) (K.faults sink.old) (K.faults sink.new) (sink.new ≡ sink.old) result }
-{
-    match read_input(alloc, source) {
-        Ok(input) => {
-            let output = output_of(alloc, wish, &input, steps);
-            write_output(sink, output)
-        }
-        Err(status) => status,
-    }
-}
-
 /// The run of a self-test, which reads nothing.
 fn run_self_test<K: Sink, L: Ledger>(
     alloc: Global,
@@ -196,46 +155,13 @@ fn run_self_test<K: Sink, L: Ledger>(
     sink: &mut K,
     steps: &mut Steps<L>,
 ) -> u8
-    ensures { (left left' : Option (List ℕ)) (faults faults' : ℕ)
-        → Runs (tasks.SelfTest items) steps.old steps.new left left' faults faults'
-        (K.taken sink.old) (K.taken sink.new) (K.faults sink.old) (K.faults sink.new) (sink.new ≡ sink.old) result }
+    ensures { IsTested items steps.old steps.new (K.taken sink.old) (K.taken sink.new) (K.faults sink.old) (K.faults sink.new) (sink.new ≡ sink.old) result }
 {
-    let output = self_test(alloc, items, steps);
-    write_output(sink, output)
-}
-
-/// Reads a source to its end, or gives the status that says why it was not read.
-fn read_input<S: Source>(alloc: Global, source: &mut S) -> Result<Bytes, u8>
-    ensures read { IfOk result (ReadsWhole (S.left source.old) (S.left source.new)) }
-    ensures unread { IfErr result (IsUnread (S.left source.old) (S.left source.new) (S.faults source.old) (S.faults source.new)) }
-{
-    match read_to_end(alloc, source) {
-        Ok(bytes) => Ok(bytes),
-        Err(Refused::Memory) => Err(NO_MEMORY),
-        Err(Refused::Fault(InputFault::SourceFailed)) => Err(SOURCE_FAILED),
-        Err(Refused::Fault(InputFault::TooLong)) => Err(TOO_LONG),
-    }
-}
-
-/// Writes an output, where there is one, and gives the status.
-fn write_output<K: Sink>(sink: &mut K, output: Result<Output, Memory>) -> u8
-    ensures { WritesOutput K.taken K.faults output sink.old sink.new result }
-{
-    match output {
-        Ok(output) => match write_all(sink, output.text.as_slice()) {
-            Ok(()) => output.status,
-            Err(SinkFault) => SINK_FAILED,
-        },
-        Err(_) => NO_MEMORY,
-    }
-}
-
-/// Writes the usage line, and gives the status.
-fn write_usage<K: Sink>(sink: &mut K) -> u8
-    ensures { WritesUsage (K.taken sink.old) (K.taken sink.new) (K.faults sink.old) (K.faults sink.new) result }
-{
-    match write_all(sink, USAGE.as_bytes()) {
-        Ok(()) => MISUSED,
+    let Ok(line) = self_test(alloc, items, steps) else {
+        return NO_MEMORY;
+    };
+    match write_all(sink, line.as_slice()) {
+        Ok(()) => ANSWERED,
         Err(SinkFault) => SINK_FAILED,
     }
 }

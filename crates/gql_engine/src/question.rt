@@ -1,7 +1,7 @@
 //! What a service is asked.
 
-ghost use Rattle.std.specs.Prelude.{◌≡◌};
-ghost use Rattle.gql_engine.specs.AnswerError.{call_by};
+ghost use Rattle.std.specs.Prelude.{◌≡◌, ℕ, List};
+ghost use Rattle.gql_engine.specs.AnswerError.{call_over};
 ghost use Rattle.gql_engine.specs.Service.{asked_of};
 
 use crate::call::Call;
@@ -21,13 +21,11 @@ pub struct Question<'q> {
 }
 
 impl Question<'_> {
-    /// The call for an answer over the schema of this text.
-    pub(crate) fn call<'c>(&'c self, schema: &'c str) -> Call<'c>
-        ensures { call_by result ≡ asked_of schema.now self.now }
+    /// The call for an answer, but for the texts.
+    pub(crate) fn call(&self) -> Call<'_>
+        ensures { (schema : List ℕ) → call_over schema self.now.query.now result ≡ asked_of schema self.now }
     {
         Call {
-            schema,
-            query: self.query,
             operation_name: self.operation_name,
             variables: self.variables,
             introspection: self.introspection,

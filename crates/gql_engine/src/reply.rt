@@ -1,122 +1,117 @@
-//! What is replied to the bytes of a request.
+//! What is done with a request by the wish: it is answered, or its texts are checked.
 
-ghost use Rattle.std.specs.Prelude.{ℕ, IfOk};
+ghost use Rattle.std.specs.Prelude.{◌≡◌, ℕ, IfOk};
 ghost use Rattle.gql_request.specs.Request.{asked_in};
 ghost use Rattle.gql_engine.specs.declared.task.Wish.TheVariants as wished;
-ghost use Rattle.gql_engine.specs.Reply.{IsRefusedWith, IsReply, IsReplyTo, IsReplyToAsked};
+ghost use Rattle.gql_engine.specs.Reply.{RespondsTo, WishAnswers, WishMust, WishMustNot, WishRefuses, wanted_of};
+ghost use Rattle.gql_engine.specs.Reports.{reports_of};
+ghost use Rattle.gql_engine.specs.Responding.{OrCause};
+ghost use Rattle.gql_engine.specs.declared.output.Output.TheVariants as outputs;
+ghost use Rattle.gql_engine.specs.Serving.{IsDoneOutput, IsOutput, IsRefusedOutput};
 
+use crate::answer_error::AnswerError;
+use crate::laws;
 use crate::list_reports::reports;
-use crate::meaning::check_texts;
+use crate::meaning::faults_of_texts;
+use crate::output::{Output, done_with, refused_for};
+use crate::request_command::RequestCommand;
 use crate::responding::respond;
 use crate::response_bytes::Written;
 use crate::task::Wish;
 use crate::wanted::Wanted;
 use bytes::Bytes;
 use gql_collect::Steps;
-use gql_diag::refusal_of_message;
-use gql_request::{Request, decode, read_message};
+use gql_diag::DiagnosticList;
+use gql_request::{Request, RequestForm};
 use gql_resolvers::DataObject;
-use jb_read::from_bytes_whole;
-use jb_tree::{Map, Memory, Refused, Text, Value};
-use std::alloc::{AllocError, Global};
+use jb_tree::{Map, Memory};
+use std::alloc::Global;
 use std::sync::ledger::Ledger;
 
-/// What a request gets.
-#[derive(Drop)]
-pub(crate) enum Reply {
-    /// The response that was wished for.
-    Response(Written),
-    /// Nothing is wrong with the texts.
-    Passed,
-    /// The reports of what is wrong with the texts.
-    Reports(Bytes),
-    /// The refusal as JSON, without its line feed.
-    Refusal(Bytes),
-}
+impl RequestCommand for Wish {
+    ghost use Rattle.gql_request.specs.declared.request.RequestForm.TheVariants.{Plain};
+    ghost use Rattle.gql_engine.specs.Reply.{WishAnswers, WishMust, WishMustNot, WishRefuses};
 
-/// The reply to the bytes of a request. `Err` only when out of memory.
-pub(crate) fn reply_to<L: Ledger>(
-    alloc: Global,
-    wish: Wish,
-    bytes: &Bytes,
-    steps: &mut Steps<L>,
-) -> Result<Reply, Memory>
-    ensures { IfOk result (IsReply wish steps.old steps.new bytes.now) }
-{
-    match from_bytes_whole(alloc, bytes) {
-        Ok(value) => reply_to_value(alloc, wish, &value, steps),
-        Err(Refused::Fault(fault)) => refused(alloc, &read_message(alloc, fault)?),
-        Err(Refused::Memory) => Err(AllocError),
+    ghost form_of = { λ _. Plain };
+
+    ghost answers = { WishAnswers };
+
+    ghost refuses = { WishRefuses };
+
+    ghost must_answer = { WishMust };
+
+    ghost must_refuse = { WishMustNot };
+
+    fn request_form(&self) -> RequestForm {
+        RequestForm::Plain
+    }
+
+    fn reply<L: Ledger>(
+        &self,
+        alloc: Global,
+        request: &Request<'_>,
+        steps: &mut Steps<L>,
+    ) -> Result<Output, Memory> {
+        match self {
+            Wish::Answer => answered(alloc, request, steps),
+            Wish::Check => checked(alloc, request),
+        }
     }
 }
 
-/// The reply to a JSON value.
-fn reply_to_value<L: Ledger>(
-    alloc: Global,
-    wish: Wish,
-    value: &Value,
-    steps: &mut Steps<L>,
-) -> Result<Reply, Memory>
-    ensures { IfOk result (IsReplyTo wish steps.old steps.new value.now) }
-{
-    match decode(value) {
-        Ok(request) => reply_to_request(alloc, wish, &request, steps),
-        Err(fault) => refused(alloc, &fault.message(alloc)?),
-    }
-}
-
-/// The reply to a request.
-fn reply_to_request<L: Ledger>(
-    alloc: Global,
-    wish: Wish,
-    request: &Request<'_>,
-    steps: &mut Steps<L>,
-) -> Result<Reply, Memory>
-    ensures { IfOk result (IsReplyToAsked wish steps.old steps.new (asked_in request.now)) }
-{
-    match wish {
-        Wish::Answer => answered(alloc, request, steps),
-        Wish::Check => checked(alloc, request),
-    }
-}
-
-/// The response to a request, or why there is none.
-fn answered<L: Ledger>(
+/// The response to a request out of its data, or why there is none.
+pub(crate) fn respond_to_request<L: Ledger>(
     alloc: Global,
     request: &Request<'_>,
     steps: &mut Steps<L>,
-) -> Result<Reply, Memory>
-    ensures { IfOk result (IsReplyToAsked wished.Answer steps.old steps.new (asked_in request.now)) }
+) -> Result<Written, AnswerError>
+    ensures { OrCause (wanted_of (asked_in request.now)) (RespondsTo (asked_in request.now) steps.old steps.new) result }
 {
     let no_members = Map::new(alloc);
     let wanted = Wanted {
-        schema: request.schema,
-        query: request.query,
         operation_name: request.operation_name,
         variables: request.variables.unwrap_or(&no_members),
         introspection: request.introspection,
     };
     let root = DataObject::root(request.root.unwrap_or(&no_members));
-    match respond(alloc, &wanted, &root, steps) {
-        Ok(written) => Ok(Reply::Response(written)),
-        Err(Refused::Fault(refusal)) => Ok(Reply::Refusal(refusal.into_text(alloc)?)),
-        Err(Refused::Memory) => Err(AllocError),
+    respond(alloc, request.schema, request.query, &wanted, &root, steps)
+}
+
+/// The line of the response to a request, or of why there is none.
+fn answered<L: Ledger>(
+    alloc: Global,
+    request: &Request<'_>,
+    steps: &mut Steps<L>,
+) -> Result<Output, Memory>
+    ensures is { IfOk result (IsOutput (WishAnswers wished.Answer (asked_in request.now) steps.old steps.new) (WishRefuses wished.Answer (asked_in request.now))) }
+    ensures done { WishMust wished.Answer (asked_in request.now) → IfOk result IsDoneOutput }
+    ensures caused { WishMustNot wished.Answer (asked_in request.now) → IfOk result IsRefusedOutput }
+{
+    laws::causes_exclude_one_another();
+    laws::answers_and_refusals_exclude_one_another();
+    match respond_to_request(alloc, request, steps) {
+        Ok(written) => done_with(alloc, written.bytes),
+        Err(refusal) => refused_for(alloc, refusal),
     }
 }
 
 /// That the texts of a request mean something, or what is wrong with the first that means nothing.
-fn checked(alloc: Global, request: &Request<'_>) -> Result<Reply, Memory>
-    ensures { (count : ℕ) → IfOk result (IsReplyToAsked wished.Check count count (asked_in request.now)) }
+fn checked(alloc: Global, request: &Request<'_>) -> Result<Output, Memory>
+    ensures is { (count : ℕ) → IfOk result (IsOutput (WishAnswers wished.Check (asked_in request.now) count count) (WishRefuses wished.Check (asked_in request.now))) }
+    ensures done { WishMust wished.Check (asked_in request.now) → IfOk result IsDoneOutput }
+    ensures caused { WishMustNot wished.Check (asked_in request.now) → IfOk result IsRefusedOutput }
 {
-    match check_texts(alloc, request.schema, request.query)? {
-        None => Ok(Reply::Passed),
-        Some(list) => Ok(Reply::Reports(reports(alloc, list)?)),
+    laws::answers_and_refusals_exclude_one_another();
+    match faults_of_texts(alloc, request.schema, request.query)? {
+        None => Ok(Output::Done(Bytes::from_static(b"ok\n"))),
+        Some(list) => refused_reports(alloc, list),
     }
 }
 
-/// The refusal with this message.
-fn refused(alloc: Global, message: &Text) -> Result<Reply, Memory>
-    ensures { IfOk result (IsRefusedWith message.now) }
+/// The reports of what is wrong with the texts. `Err` only when out of memory.
+fn refused_reports(alloc: Global, list: DiagnosticList) -> Result<Output, Memory>
+    ensures { IfOk result (λ output. output ≡ outputs.Refused (reports_of list)) }
 {
-    Ok(Reply::Refusal(refusal_of_message(alloc, message.as_str())?))
+    let text = reports(alloc, list)?;
+    Ok(Output::Refused(text))
 }

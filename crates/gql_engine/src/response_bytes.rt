@@ -13,9 +13,9 @@ use std::alloc::Global;
 
 /// The bytes of a response, as JSON without white space (GraphQL October 2021, section 7), and the number of its errors.
 #[derive(Drop)]
-pub(crate) struct Written {
-    pub(crate) bytes: Bytes,
-    pub(crate) errors: usize,
+pub struct Written {
+    pub bytes: Bytes,
+    pub errors: usize,
 }
 
 /// A response as its bytes. `Err` only when out of memory.

@@ -4,6 +4,7 @@ ghost use Rattle.std.specs.Prelude.{◌≡◌, ℕ, List, IfOk};
 ghost use Rattle.std.specs.Map.{lookup};
 ghost use Rattle.std.specs.Str.{bytes_eq};
 ghost use Rattle.gql_engine.specs.Answering.{AnswersWithin, GivesAnswer};
+ghost use Rattle.gql_engine.specs.AtHand.{IsDocumentOver};
 ghost use Rattle.gql_engine.specs.Service.{IsPreparationOf, IsServiceOf, asked_of};
 ghost use Rattle.gql_parser.specs.SchemaText.{SchemaText};
 ghost use Rattle.gql_rules_nodes.specs.PossibleTable.{ArePossibleIn};
@@ -13,6 +14,7 @@ ghost use Rattle.gql_schema_types.specs.declared.schema.Schema.{Schema as Schema
 use crate::answer_error::AnswerError;
 use crate::answering::answer_call;
 use crate::made::Made;
+use crate::meaning::Texts;
 use crate::prepared::Prepared;
 use crate::question::Question;
 use crate::text_in::{SCHEMA_FILE, text_in};
@@ -20,6 +22,7 @@ use crate::uncounted::answer_alone;
 use bytes::Bytes;
 use gql_collect::Steps;
 use gql_diag::DiagnosticList;
+use gql_document_types::ExecutableDocument;
 use gql_parser::{laws as text_laws, schema_of_text};
 use gql_resolvers::ObjectValue;
 use gql_rules::PossibleTypes;
@@ -134,8 +137,11 @@ impl Service {
         ensures answer { GivesAnswer O.type_of O.resolves (O.seen root.now) (asked_of self.now question.now) result }
         ensures answered { IfOk result (AnswersWithin O.type_of O.resolves (O.seen root.now) (asked_of self.now question.now) steps.old steps.new) }
     {
-        let call = question.call(self.schema_text());
-        answer_call(alloc, &call, Made::Schema(self), root, steps)
+        let made = Made::Schema {
+            service: self,
+            query: question.query,
+        };
+        answer_call(alloc, made, &question.call(), root, steps)
     }
 
     /// [`Service::answer`] without a counter of steps: the same response or refusal.
@@ -151,8 +157,35 @@ impl Service {
     ) -> Result<Bytes, AnswerError>
         ensures { GivesAnswer O.type_of O.resolves (O.seen root.now) (asked_of self.now question.now) result }
     {
-        let call = question.call(self.schema_text());
-        answer_alone::<O, Brand>(alloc, &call, Made::Schema(self), root, Blank::new(1))
+        let made = Made::Schema {
+            service: self,
+            query: question.query,
+        };
+        answer_alone::<O, Brand>(alloc, made, &question.call(), root, Blank::new(1))
+    }
+
+    /// [`Service::answer_uncounted`] with the document that the question's query means at hand: the same response or refusal.
+    ///
+    /// # Errors
+    ///
+    /// Those of [`Service::answer_uncounted`], exactly where they come there; [`AnswerError::Document`] never comes.
+    pub fn answer_document<O: ObjectValue>(
+        &self,
+        alloc: Global,
+        document: &Valid<ExecutableDocument>,
+        question: &Question<'_>,
+        root: &O,
+    ) -> Result<Bytes, AnswerError>
+        requires { IsDocumentOver self.now question.now.query.now document.now }
+        ensures { GivesAnswer O.type_of O.resolves (O.seen root.now) (asked_of self.now question.now) result }
+    {
+        let texts = Texts {
+            schema: self.schema(),
+            implementers: self.implementers_map(),
+            document,
+        };
+        let made = Made::Both(texts);
+        answer_alone::<O, Brand>(alloc, made, &question.call(), root, Blank::new(1))
     }
 
     /// A query that is read and checked once, to be answered any number of times (GraphQL October 2021, sections 2 and 5). Its

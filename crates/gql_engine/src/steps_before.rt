@@ -3,20 +3,19 @@
 ghost use Rattle.std.specs.Prelude.{◌≡◌, ◌≤◌, ◌+◌, true, Ok, Some};
 ghost use Rattle.gql_coerce.specs.Variables.{coerced_variables};
 ghost use Rattle.gql_document_types.specs.ChosenOperation.{chosen, text_of};
-ghost use Rattle.gql_engine.specs.Meant.{AreMeant};
 ghost use Rattle.gql_engine.specs.Depths.{IsShallow, all_selections, depth_looks};
-ghost use Rattle.gql_engine.specs.Responding.{OrCause};
-ghost use Rattle.gql_engine.specs.Wanted.{wanted_by};
+ghost use Rattle.gql_engine.specs.Phases.{AreOfTexts, OrCauseOver};
+ghost use Rattle.gql_engine.specs.Responding.{IsOfStep};
 
-use crate::answer_error::RequestKind;
+use crate::answer_error::{AnswerError, RequestKind};
 use crate::meaning::Texts;
-use crate::refusal::{Refusal, of_step};
 use crate::wanted::Wanted;
 use gql_collect::{Steps, check_max_depth, coerce_variable_values};
-use gql_diag::JsonMap;
+use gql_diag::{JsonMap, RequestError};
 use gql_document_types::Operation;
 use gql_parser::laws as text_laws;
 use gql_schema_types::Valid;
+use gql_source::SourceMap;
 use jb_tree::Refused;
 use std::alloc::Global;
 use std::sync::ledger::Ledger;
@@ -26,9 +25,8 @@ pub(crate) fn choose<'t>(
     alloc: Global,
     wanted: &Wanted<'_>,
     texts: &Texts<'t>,
-) -> Result<&'t Operation, Refused<Refusal>>
-    requires { AreMeant wanted.now.schema.now wanted.now.query.now texts.now.schema.now texts.now.document.now }
-    ensures { OrCause (wanted_by wanted.now)
+) -> Result<&'t Operation, AnswerError>
+    ensures { OrCauseOver texts.now wanted.now
         (λ operation. chosen (text_of wanted.now.operation_name) texts.now.document.now.operations ≡ Some operation.now) result }
 {
     let sources = &texts.document.as_ref().sources;
@@ -49,10 +47,11 @@ pub(crate) fn check_depth<L: Ledger>(
     texts: &Texts<'_>,
     operation: &Operation,
     steps: &mut Steps<L>,
-) -> Result<(), Refused<Refusal>>
-    requires meant { AreMeant wanted.now.schema.now wanted.now.query.now texts.now.schema.now texts.now.document.now }
+) -> Result<(), AnswerError>
+    requires texts { AreOfTexts texts.now }
     requires chosen { chosen (text_of wanted.now.operation_name) texts.now.document.now.operations ≡ Some operation.now }
-    ensures shallow { OrCause (wanted_by wanted.now) (λ _. IsShallow wanted.now.introspection texts.now.document.now operation.now) result }
+    ensures shallow { OrCauseOver texts.now wanted.now
+        (λ _. IsShallow wanted.now.introspection texts.now.document.now operation.now) result }
     ensures looks { steps.new ≤ steps.old + depth_looks wanted.now.introspection texts.now.document.now operation.now }
     ensures rises { steps.old ≤ steps.new }
 {
@@ -70,11 +69,12 @@ fn check_depth_on<L: Ledger>(
     texts: &Texts<'_>,
     operation: &Operation,
     steps: &mut Steps<L>,
-) -> Result<(), Refused<Refusal>>
-    requires meant { AreMeant wanted.now.schema.now wanted.now.query.now texts.now.schema.now texts.now.document.now }
+) -> Result<(), AnswerError>
+    requires texts { AreOfTexts texts.now }
     requires chosen { chosen (text_of wanted.now.operation_name) texts.now.document.now.operations ≡ Some operation.now }
     requires on { wanted.now.introspection ≡ true }
-    ensures shallow { OrCause (wanted_by wanted.now) (λ _. IsShallow wanted.now.introspection texts.now.document.now operation.now) result }
+    ensures shallow { OrCauseOver texts.now wanted.now
+        (λ _. IsShallow wanted.now.introspection texts.now.document.now operation.now) result }
     ensures looks { steps.new ≤ steps.old + all_selections texts.now.document.now operation.now }
     ensures rises { steps.old ≤ steps.new }
 {
@@ -92,16 +92,33 @@ pub(crate) fn coerce(
     wanted: &Wanted<'_>,
     texts: &Texts<'_>,
     operation: &Operation,
-) -> Result<Valid<JsonMap>, Refused<Refusal>>
-    requires meant { AreMeant wanted.now.schema.now wanted.now.query.now texts.now.schema.now texts.now.document.now }
+) -> Result<Valid<JsonMap>, AnswerError>
     requires chosen { chosen (text_of wanted.now.operation_name) texts.now.document.now.operations ≡ Some operation.now }
     requires shallow { IsShallow wanted.now.introspection texts.now.document.now operation.now }
-    ensures { OrCause (wanted_by wanted.now)
+    ensures { OrCauseOver texts.now wanted.now
         (λ values. coerced_variables texts.now.schema.now.types operation.now.variables wanted.now.variables.now ≡ Ok values) result }
 {
     let sources = &texts.document.as_ref().sources;
     match coerce_variable_values(alloc, texts.schema, operation, wanted.variables) {
         Ok(values) => Ok(values),
         Err(refused) => Err(of_step(alloc, RequestKind::Variable, refused, sources)),
+    }
+}
+
+/// What a step is refused for, with its place in these files.
+fn of_step(
+    alloc: Global,
+    kind: RequestKind,
+    refused: Refused<RequestError>,
+    sources: &SourceMap,
+) -> AnswerError
+    ensures { IsOfStep kind sources.now refused result }
+{
+    match refused {
+        Refused::Fault(error) => match error.to_graphql_error(alloc, sources) {
+            Ok(error) => AnswerError::Request { kind, error },
+            Err(_) => AnswerError::Memory,
+        },
+        Refused::Memory => AnswerError::Memory,
     }
 }

@@ -1,10 +1,9 @@
 //! What the words of the program ask for.
 
-ghost use Rattle.std.specs.Prelude.{◌≡◌, true, MatchOption, map, string_bytes};
-ghost use Rattle.std.specs.Fmt.{decimal};
+ghost use Rattle.std.specs.Prelude.{MatchOption, map, string_bytes};
 ghost use Rattle.gql_engine.specs.Task.{Asks, IsCount, IsNoCommand, IsNoCount};
 
-use itoa::Buffer;
+use crate::decimal_word::decimal_word;
 
 /// What can be wished of a request.
 #[derive(Clone, Copy, Debug, PartialEq, Eq)]
@@ -46,17 +45,8 @@ pub(crate) fn task_asked(words: &[String]) -> Option<Task>
 fn count_in(word: &str) -> Option<u32>
     ensures { MatchOption result (IsNoCount word.now) (IsCount word.now) }
 {
-    match word.parse::<u32>() {
-        Ok(count) if count <= MOST_ITEMS && is_decimal(count, word) => Some(count),
+    match decimal_word(word) {
+        Some(count) if count <= MOST_ITEMS => Some(count),
         _ => None,
     }
-}
-
-/// Whether a word is the number in decimal.
-fn is_decimal(count: u32, word: &str) -> bool
-    ensures is { result ≡ true → word.now ≡ decimal count }
-    ensures found { word.now ≡ decimal count → result ≡ true }
-{
-    let mut buffer = Buffer::new();
-    buffer.format(count) == word
 }

@@ -1,9 +1,9 @@
 //! Answering for callers who count no steps.
 
-ghost use Rattle.std.specs.Prelude.{◌≡◌, ◌<◌};
-ghost use Rattle.gql_engine.specs.AnswerError.{call_by, call_of};
+ghost use Rattle.std.specs.Prelude.{◌≡◌, ◌<◌, ℕ, List};
+ghost use Rattle.gql_engine.specs.AnswerError.{call_of, call_over};
 ghost use Rattle.gql_engine.specs.Answering.{GivesAnswer};
-ghost use Rattle.gql_engine.specs.Made.{IsMadeOf};
+ghost use Rattle.gql_engine.specs.Made.{IsMadeOf, IsMadeOfSome};
 
 use crate::answer_error::AnswerError;
 use crate::answering::answer_call;
@@ -34,29 +34,29 @@ pub fn answer_uncounted<O: ObjectValue>(
         (call_of schema.now query.now operation_name.entry variables.now introspection) result }
 {
     let call = Call {
-        schema,
-        query,
         operation_name,
         variables,
         introspection,
     };
-    answer_alone::<O, Brand>(alloc, &call, Made::Nothing, root, Blank::new(1))
+    let texts = Made::Nothing { schema, query };
+    answer_alone::<O, Brand>(alloc, texts, &call, root, Blank::new(1))
 }
 
 /// The answer, with a counter of its own.
 pub(crate) fn answer_alone<O: ObjectValue, L: Ledger>(
     alloc: Global,
-    call: &Call<'_>,
     made: Made<'_>,
+    call: &Call<'_>,
     root: &O,
     blank: Blank,
 ) -> Result<Bytes, AnswerError>
-    requires made { IsMadeOf call.now.schema.now call.now.query.now made }
+    requires made { IsMadeOfSome made }
     requires name { blank.name ≡ L.name }
     requires parts { blank.parts ≡ L.parts }
     requires some { 0 < blank.parts }
-    ensures { GivesAnswer O.type_of O.resolves (O.seen root.now) (call_by call.now) result }
+    ensures { (schema query : List ℕ) → IsMadeOf schema query made.entry
+        → GivesAnswer O.type_of O.resolves (O.seen root.now) (call_over schema query call.now) result }
 {
     let mut steps = Steps::<L>::open(blank);
-    answer_call(alloc, call, made, root, &mut steps)
+    answer_call(alloc, made, call, root, &mut steps)
 }

@@ -3,17 +3,13 @@
 use jb_tree::Map;
 
 /// The response to the operation of a name, or to the only one, with these values of its variables, and with introspection or
-/// without it.
+/// without it (GraphQL October 2021, section 6.1). The texts of the schema and of the document stand elsewhere.
 #[derive(Clone, Copy)]
-pub(crate) struct Wanted<'w> {
-    /// The text of the schema.
-    pub(crate) schema: &'w str,
-    /// The text of the document with the operation.
-    pub(crate) query: &'w str,
+pub struct Wanted<'w> {
     /// The name of the operation, or none where it is the only one.
-    pub(crate) operation_name: Option<&'w str>,
+    pub operation_name: Option<&'w str>,
     /// The values that its variables are given, which are coerced.
-    pub(crate) variables: &'w Map,
+    pub variables: &'w Map,
     /// Whether `__schema` and `__type` are answered.
-    pub(crate) introspection: bool,
+    pub introspection: bool,
 }

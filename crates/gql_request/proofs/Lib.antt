@@ -6,5 +6,6 @@ mod Leaves
 mod Facts
 mod Documents
 mod Requests
+mod Readings
 pub mod Ways
 mod Items

@@ -1,5 +1,5 @@
 -- The texts of the self-test's request: it is printed JSON of a known tree.
-use Rattle.std.proofs.Common.{rules, ◌≡◌, ◌<◌, ◌≤◌, ◌^◌, ℕ, zero, suc, pos, Bool, true, false, if◌then◌else◌, Option, Some, Result, Ok, Err, List, [], ◌∷◌, ◌++◌, flat_map, refl, sym, ap, ◌∙◌, subst, arith, append_assoc, append-nil}
+use Rattle.std.proofs.Common.{rules, ◌≡◌, ◌<◌, ◌≤◌, ◌^◌, ℕ, zero, suc, pos, Bool, true, false, if◌then◌else◌, Option, Some, None, Result, Ok, Err, List, [], ◌∷◌, ◌++◌, flat_map, refl, sym, ap, ◌∙◌, subst, arith, append_assoc, append-nil}
 use Rattle.std.proofs.lemmas.Nat.{mod_below}
 use Rattle.std.specs.Fmt.{decimal, digits}
 use Rattle.std.specs.List.{IsDistinct}
@@ -19,6 +19,7 @@ use Rattle.gql_request.specs.Request.{◌>>=◌, Asked, Members, asked, asked_by
 use Rattle.gql_request.specs.SelfTest.{comma_before, head, item, items, self_test, tag}
 use Rattle.gql_request.specs.declared.request.Member.TheVariants.{Schema, Query, OperationName, Variables, Introspection, Data}
 use Rattle.gql_request.specs.declared.request.RequestFault.{RequestFault}
+use Rattle.gql_request.specs.declared.request.RequestForm.TheVariants.{Plain}
 use Rattle.gql_request.specs.Texts.{query_text, schema_text}
 
 -- ---- the tree
@@ -212,7 +213,7 @@ same_ok : {A E : Type 0} (x y : A) → ◌≡◌ {A = Result A E} (Ok x) (Ok y) 
 same_ok x y h = cc
 
 abbrev asked_with : List ℕ → List ℕ → Option (List ℕ) → Option Members → Option Bool → Option Members → Asked
-asked_with s q o v i d = record { schema = s; query = q; operation_name = o; variables = v; introspection = unwrap_or i false; root = d }
+asked_with s q o v i d = record { schema = s; query = q; operation_name = o; variables = v; introspection = unwrap_or i false; root = d; response = None }
 
 rest : (s q : List ℕ) (o : Result (Option (List ℕ)) RequestFault) (v : Result (Option Members) RequestFault) (i : Result (Option Bool) RequestFault)
     (d : Result (Option Members) RequestFault) (r : Asked) → (o >>= λ o. v >>= λ v. i >>= λ i. d >>= λ d. Ok (asked_with s q o v i d)) ≡ Ok r
@@ -240,10 +241,10 @@ module _ (count : ℕ) where
   abbrev of_texts : Option (List ℕ) → Option (List ℕ) → Result Asked RequestFault
   of_texts s q = of_kind Schema s >>= λ s. of_kind Query q >>= λ q. after s q
 
-  pub asks_these : OneValue → (r : Asked) → count < 2 ^ 64 → IsAsked (self_test count) r → (r.schema ≡ schema_text) × (r.query ≡ query_text)
+  pub asks_these : OneValue → (r : Asked) → count < 2 ^ 64 → IsAsked Plain (self_test count) r → (r.schema ≡ schema_text) × (r.query ≡ query_text)
   asks_these law r low h =
-      let now : asked_by_members members ≡ Ok r =
-      ap asked_by_kind (sym (object_there members)) ∙ ap asked (law (self_test count) (settled (whole count)) h.value (spells count low) h.read) ∙ h.asks in
+      let now : asked_by_members Plain members ≡ Ok r =
+      ap (asked_by_kind Plain) (sym (object_there members)) ∙ ap (asked Plain) (law (self_test count) (settled (whole count)) h.value (spells count low) h.read) ∙ h.asks in
       rest schema_text query_text (optional string_text OperationName members) (optional object_members Variables members) (optional truth_value Introspection members)
       (optional object_members Data members) r
       (sym (ap (λ q. of_texts (Some schema_text) q) (string_there query_text))

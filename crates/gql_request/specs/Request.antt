@@ -1,5 +1,5 @@
 -- What a JSON value asks, where it is a request, and else why it is none.
-use Rattle.std.specs.Prelude.{◌≡◌, ℕ, Bool, false, if◌then◌else◌, List, ◌++◌, Option, Some}
+use Rattle.std.specs.Prelude.{◌≡◌, ℕ, Bool, false, if◌then◌else◌, List, ◌++◌, Option, Some, IsSome}
 use Rattle.std.specs.Prelude.{None, unwrap_or, Result, Ok, Err, codes}
 use Rattle.std.specs.Borrow.{Bor}
 use Rattle.std.specs.Option.{option_map, option_copied}
@@ -8,9 +8,11 @@ use Rattle.std.specs.Map.{lookup}
 use Rattle.jb_tree.specs.declared.value.Value.{Value}
 use Rattle.jb_tree.specs.Value.{object_members, string_text, truth_value, is_null}
 use Rattle.gql_request.specs.declared.request.Member.{Member}
-use Rattle.gql_request.specs.declared.request.Member.TheVariants.{Schema, Query, OperationName, Variables, Introspection, Data}
+use Rattle.gql_request.specs.declared.request.Member.TheVariants.{Schema, Query, OperationName, Variables, Introspection, Data, Response}
 use Rattle.gql_request.specs.declared.request.RequestFault.{RequestFault}
 use Rattle.gql_request.specs.declared.request.RequestFault.TheVariants.{NotObject, Missing, WrongKind}
+use Rattle.gql_request.specs.declared.request.RequestForm.{RequestForm}
+use Rattle.gql_request.specs.declared.request.RequestForm.TheVariants.{Plain, WithResponse}
 use Rattle.gql_request.specs.declared.request.Request.{Request}
 
 abbrev pub Members : Type 0
@@ -23,6 +25,7 @@ member_name OperationName = codes "operationName"
 member_name Variables = codes "variables"
 member_name Introspection = codes "introspection"
 member_name Data = codes "data"
+member_name Response = codes "response"
 
 -- what a request asks
 pub record Asked : Type 0 where
@@ -32,6 +35,7 @@ pub record Asked : Type 0 where
   pub variables : Option Members
   pub introspection : Bool
   pub root : Option Members
+  pub response : Option (List ℕ)
 
 -- a value of the kind that the member must have
 abbrev pub of_kind : {A : Type 0} → Member → Option A → Result A RequestFault
@@ -67,21 +71,35 @@ abbrev pub ◌>>=◌ : {A B : Type 0} → Result A RequestFault → (A → Resul
 (Ok found) >>= f = f found
 (Err fault) >>= f = Err fault
 
+-- the text of a response, which a request of the one form must have
+abbrev pub response_in : RequestForm → Members → Result (Option (List ℕ)) RequestFault
+response_in Plain members = Ok None
+response_in WithResponse members = required string_text Response members >>= λ text. Ok (Some text)
+
 -- the members, in the order in which they are checked
-abbrev pub asked_by_members : Members → Result Asked RequestFault
-asked_by_members members =
+abbrev pub asked_by_members : RequestForm → Members → Result Asked RequestFault
+asked_by_members form members =
     required string_text Schema members >>= λ s. required string_text Query members >>= λ q.
     optional string_text OperationName members >>= λ o. optional object_members Variables members >>= λ v.
     optional truth_value Introspection members >>= λ i. optional object_members Data members >>= λ d.
-    Ok (record { schema = s; query = q; operation_name = o; variables = v; introspection = unwrap_or i false; root = d })
+    response_in form members >>= λ r.
+    Ok (record { schema = s; query = q; operation_name = o; variables = v; introspection = unwrap_or i false; root = d; response = r })
 
-abbrev pub asked_by_kind : Option Members → Result Asked RequestFault
-asked_by_kind (Some members) = asked_by_members members
-asked_by_kind None = Err NotObject
+abbrev pub asked_by_kind : RequestForm → Option Members → Result Asked RequestFault
+asked_by_kind form (Some members) = asked_by_members form members
+asked_by_kind form None = Err NotObject
 
--- what a JSON value asks, or the first reason why it is no request
-abbrev pub asked : Value → Result Asked RequestFault
-asked value = asked_by_kind (object_members value)
+-- what a JSON value asks, or the first reason why it is no request of this form
+abbrev pub asked : RequestForm → Value → Result Asked RequestFault
+asked form value = asked_by_kind form (object_members value)
+
+-- the text of a response is there where the form has one, and only there
+abbrev pub IsResponseOf : RequestForm → Option (List ℕ) → Type 0
+IsResponseOf Plain response = response ≡ None
+IsResponseOf WithResponse response = IsSome response
+
+abbrev pub HasForm : RequestForm → Asked → Type 0
+HasForm form request = IsResponseOf form request.response
 
 -- what a request that is read says
 abbrev pub asked_in : Request → Asked
@@ -92,6 +110,7 @@ asked_in request = record {
   variables = option_copied request.variables;
   introspection = request.introspection;
   root = option_copied request.root;
+  response = option_copied request.response;
 }
 
 abbrev pub IsAsked : Result Request RequestFault → Result Asked RequestFault → Type 0

@@ -5,8 +5,10 @@ ghost use Rattle.gql_parser.specs.DocumentText.{DocumentText};
 ghost use Rattle.gql_document_types.specs.ChosenOperation.{chosen};
 ghost use Rattle.gql_document_types.specs.declared.document.ExecutableDocument.{ExecutableDocument as DocumentOf};
 ghost use Rattle.gql_document_types.specs.declared.operation.Operation.{Operation as OperationOf};
-ghost use Rattle.gql_request.specs.NotAsked.{IsAsked};
+ghost use Rattle.gql_request.specs.NotAsked.{IsAsked, NotAsked};
 ghost use Rattle.gql_request.specs.Request.{Asked};
+ghost use Rattle.gql_request.specs.declared.request.RequestForm.{RequestForm as FormOf};
+ghost use Rattle.gql_request.specs.declared.request.RequestForm.TheVariants.{Plain};
 ghost use Rattle.gql_request.specs.SelfTest.{self_test};
 ghost use Rattle.gql_parser.specs.SchemaText.{SchemaText};
 ghost use Rattle.gql_schema_types.specs.declared.schema.Schema.{Schema as SchemaOf};
@@ -17,9 +19,19 @@ use gql_ast_laws::laws as tree_laws;
 use gql_grammar::laws as grammar_laws;
 use jb_read::laws as json_laws;
 
+/// Bytes are one request of a form, or there is one message that says why they are none.
+pub fn bytes_ask_one_thing()
+    ensures request { (form : FormOf) (bytes : List ℕ) (one other : Asked) → IsAsked form bytes one → IsAsked form bytes other → one ≡ other }
+    ensures not_both { (form : FormOf) (bytes : List ℕ) (request : Asked) (message : List ℕ) → IsAsked form bytes request
+        → NotAsked form bytes message → ⊥ }
+    ensures message { (form : FormOf) (bytes one other : List ℕ) → NotAsked form bytes one → NotAsked form bytes other → one ≡ other }
+{
+    json_laws::each_text_has_one_answer();
+}
+
 /// The request of a self-test has these texts, however many items its data has.
 pub fn self_tests_ask_this()
-    ensures { (items : ℕ) (request : Asked) → items < 2 ^ 64 → IsAsked (self_test items) request
+    ensures { (items : ℕ) (request : Asked) → items < 2 ^ 64 → IsAsked Plain (self_test items) request
         → (request.schema ≡ schema_text) × (request.query ≡ query_text) }
 {
     json_laws::each_text_has_one_answer();

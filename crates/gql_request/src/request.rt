@@ -4,7 +4,7 @@ ghost use Rattle.std.specs.Prelude.{◌≡◌, Some, None, IfOk, MatchResult};
 ghost use Rattle.jb_tree.specs.Value.{object_members, string_text, truth_value};
 ghost use Rattle.std.specs.Option.{option_copied};
 ghost use Rattle.gql_request.specs.declared.request.RequestFault.TheVariants.{WrongKind};
-ghost use Rattle.gql_request.specs.Request.{asked, asked_by_members, member_name, required, optional, member_given as given_member, fault_message, IsAsked, IsFound, IsFoundSome};
+ghost use Rattle.gql_request.specs.Request.{asked, asked_by_members, asked_in, member_name, required, optional, member_given as given_member, response_in, fault_message, HasForm, IsAsked, IsFound, IsFoundSome, IsResponseOf};
 
 use jb_tree::{Map, Memory, Text, Value};
 use std::alloc::Global;
@@ -18,6 +18,7 @@ pub enum Member {
     Variables,
     Introspection,
     Data,
+    Response,
 }
 
 impl Member {
@@ -32,8 +33,18 @@ impl Member {
             Member::Variables => "variables",
             Member::Introspection => "introspection",
             Member::Data => "data",
+            Member::Response => "response",
         }
     }
+}
+
+/// Which members a request must have.
+#[derive(Clone, Copy, Debug, PartialEq, Eq)]
+pub enum RequestForm {
+    /// The texts of schema and query.
+    Plain,
+    /// These, and the text of a response to the request.
+    WithResponse,
 }
 
 /// Why a JSON value is no request.
@@ -68,7 +79,8 @@ impl RequestFault {
     }
 }
 
-/// A request: the texts of schema and query, and what it gives besides. Other members are ignored.
+/// A request: the texts of schema and query, and what it gives besides. Other members are ignored. The text of a response is there
+/// exactly where the form of the request has one.
 #[derive(Clone, Copy)]
 pub struct Request<'v> {
     pub schema: &'v str,
@@ -77,25 +89,28 @@ pub struct Request<'v> {
     pub variables: Option<&'v Map>,
     pub introspection: bool,
     pub root: Option<&'v Map>,
+    pub response: Option<&'v str>,
 }
 
-/// The request that a JSON value is.
+/// The request of this form that a JSON value is.
 ///
 /// # Errors
 ///
 /// The first fault: that it is no object, else the first member, in the order of [`Member`], that is missing or has
-/// a wrong kind. Only schema and query must be there; each other may be absent or null.
-pub fn decode(value: &Value) -> Result<Request<'_>, RequestFault>
-    ensures { IsAsked result (asked value.now) }
+/// a wrong kind. Only schema and query, and the response where the form has one, must be there; each other may be absent or null.
+pub fn decode(value: &Value, form: RequestForm) -> Result<Request<'_>, RequestFault>
+    ensures is { IsAsked result (asked form value.now) }
+    ensures form { IfOk result (λ request. HasForm form (asked_in request)) }
 {
     match value.as_object() {
-        Some(members) => decode_members(members),
+        Some(members) => decode_members(members, form),
         None => Err(RequestFault::NotObject),
     }
 }
 
-fn decode_members(members: &Map) -> Result<Request<'_>, RequestFault>
-    ensures { IsAsked result (asked_by_members members.now) }
+fn decode_members(members: &Map, form: RequestForm) -> Result<Request<'_>, RequestFault>
+    ensures is { IsAsked result (asked_by_members form members.now) }
+    ensures form { IfOk result (λ request. HasForm form (asked_in request)) }
 {
     let schema = required_text(members, Member::Schema)?;
     let query = required_text(members, Member::Query)?;
@@ -103,6 +118,7 @@ fn decode_members(members: &Map) -> Result<Request<'_>, RequestFault>
     let variables = optional_object(members, Member::Variables)?;
     let introspection = optional_truth(members, Member::Introspection)?;
     let root = optional_object(members, Member::Data)?;
+    let response = response_text(members, form)?;
     Ok(Request {
         schema,
         query,
@@ -110,7 +126,19 @@ fn decode_members(members: &Map) -> Result<Request<'_>, RequestFault>
         variables,
         introspection: introspection.unwrap_or(false),
         root,
+        response,
     })
+}
+
+/// The text of the response, where the form has one.
+fn response_text(members: &Map, form: RequestForm) -> Result<Option<&str>, RequestFault>
+    ensures is { IsFoundSome result (response_in form members.now) }
+    ensures form { IfOk result (λ response. IsResponseOf form (option_copied response)) }
+{
+    match form {
+        RequestForm::Plain => Ok(None),
+        RequestForm::WithResponse => Ok(Some(required_text(members, Member::Response)?)),
+    }
 }
 
 fn required_text(members: &Map, member: Member) -> Result<&str, RequestFault>

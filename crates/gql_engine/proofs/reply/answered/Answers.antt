@@ -1,13 +1,26 @@
-use Rattle.gql_engine.proofs.Replies.{answered_by, refused_by}
+use Rattle.gql_request.specs.Request.{asked_in}
+use Rattle.gql_engine.specs.Reply.{wanted_of}
+use Rattle.gql_engine.specs.Serving.{IsDoneOutput}
+use Rattle.gql_engine.proofs.Replies.{answer_done, answer_refused, is_done, is_refused_for, never_told}
 use Rattle.gql_engine.proofs.reply.answered.Goals as goal
 
-pub returns-in-Ok : goal.returns-in-Ok
-returns-in-Ok g c =
-    answered_by c.args.request.now _ _ c.unwrap_or.result c.unwrap_or-2.result c.new-no_members.ensures c.new-no_members.ensures c.unwrap_or.ensures c.unwrap_or-2.ensures c.root-root.result
-    c.root-root.ensures _ _ c.in-Ok.written c.in-Ok.ensures.answered
+pub returns-in-Ok-clause-is : goal.returns-in-Ok-clause-is
+returns-in-Ok-clause-is g c = answer_done (asked_in c.args.request.now) _ _ c.in-Ok.written c.in-Ok.ensures c.done_with.result c.done_with.ensures
 
-pub returns-in-Err-Fault : goal.returns-in-Err-Fault
-returns-in-Err-Fault g c =
-    refused_by c.args.request.now _ _ c.unwrap_or.result c.unwrap_or-2.result c.new-no_members.ensures c.new-no_members.ensures c.unwrap_or.ensures c.unwrap_or-2.ensures c.root-root.result
-    c.root-root.ensures c.args.steps.now c.args.steps.now c.in-Err-Fault.refusal c.in_ok-into_text-in-Err-Fault.field-0
-    (rw c.in-Err-Fault.field-0-is at c.in-Err-Fault.ensures.answered) c.in_ok-into_text-in-Err-Fault.ensures
+pub returns-in-Ok-clause-done : goal.returns-in-Ok-clause-done
+returns-in-Ok-clause-done g c = λ must. is_done _ c.done_with.result c.done_with.ensures
+
+pub returns-in-Ok-clause-caused : goal.returns-in-Ok-clause-caused
+returns-in-Ok-clause-caused g c = λ must.
+    absurd (c.answers_and_refusals_exclude_one_another.ensures.unanswered (wanted_of (asked_in c.args.request.now)) must.0 c.in-Ok.ensures.answered.ready must.1)
+
+pub returns-in-Err-clause-is : goal.returns-in-Err-clause-is
+returns-in-Err-clause-is g c = answer_refused (asked_in c.args.request.now) _ _ c.in-Err.refusal c.in-Err.ensures c.refused_for.result c.refused_for.ensures
+
+pub returns-in-Err-clause-done : goal.returns-in-Err-clause-done
+returns-in-Err-clause-done g c = λ must.
+    never_told IsDoneOutput c.in-Err.refusal (c.causes_exclude_one_another.ensures.ready (wanted_of (asked_in c.args.request.now)) c.in-Err.refusal must c.in-Err.ensures)
+    c.refused_for.result c.refused_for.ensures
+
+pub returns-in-Err-clause-caused : goal.returns-in-Err-clause-caused
+returns-in-Err-clause-caused g c = λ must. is_refused_for c.in-Err.refusal c.refused_for.result c.refused_for.ensures
