@@ -30,7 +30,7 @@ query_text_in document = text_in (record { number = 4 }) document.sources
 -- the text means this schema, and these types are possible in it
 pub record IsAtHand (text : List ℕ) (schema : Schema) (possible : PossibleTypes) : Type 0 where
   pub means : SchemaText text schema
-  pub possible : ArePossibleIn schema.types possible
+  pub are_possible : ArePossibleIn schema.types possible
 
 -- against the schema that the one text means, the other means this document
 abbrev pub IsDocumentOver : (schema_text query_text : List ℕ) → ExecutableDocument → Type 0

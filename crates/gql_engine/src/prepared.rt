@@ -91,7 +91,7 @@ impl<'s> Prepared<'s> {
     /// What the query means against the schema, by itself.
     #[must_use]
     pub fn into_document(self) -> Valid<ExecutableDocument>
-        ensures { IsDocumentOver self.schema self.query result }
+        ensures { IsDocumentOver self.entry.schema self.entry.query result }
     {
         let Prepared {
             service: _,

@@ -4,7 +4,7 @@ ghost use Rattle.std.specs.Prelude.{◌≡◌, ℕ, List, IfOk};
 ghost use Rattle.std.specs.Map.{lookup};
 ghost use Rattle.std.specs.Str.{bytes_eq};
 ghost use Rattle.gql_engine.specs.Answering.{AnswersWithin, GivesAnswer};
-ghost use Rattle.gql_engine.specs.AtHand.{IsDocumentOver};
+ghost use Rattle.gql_engine.specs.AtHand.{IsDocumentOver, schema_text_in};
 ghost use Rattle.gql_engine.specs.Service.{IsPreparationOf, IsServiceOf, asked_of};
 ghost use Rattle.gql_parser.specs.SchemaText.{SchemaText};
 ghost use Rattle.gql_rules_nodes.specs.PossibleTable.{ArePossibleIn};
@@ -77,11 +77,10 @@ impl Service {
         }
     }
 
-    /// The service of a schema that some text means.
+    /// The service of a schema that the text in its file means.
     fn of_schema(alloc: Global, schema: Valid<Schema>) -> Result<Service, Memory>
-        ghost text: { List ℕ }
-        requires { SchemaText text schema }
-        ensures { IfOk result (λ service. service ≡ text) }
+        requires { SchemaText (schema_text_in schema) schema }
+        ensures { IfOk result (λ service. service ≡ schema_text_in schema) }
     {
         let possible = PossibleTypes::new(alloc, schema.as_ref())?;
         Ok(Service { schema, possible })

@@ -11,4 +11,4 @@ returns c = λ schema means.
     let here = c.self.inside.schema in
     subst (λ (s : Schema). ArePossibleIn s.types c.self.inside.possible)
     (c.texts_have_one_schema.ensures.schema (schema_text_in here) here schema c.self.invariant.means (subst (λ (text : List ℕ). SchemaText text schema) (sym c.self.view_is) means))
-    c.self.invariant.possible
+    c.self.invariant.are_possible
