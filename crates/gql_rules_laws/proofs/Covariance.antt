@@ -259,12 +259,15 @@ module _ (before : Schema) (sound : Each (IsSound before) before.types) (outputs
         let both : are_known before.types wanted.ty own.ty ≡ true =
         ap (λ b. b && is_known before.types (named_type own.ty).text) (known (named_type wanted.ty).text of_wanted.type of_wanted.defined)
         ∙ known (named_type own.ty).text of_own.type of_own.defined in
-        let under = below before.types wanted.ty own.ty (fitting.fits both) in
-        (own, its-field own its_place, record {
-          lists = under.lists;
-          stands = λ V is stands.
-              stands-below (named_type own.ty).text (named_type wanted.ty).text of_own.type of_wanted.type of_own.defined of_wanted.defined V is stands under.named;
-        })
+        let under = below before.types wanted.ty own.ty (fitting.fits both) in (
+          own,
+          its-field own its_place,
+          record {
+            lists = under.lists;
+            stands = λ V is stands.
+                stands-below (named_type own.ty).text (named_type wanted.ty).text of_own.type of_wanted.type of_own.defined of_wanted.defined V is stands under.named;
+          },
+        )
 
     -- a field that the type of the name has by being composite
     its-name : (ty : List ℕ) → (is_some (object_of S ty) ≡ true → ⊥) → meta_field true (is_query_root S.schema_definition ty) name ≡ Some wanted → Covers T name wanted
@@ -293,11 +296,10 @@ module _ (before : Schema) (sound : Each (IsSound before) before.types) (outputs
             ap (λ (b : Bool). if b then Some type_name_field
             else (if root && bytes_eq name (codes "__schema") then Some schema_field
             else (if root && bytes_eq name (codes "__type") then Some type_field
-            else None))) called in
-            (
+            else None))) called in (
               wanted,
               ap (λ o. option_and_then (λ ty. field_on S.schema_definition ty T.name.text name) o) (object-there T object)
-              ∙ ap (λ o. option_or o (meta_field true root name)) none ∙ of_name ∙ is,
+                  ∙ ap (λ o. option_or o (meta_field true root name)) none ∙ of_name ∙ is,
               equal-types wanted.ty,
             )
 

@@ -84,7 +84,7 @@ as-many-levels (x ∷ xs) (y ∷ ys) is = ap suc (as-many-levels xs ys (and-both
 as-many-lists : (one other : TypeRef) → same_levels (levels one) (levels other) ≡ true → lists_in one ≡ lists_in other
 as-many-lists one other is = omega (arith, has-levels one, has-levels other, as-many-levels (levels one) (levels other) is)
 
-each-of : {X : Type 0} (P : X → Type 0) (xs : List X) → All P xs → Each P xs
+pub each-of : {X : Type 0} (P : X → Type 0) (xs : List X) → All P xs → Each P xs
 each-of P [] all = tt
 each-of P (x ∷ xs) all = (all 0 x (omega arith), each-of P xs (λ k d less. all (suc k) d (omega arith)))
 
@@ -99,7 +99,7 @@ agreed false b is holds = absurd (let e : false ≡ true = holds in cc)
 
 module _ (schema : Schema) (outputs : HaveOutputTypes schema) (unreserved : HaveNoReservedFields schema) where
   -- a field of a type is its own, or one of the three that types have besides
-  data IsOf (name : List ℕ) (it : FieldDefinition) : Type 0 where
+  pub data IsOf (name : List ℕ) (it : FieldDefinition) : Type 0 where
     own_field : (ty : List ℕ) (t : ExtendedType) → type_called ty schema.types ≡ Some t → entry field_name name (fields_of t) ≡ Some it → IsOf name it
     name_of_type : name ≡ codes "__typename" → it ≡ type_name_field → IsOf name it
     whole_schema : name ≡ codes "__schema" → it ≡ schema_field → IsOf name it
@@ -128,7 +128,7 @@ module _ (schema : Schema) (outputs : HaveOutputTypes schema) (unreserved : Have
       by true root false s t at_name at_schema at_type is = rest root s t at_schema at_type is
       by false root n s t at_name at_schema at_type is = rest root s t at_schema at_type is
 
-  of-field : (ty name : List ℕ) (it : FieldDefinition) → field_of schema ty name ≡ Some it → IsOf name it
+  pub of-field : (ty name : List ℕ) (it : FieldDefinition) → field_of schema ty name ≡ Some it → IsOf name it
   of-field ty name it is = by (type_called ty schema.types) refl is
     where
       by_entry : (t : ExtendedType) → type_called ty schema.types ≡ Some t → (o : Option FieldDefinition) → entry field_name name (fields_of t) ≡ o

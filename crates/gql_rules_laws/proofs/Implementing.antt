@@ -242,9 +242,9 @@ module _ (schema : Schema) where
   all-sound [] written none quiet = tt
   all-sound (ty ∷ ts) written none quiet = (
     one-sound ty written.0 (front_empty (type_faults schema ty) (flat_map (type_faults schema) ts) none)
-    (front_empty (implementing_faults schema.types ty) (flat_map (implementing_faults schema.types) ts) quiet),
+        (front_empty (implementing_faults schema.types ty) (flat_map (implementing_faults schema.types) ts) quiet),
     all-sound ts written.1 (back_empty (type_faults schema ty) (flat_map (type_faults schema) ts) none)
-    (back_empty (implementing_faults schema.types ty) (flat_map (implementing_faults schema.types) ts) quiet),
+        (back_empty (implementing_faults schema.types ty) (flat_map (implementing_faults schema.types) ts) quiet),
   )
 
   pub types-sound : Each NamesWritten schema.types → AreSchemaFaults schema [] → Each IsSound schema.types

@@ -16,3 +16,5 @@ mod Implementing
 mod Subtypes
 mod Covariance
 mod SchemaTexts
+mod CoreTypes
+mod Worked

@@ -259,8 +259,7 @@ module _ (schema : Schema) (document : ExecutableDocument) (are_based : IsDocume
     likes : (n : ℕ) → Merges n → (T : ObjectType) (its : Items) → AreFull its → (own more : Items) → ((i : ℕ) → Contains own i → Contains its i) → ((i : ℕ) → Contains more i → Contains its i)
         → (f : Field) → Found T own f → (g : Field) → Found T more g → Likes n f g
     likes n deeper T its full own more own_within more_within f x g y same =
-        let one = are-one T its full f g own more own_within more_within x y same in
-        (
+        let one = are-one T its full f g own more own_within more_within x y same in (
           alike f g one.met,
           λ V first second.
               deeper V one.below.whole one.below.full_again f.selection_set.selections g.selection_set.selections

@@ -1,2 +1,4 @@
 pub mod Covariant
+pub mod Examples
 pub mod Merge
+pub mod Outputs

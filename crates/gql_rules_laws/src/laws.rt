@@ -14,6 +14,7 @@ ghost use Rattle.gql_schema_types.specs.declared.schema.Schema.{Schema as Schema
 ghost use Rattle.gql_schema_types.specs.declared.types.ObjectType.{ObjectType};
 ghost use Rattle.gql_rules_laws.specs.Covariant.{IsCovariant, Stands};
 ghost use Rattle.gql_rules_laws.specs.Merge.{AreOfOneName, HaveOneDepth, HaveOneName, OperationsMerge};
+ghost use Rattle.gql_rules_laws.specs.Outputs.{NameOutputTypes};
 
 use gql_ast_laws::laws as tree_laws;
 use gql_document_types::laws as expansion_laws;
@@ -59,4 +60,14 @@ pub fn object_types_are_covariant()
     tree_laws::texts_have_one_document();
     text_laws::fields_have_output_types();
     text_laws::roots_are_object_types();
+}
+
+/// In a schema that a text means, each field that a type has, be it its own or one of introspection, names a type that is defined and
+/// is no input object type (GraphQL October 2021, sections 3.3, 3.6, 3.7, 4.1 and 4.2).
+pub fn all_fields_name_output_types()
+    ensures { (text : List ℕ) (schema : SchemaOf) → SchemaText text schema → NameOutputTypes schema }
+{
+    grammar_laws::factored_is_declared();
+    tree_laws::texts_have_one_document();
+    text_laws::fields_have_output_types();
 }
