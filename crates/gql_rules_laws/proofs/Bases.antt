@@ -1,5 +1,5 @@
 -- Fields with the definitions that the types of their sets give them, and sets on the types of what they stand in.
-use Rattle.std.proofs.Common.{◌≡◌, ℕ, zero, suc, List, [], ◌∷◌, Option, Some, unwrap_or, subst}
+use Rattle.std.proofs.Common.{◌≡◌, ℕ, zero, suc, List, ◌∷◌, Some, unwrap_or, subst}
 use Rattle.std.specs.List.{AllByRecursion}
 use Rattle.gql_ast_base.specs.Names.{Named}
 use Rattle.gql_ast_base.specs.TypeParts.{named_type}

@@ -1,12 +1,11 @@
 -- The types that fields of introspection name are there in each schema that a text means.
-use Rattle.std.proofs.Common.{rules, ◌≡◌, ℕ, Bool, true, false, cond, Option, Some, None, List, [], ◌∷◌, ◌++◌, fold, refl, sym, ap, ◌∙◌}
+use Rattle.std.proofs.Common.{rules, ◌≡◌, ℕ, Bool, true, false, Option, Some, None, List, [], ◌∷◌, ◌++◌, fold, refl, sym, ap, ◌∙◌}
 use Rattle.std.specs.Prelude.{codes}
 use Rattle.std.specs.List.{filter}
 use Rattle.std.specs.Option.{option_map_or}
 use Rattle.std.specs.Str.{bytes_eq}
 use Rattle.gql_ast.specs.declared.definition.Definition.{Definition}
 use Rattle.gql_ast.specs.declared.document.Document.{Document}
-use Rattle.gql_ast_base.specs.Names.{Named}
 use Rattle.gql_ast_base.specs.TypeParts.{named_type}
 use Rattle.gql_ast_base.specs.declared.type_ref.TypeRef.{the_lemmas}
 use Rattle.gql_ast_definitions.specs.declared.field_definition.FieldDefinition.{FieldDefinition}
@@ -35,7 +34,6 @@ use Rattle.gql_schema_build.specs.declared.type_definition.TypeDefinition.TheVar
 use Rattle.gql_schema_build.specs.declared.type_extension.TypeExtension.{TypeExtension}
 use Rattle.gql_schema_build.specs.declared.type_extension.TypeExtension.TheVariants as extension
 use Rattle.gql_schema_build.specs.declared.type_system.TypeSystem.{TypeSystem}
-use Rattle.gql_schema_rules.specs.Scalars.{validated}
 use Rattle.gql_schema_types.proofs.Entries.{entry-front, joined-first}
 use Rattle.gql_schema_types.specs.Entries.{entry, is_called}
 use Rattle.gql_schema_types.specs.MetaFields.{schema_field, type_field, type_name_field}

@@ -9,8 +9,8 @@ use Rattle.gql_ast_base.specs.declared.operation_type.OperationType.TheVariants.
 use Rattle.gql_ast_base.specs.declared.type_ref.TypeRef.{TypeRef}
 use Rattle.gql_ast_definitions.specs.declared.field_definition.FieldDefinition.{FieldDefinition}
 use Rattle.gql_ast_laws.proofs.Kept.{Each}
-use Rattle.gql_collect.proofs.Keys.{text-same, text-itself}
-use Rattle.gql_collect.specs.Applies.{applies, has_member, is_listed}
+use Rattle.gql_collect.proofs.Keys.{text-same}
+use Rattle.gql_collect.specs.Applies.{has_member, is_listed}
 use Rattle.gql_parser.specs.OutputFields.{HaveNoReservedFields, HaveOutputTypes, NamesOutputType}
 use Rattle.gql_parser.specs.Roots.{AreRootsObjects}
 use Rattle.gql_rules_types.specs.InterfaceRules.{field_faults}
@@ -31,7 +31,7 @@ use Rattle.gql_schema_types.specs.declared.types.ObjectType.{ObjectType}
 use Rattle.gql_schema_types.specs.declared.types.UnionType.{UnionType}
 use Rattle.gql_rules_laws.proofs.Implementing.{ListsWell, IsSound, HasFitting, entry-named, entry-quiet, has-fitting, of-entry}
 use Rattle.gql_rules_laws.proofs.Settled.{is_scalar, same-type, was-known, was-there}
-use Rattle.gql_rules_laws.proofs.Subtypes.{IsBelow, below}
+use Rattle.gql_rules_laws.proofs.Subtypes.{below}
 use Rattle.gql_rules_laws.specs.Covariant.{IsCovariant, IsObject, IsSub, Stands}
 
 or-right : (a b : Bool) → b ≡ true → (a || b) ≡ true

@@ -1,5 +1,5 @@
 -- The fields that are collected on an object type have numbers, and stand on types for which this type stands.
-use Rattle.std.proofs.Common.{◌≡◌, ◌+◌, ℕ, zero, suc, Bool, true, false, ◌&&◌, List, [], ◌∷◌, ◌++◌, length, Option, Some, None, position, unwrap_or, refl, sym, ap, ◌∙◌, subst}
+use Rattle.std.proofs.Common.{◌≡◌, ◌+◌, ℕ, zero, suc, Bool, true, false, ◌&&◌, List, [], ◌∷◌, ◌++◌, length, Option, Some, None, position, unwrap_or, refl, sym, ◌∙◌, subst}
 use Rattle.std.specs.List.{AllByRecursion, Contains, find, slice_get}
 use Rattle.gql_ast_base.specs.Names.{Named}
 use Rattle.gql_ast_base.specs.TypeParts.{named_type}
@@ -15,13 +15,12 @@ use Rattle.gql_document_types.specs.declared.selection.Field.{Field}
 use Rattle.gql_document_types.specs.declared.selection.FragmentSpread.{FragmentSpread}
 use Rattle.gql_document_types.specs.declared.selection.InlineFragment.{InlineFragment}
 use Rattle.gql_document_types.specs.declared.selection.Selection.{Selection, out-Selection}
-use Rattle.gql_document_types.specs.declared.selection.Selection.TheOpen.{Selection-F}
 use Rattle.gql_document_types.specs.declared.selection.Selection.TheVariants as selection
-use Rattle.gql_graph.specs.Cycles.{Reaches, at_once, along}
-use Rattle.gql_graph.specs.Graph.{Graph, HasEdge}
+use Rattle.gql_graph.specs.Cycles.{at_once, along}
+use Rattle.gql_graph.specs.Graph.{Graph}
 use Rattle.gql_graph.specs.Pairs.{IsField}
 use Rattle.gql_rules_merging.specs.Gathering.{selected_as}
-use Rattle.gql_rules_merging.specs.Numbering.{Items, Selected, numbered}
+use Rattle.gql_rules_merging.specs.Numbering.{Items, numbered}
 use Rattle.gql_schema_types.proofs.Lookups.{found, missing}
 use Rattle.gql_schema_types.specs.Entries.{entry, is_called}
 use Rattle.gql_schema_types.specs.Schemas.{field_of}

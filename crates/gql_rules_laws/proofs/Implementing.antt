@@ -1,5 +1,5 @@
 -- What the rules on interfaces and unions give of each type where they find nothing.
-use Rattle.std.proofs.Common.{◌≡◌, ℕ, Bool, true, false, not, ◌&&◌, ◌||◌, cond, if◌then◌else◌, Option, Some, None, is_some, List, [], ◌∷◌, ◌++◌, position, refl, sym, ap, ◌∙◌, subst}
+use Rattle.std.proofs.Common.{◌≡◌, ℕ, Bool, true, false, not, ◌&&◌, ◌||◌, cond, if◌then◌else◌, Option, Some, None, List, [], ◌∷◌, ◌++◌, refl, sym, ap, ◌∙◌, subst}
 use Rattle.std.specs.List.{flat_map}
 use Rattle.std.specs.Option.{option_map_or}
 use Rattle.std.specs.Str.{bytes_eq}
@@ -24,12 +24,11 @@ use Rattle.gql_rules_types.specs.UnionMemberObjectType.{union_member_object_type
 use Rattle.gql_rules_values.specs.Directives.{directive_faults}
 use Rattle.gql_rules_values.specs.Faults.{name_fault, only_if}
 use Rattle.gql_rules_values.specs.Known.{is_known}
-use Rattle.gql_rules_values.specs.Written.{is_written}
 use Rattle.gql_rules_values.specs.declared.known.Defined.TheVariants.{TypesAndScalars}
 use Rattle.gql_schema_rules.specs.SchemaFaults.{AreSchemaFaults, parts_faults}
 use Rattle.gql_schema_types.specs.Called.{is_among}
 use Rattle.gql_schema_types.specs.Entries.{entry, is_called}
-use Rattle.gql_schema_types.specs.Types.{type_name, type_called, field_name}
+use Rattle.gql_schema_types.specs.Types.{type_called, field_name}
 use Rattle.gql_schema_types.specs.declared.schema.Schema.{Schema}
 use Rattle.gql_schema_types.specs.declared.types.ExtendedType.{ExtendedType}
 use Rattle.gql_schema_types.specs.declared.types.ExtendedType.TheVariants as type

@@ -1,5 +1,5 @@
 -- Fields of one response key that one object can have are one field, at every depth.
-use Rattle.std.proofs.Common.{arith, ◌≡◌, ◌≢◌, ◌<◌, ◌≤◌, ◌+◌, ℕ, zero, suc, Bool, true, false, not, ◌&&◌, List, [], ◌∷◌, ◌++◌, length, Option, Some, None, unwrap_or, refl, sym, ap, ◌∙◌, subst, inl, inr, ◌⊎◌}
+use Rattle.std.proofs.Common.{arith, ◌≡◌, ◌≢◌, ◌<◌, ◌≤◌, ℕ, zero, suc, Bool, true, false, not, ◌&&◌, List, [], ◌∷◌, length, Some, unwrap_or, refl, sym, ap, ◌∙◌, subst, inl, inr, ◌⊎◌}
 use Rattle.std.specs.List.{AllByRecursion, Contains, slice_get}
 use Rattle.std.specs.Option.{option_map, option_map_or}
 use Rattle.std.proofs.lemmas.Bool.{cases_lt}
@@ -30,7 +30,7 @@ use Rattle.gql_schema_types.specs.Schemas.{field_of}
 use Rattle.gql_schema_types.specs.declared.schema.Schema.{Schema}
 use Rattle.gql_schema_types.specs.declared.types.ObjectType.{ObjectType}
 use Rattle.gql_rules_laws.proofs.Bases.{AreBased, IsDocumentBased}
-use Rattle.gql_rules_laws.proofs.Found.{IsHeldOn, IsFound, graph, all-found}
+use Rattle.gql_rules_laws.proofs.Found.{IsHeldOn, IsFound, all-found}
 use Rattle.gql_rules_laws.proofs.Numbered.{fields, operation-held}
 use Rattle.gql_rules_laws.proofs.Selections.{all-map}
 use Rattle.gql_rules_laws.proofs.Unbroken.{below-is, unbroken, Agree, agree}

@@ -1,5 +1,5 @@
 -- Documents that texts mean have no conflicts, so their fields merge.
-use Rattle.std.proofs.Common.{◌≡◌, ℕ, List, [], ◌∷◌, ◌++◌, refl, sym, ap, ◌∙◌, subst}
+use Rattle.std.proofs.Common.{◌≡◌, ℕ, List, [], ◌∷◌, ◌++◌, sym, subst}
 use Rattle.std.specs.List.{Contains}
 use Rattle.gql_collect.specs.Flat.{flat, enough}
 use Rattle.gql_collect.specs.Kept.{Variables}

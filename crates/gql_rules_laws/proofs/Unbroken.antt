@@ -1,14 +1,12 @@
 -- In a document of which no conflict is told no compared pair of fields breaks the rule.
-use Rattle.std.proofs.Common.{◌≡◌, ℕ, Bool, true, false, not, cond, ◌&&◌, ◌||◌, ◌==◌, List, [], ◌∷◌, ◌++◌, Option, Some, None, refl, sym, ap, ◌∙◌, subst, inl, inr, ◌⊎◌}
+use Rattle.std.proofs.Common.{◌≡◌, ℕ, Bool, true, false, not, cond, ◌&&◌, ◌||◌, ◌==◌, List, [], ◌∷◌, ◌++◌, Option, Some, None, refl, sym, ap, ◌∙◌, inl, inr, ◌⊎◌}
 use Rattle.std.specs.List.{Contains, flat_map, slice_get}
-use Rattle.std.specs.Option.{option_and_then, option_map, option_map_or, unwrap_or}
+use Rattle.std.specs.Option.{option_and_then, option_map_or}
 use Rattle.std.specs.Prelude.{is_some}
 use Rattle.std.specs.Str.{bytes_eq}
 use Rattle.std.proofs.lemmas.Bool.{eqb-true}
-use Rattle.std.proofs.lemmas.Option.{slice_get-map}
-use Rattle.gql_collect.specs.Applies.{applies, is_listed, has_member}
+use Rattle.gql_collect.specs.Applies.{is_listed, has_member}
 use Rattle.gql_collect.proofs.Keys.{text-same, text-itself}
-use Rattle.gql_diag_messages.specs.declared.diagnostic_data.DiagnosticData.{DiagnosticData}
 use Rattle.gql_document_types.specs.declared.document.ExecutableDocument.{ExecutableDocument}
 use Rattle.gql_graph.proofs.Flooded.{Contains-cons_cases, none_contained}
 use Rattle.gql_graph.specs.Pairs.{IsCompared}
@@ -16,7 +14,7 @@ use Rattle.gql_graph.specs.declared.pair.Pair.{Pair}
 use Rattle.gql_rules_merging.specs.ConflictingFieldName.{names_conflict}
 use Rattle.gql_rules_merging.specs.ConflictingFieldArgument.{arguments_conflict}
 use Rattle.gql_rules_merging.specs.ConflictingFieldType.{types_conflict}
-use Rattle.gql_rules_merging.specs.FieldSelectionMerging.{conflict, conflict_of, are_apart, is_object_name, is_broken, below, below_fields, differ, same_fields, sets_of, AreConflicts}
+use Rattle.gql_rules_merging.specs.FieldSelectionMerging.{conflict, conflict_of, are_apart, is_object_name, is_broken, below, below_fields, differ, sets_of, AreConflicts}
 use Rattle.gql_rules_merging.specs.Numbering.{Selected, numbered}
 use Rattle.gql_schema_types.specs.Types.{type_called, as_object}
 use Rattle.gql_schema_types.specs.declared.schema.Schema.{Schema}

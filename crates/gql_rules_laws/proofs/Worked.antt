@@ -3,7 +3,7 @@ use Rattle.std.proofs.Common.{rules, ◌≡◌, ◌+◌, ◌*◌, ℕ, zero, suc
 use Rattle.std.specs.List.{AllByRecursion}
 use Rattle.gql_ast_base.specs.Names.{Named}
 use Rattle.gql_ast_base.specs.TypeParts.{named_type}
-use Rattle.gql_ast_base.specs.declared.type_ref.TypeRef.{TypeRef, the_lemmas, List as ListOf, NonNullList}
+use Rattle.gql_ast_base.specs.declared.type_ref.TypeRef.{the_lemmas, List as ListOf, NonNullList}
 use Rattle.gql_ast_base.specs.declared.type_ref.TypeRef.TheVariants.{Named as NamedType}
 use Rattle.gql_ast_base.specs.declared.directive.Directive.{Directive}
 use Rattle.gql_collect.specs.Flat.{Shape, when, field_of, opened, flat_within, flat}
@@ -14,7 +14,7 @@ use Rattle.gql_collect.specs.Sizes.{size, fragments_size}
 use Rattle.gql_document_types.proofs.Variants.{out-field}
 use Rattle.gql_document_types.specs.declared.fragment.Fragment.{Fragment}
 use Rattle.gql_document_types.specs.declared.selection.Field.{Field}
-use Rattle.gql_document_types.specs.declared.selection.Selection.{Selection, out-Selection}
+use Rattle.gql_document_types.specs.declared.selection.Selection.{out-Selection}
 use Rattle.gql_document_types.specs.declared.selection.Selection.TheVariants as selection
 use Rattle.gql_schema_types.specs.declared.schema.Schema.{Schema}
 use Rattle.gql_schema_types.specs.declared.types.ObjectType.{ObjectType}
