@@ -1,5 +1,5 @@
 -- At a type that is defined and is no input object type no fault is marked.
-use Rattle.std.proofs.Common.{◌≡◌, ℕ, Bool, true, false, if◌then◌else◌, Option, Some, None, List, refl, sym, ap, ◌∙◌}
+use Rattle.std.proofs.Common.{◌≡◌, ℕ, Bool, true, false, if◌then◌else◌, Option, Some, None, List, sym, ap, ◌∙◌}
 use Rattle.std.specs.Str.{bytes_eq}
 use Rattle.jb_tree.specs.declared.value.Value.{Value}
 use Rattle.jb_tree.specs.Value.{is_null}
@@ -60,7 +60,7 @@ module _ (found : Misfit) where
 
       by_null : (b : Bool)
           → (if b then null_misfit ty
-            else (if is_list ty then Some (wrong (message.other_at_list ty)) else leaf_at (Some t) (named_type ty).text value)) ≡ Some found → Unmarked
+          else (if is_list ty then Some (wrong (message.other_at_list ty)) else leaf_at (Some t) (named_type ty).text value)) ≡ Some found → Unmarked
       by_null true is = of-null (is_non_null ty) (message.null_at_non_null ty) is
       by_null false is = by_list (is_list ty) is
 

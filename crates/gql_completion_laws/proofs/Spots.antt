@@ -1,5 +1,5 @@
 -- Each place that an execution reaches is at a type that is defined and is no input object type.
-use Rattle.std.proofs.Common.{◌≡◌, ◌⊎◌, inl, inr, ℕ, ◌+◌, Bool, true, false, cond, Option, Some, None, is_some, unwrap_or, List, [], ◌∷◌, ◌++◌, refl, sym, ap, ◌∙◌, subst}
+use Rattle.std.proofs.Common.{◌≡◌, inl, inr, ℕ, ◌+◌, Bool, true, false, cond, Option, Some, None, is_some, unwrap_or, List, [], ◌∷◌, ◌++◌, refl, sym, ap, ◌∙◌, subst}
 use Rattle.std.specs.List.{AllByRecursion, filter}
 use Rattle.std.specs.Option.{option_map_or}
 use Rattle.gql_ast_base.specs.Names.{Named}
@@ -17,8 +17,8 @@ use Rattle.gql_exec_fields.specs.Group.{Group, groups_from, started}
 use Rattle.gql_exec_fields.specs.Request.{Request}
 use Rattle.gql_exec_fields.specs.RequestWorld.{plain_world, setting_on}
 use Rattle.gql_resolvers.specs.Reached.{IsAmong, Reaches, at_inside, at_root, fields_if, fields_of, inside, items_of}
-use Rattle.gql_resolvers.specs.Resolved.{Meaning, Meanings, Misfit, Outcome, answer_then, answered, fails_with, gives_leaf, gives_list, gives_object, gives_skip, no_answer}
-use Rattle.gql_resolvers.specs.Spot.{Spot, item_spot, trail}
+use Rattle.gql_resolvers.specs.Resolved.{Meaning, Meanings, Outcome, answer_then, fails_with, gives_leaf, gives_list, gives_object, gives_skip, no_answer}
+use Rattle.gql_resolvers.specs.Spot.{Spot, trail}
 use Rattle.gql_resolvers.specs.Trail.{Trail}
 use Rattle.gql_resolvers.specs.Types.{item_level, item_type}
 use Rattle.gql_resolvers.specs.World.{World}
