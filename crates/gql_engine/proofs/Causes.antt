@@ -1,5 +1,5 @@
 -- The causes of refusals as steps in a row.
-use Rattle.std.proofs.Common.{◌≡◌, ◌≢◌, ◌<◌, ◌⊎◌, ℕ, true, List, Some, None, Result, Ok, Err, IfOk, IfErr, IsErrAnd, refl, ◌∙◌, sym, ap, subst, inl, inr, arith}
+use Rattle.std.proofs.Common.{◌≡◌, ◌≢◌, ◌<◌, ◌⊎◌, ℕ, true, List, Some, None, Ok, Err, refl, ◌∙◌, sym, ap, subst, inl, inr, arith}
 use Rattle.jb_tree.specs.declared.value.Value.{Value}
 use Rattle.jb_tree.specs.Value.{object_members}
 use Rattle.jb_read.specs.declared.fault.ReadFault.{ReadFault}

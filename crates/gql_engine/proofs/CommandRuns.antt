@@ -1,5 +1,5 @@
 -- The run of a command: what was read of its input, and what must come of it.
-use Rattle.std.proofs.Common.{◌≡◌, ◌⊎◌, inl, inr, ℕ, List, ◌++◌, Option, Some, None, Result, Ok, Err, IfOk, ◌∙◌, sym, ap, subst, refl, arith, append-nil}
+use Rattle.std.proofs.Common.{◌≡◌, ◌⊎◌, inl, inr, ℕ, List, ◌++◌, Option, Some, None, Result, Ok, Err, IfOk, ◌∙◌, sym, ap, subst, arith, append-nil}
 use Rattle.jb_io.specs.Source.{ReadsWhole}
 use Rattle.jb_io.specs.declared.serving.TheConstants.{NO_MEMORY, REFUSED, SINK_FAILED, SOURCE_FAILED, TOO_LONG}
 use Rattle.gql_request.specs.NotAsked.{IsAsked, NotAsked}

@@ -28,7 +28,6 @@ use Rattle.gql_engine.specs.declared.answer_error.AnswerError.{AnswerError}
 use Rattle.gql_engine.specs.declared.answer_error.AnswerError.TheVariants as error
 use Rattle.gql_engine.specs.declared.answer_error.RequestKind.TheVariants as kind
 use Rattle.gql_engine.specs.declared.response_bytes.Written.{Written}
-use Rattle.gql_engine.specs.declared.wanted.Wanted.{Wanted as WantedHere}
 
 -- ---- what a request wants, as the code hands it on
 

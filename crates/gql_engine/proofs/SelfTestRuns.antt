@@ -1,6 +1,6 @@
 -- What the run of a self-test says in the words of the program.
 use Rattle.std.proofs.Common.{◌≡◌, ◌≤◌, ◌⊎◌, ℕ, List, [], Option, refl, inl, inr, arith}
-use Rattle.jb_io.specs.Sink.{Takes, TakesFront, Told}
+use Rattle.jb_io.specs.Sink.{Told}
 use Rattle.jb_io.specs.Stream.{HasFailed}
 use Rattle.jb_io.specs.declared.serving.TheConstants.{ANSWERED, NO_MEMORY, SINK_FAILED, SOURCE_FAILED, TOO_LONG}
 use Rattle.gql_engine.specs.Output.{IsDone, IsRefused}

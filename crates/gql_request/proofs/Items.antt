@@ -1,5 +1,5 @@
 -- One more item.
-use Rattle.std.proofs.Common.{◌≡◌, ◌+◌, ℕ, suc, List, ◌++◌, ◌∙◌, ap, subst, sym, append_assoc}
+use Rattle.std.proofs.Common.{◌≡◌, ℕ, suc, List, ◌++◌, ◌∙◌, ap, subst, sym, append_assoc}
 use Rattle.gql_request.specs.SelfTest.{comma_before, item, items}
 
 pub one_more : (n next : ℕ) → next ≡ suc n → (start before comma after : List ℕ) → before ≡ start ++ items n → comma ≡ before ++ comma_before n

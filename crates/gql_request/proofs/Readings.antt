@@ -6,7 +6,6 @@ use Rattle.jb_read.specs.declared.fault.ReadFault.{ReadFault}
 use Rattle.jb_tree.specs.declared.value.Value.{Value}
 use Rattle.gql_request.specs.NotAsked.{IsAsked, NotAsked, no_text, no_request, read_message}
 use Rattle.gql_request.specs.Request.{Asked, asked, fault_message}
-use Rattle.gql_request.specs.declared.request.RequestFault.{RequestFault}
 use Rattle.gql_request.specs.declared.request.RequestForm.{RequestForm}
 
 same_ok : {A E : Type 0} (result : Result A E) (a b : A) → result ≡ Ok a → result ≡ Ok b → a ≡ b

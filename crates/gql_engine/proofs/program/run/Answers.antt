@@ -1,5 +1,5 @@
 -- What a run promises of words, by what the run of a wish, of a self-test, or of no command does.
-use Rattle.std.proofs.Common.{◌≡◌, ℕ, List, refl, arith, map, string_bytes, subst}
+use Rattle.std.proofs.Common.{refl, arith, map, string_bytes, subst}
 use Rattle.gql_engine.specs.Program.{IsInput, MustDo, MustRefuse}
 use Rattle.gql_engine.specs.Task.{Asks}
 use Rattle.gql_engine.specs.declared.task.Task.TheVariants.{Request, SelfTest}

@@ -1,5 +1,5 @@
 -- What the prover leaves open of `serve_command`: what must be refused is, and what a sink took that failed.
-use Rattle.std.proofs.Common.{◌≡◌, ℕ, List, inl, subst, arith}
+use Rattle.std.proofs.Common.{ℕ, List, inl, subst, arith}
 use Rattle.jb_io.specs.Sink.{TakesFront}
 use Rattle.gql_engine.specs.Serving.{AnswersBytes, MustRefuseBytes, RefusesBytes, text_of}
 use Rattle.gql_engine.proofs.CommandRuns.{no_other, output_means, read_input, refused_status}

@@ -1,4 +1,4 @@
-use Rattle.std.proofs.Common.{◌≡◌, ap, refl, sym}
+use Rattle.std.proofs.Common.{ap, refl, sym}
 use Rattle.gql_engine.specs.AtHand.{TwoTexts}
 use Rattle.gql_engine.specs.Wanted.{wanted_over}
 use Rattle.gql_engine.proofs.Responses.{responds_over}

@@ -1,4 +1,4 @@
-use Rattle.std.proofs.Common.{◌≡◌, ℕ, List, Option, Some, arith}
+use Rattle.std.proofs.Common.{◌≡◌, ℕ, List, arith}
 use Rattle.gql_engine.specs.DecimalWord.{IsDecimalWord}
 use Rattle.gql_engine.specs.Task.{IsCount}
 use Rattle.gql_engine.proofs.Results.{same_some}
