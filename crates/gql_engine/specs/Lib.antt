@@ -22,3 +22,4 @@ pub mod Output
 pub mod Program
 pub mod Resolving
 pub mod Executing
+pub mod Passed

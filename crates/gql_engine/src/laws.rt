@@ -1,4 +1,4 @@
-//! Laws of the definitions alone.
+//! Laws of the definitions alone. Those of the texts of schemas and documents, and of requests, are passed on from below.
 
 ghost use Rattle.std.specs.Prelude.{◌≡◌, ◌≢◌, ℕ, List, []};
 ghost use Rattle.gql_engine.specs.AnswerError.{Call, ComesFor, HasCause, IsNoVariables, IsObjectText, IsValid, wanted_with};
@@ -18,6 +18,12 @@ ghost use Rattle.gql_engine.specs.declared.answer_error.AnswerError.{AnswerError
 ghost use Rattle.gql_engine.specs.declared.answer_error.AnswerError.TheVariants as refusal;
 
 use gql_parser::laws as text_laws;
+pub use gql_parser::laws::{
+    documents_are_typed, fields_have_output_types, operations_select_something,
+    roots_are_object_types, texts_have_one_document_each, texts_have_one_schema,
+    valid_documents_run,
+};
+pub use gql_request::laws::bytes_ask_one_thing;
 use jb_read::laws as json_laws;
 
 /// The causes of refusals exclude one another: where one holds, another is the same refusal, or want of memory, whose cause always
