@@ -14,7 +14,8 @@ use Rattle.gql_document_types.specs.declared.operation.Operation.{Operation}
 use Rattle.gql_collect.specs.Refusal.{IsTooDeep as IsDepthRefused}
 use Rattle.gql_exec.specs.Thing.{of_user, type_of_thing}
 use Rattle.gql_exec.specs.ThingMeaning.{Resolving, thing_meaning}
-use Rattle.gql_exec.specs.Execution.{Answers as ExecutionAnswers, Counts as ExecutionCounts, IsAnswer as IsExecutionAnswer, Looks as ExecutionLooksOf, Prepared, on_root, request_in, started, undefined_root, with_implementers, with_introspection, with_operation, with_values}
+use Rattle.gql_exec.specs.Execution.{Answers as ExecutionAnswers, Counts as ExecutionCounts, IsAnswer as IsExecutionAnswer, Looks as ExecutionLooksOf}
+use Rattle.gql_exec.specs.Execution.{Prepared, on_root, request_in, started, undefined_root, with_implementers, with_introspection, with_operation, with_values}
 use Rattle.gql_exec.proofs.ThingSkips.{things-never-skip}
 use Rattle.gql_exec_fields.proofs.Skipless.{fully-explained, request-never}
 use Rattle.gql_exec_fields.specs.Executing.{request_by}
