@@ -10,7 +10,7 @@ of_schema-requires c =
 
 pub returns-in_ok-of_schema-in-Ok : goal.returns-in_ok-of_schema-in-Ok
 returns-in_ok-of_schema-in-Ok c = record {
-  is = c.in_ok-of_schema.ensures ∙ schema_text-kept c.args.schema_text.now c.in-Ok.schema c.in-Ok.ensures;
+  is = c.in_ok-of_schema-in-Ok.ensures ∙ schema_text-kept c.args.schema_text.now c.in-Ok.schema c.in-Ok.ensures;
   schema = c.in-Ok.schema;
   means = c.in-Ok.ensures;
 }
