@@ -1,0 +1,101 @@
+/* GraphQL requests answered, from bytes to bytes: the C interface of Sunwaket.
+ *
+ * A handle holds one value of the library: a schema, a query, data, or a reply. It is a struct of one pointer that the caller owns
+ * (on the stack, in a struct, in an array), and all bits zero is a handle that holds nothing. A call that makes a value puts it into a
+ * handle and lets go of what that held before; gql_free lets go of it and leaves the handle empty.
+ *
+ *     gql_handle schema = GQL_EMPTY, query = GQL_EMPTY, data = GQL_EMPTY, reply = GQL_EMPTY;
+ *     if (gql_schema_new(text, strlen(text), &schema, &reply) == GQL_ANSWERED && ..)
+ *         status = gql_execute(&query, &data, NULL, 0, NULL, 0, 0, &reply);
+ *     size_t length = gql_reply_length(&reply);
+ *     gql_reply_copy(&reply, buffer, length);
+ *     gql_free(&reply);
+ *
+ * The caller's duties, which nothing checks:
+ *   - no handle is a null pointer; bytes may be null where their length is 0, and lengths are true;
+ *   - no two handles of one call are the same, and no call uses a handle while another call does;
+ *   - a handle may be moved but not copied: of two copies only one is used from then on. To have a value twice, use gql_share;
+ *   - no call comes from a signal handler, nor from the forked child of a process with threads;
+ *   - a thread that calls has 2 MB of stack (texts nested at their limits take that; threads of musl and of macOS have less unless told).
+ */
+#ifndef GQL_H
+#define GQL_H
+
+#include <stddef.h>
+#include <stdint.h>
+
+#ifdef __cplusplus
+extern "C" {
+#endif
+
+typedef struct gql_handle {
+    void *held;
+} gql_handle;
+
+#define GQL_EMPTY { 0 }
+
+/* What a call tells. The first three mean what the exit statuses of the program mean, and have their numbers. */
+enum gql_status {
+    GQL_ANSWERED = 0,     /* The call did what it says. */
+    GQL_REFUSED = 1,      /* The text or the request is refused: the reply tells why. */
+    GQL_NO_MEMORY = 3,    /* Memory ran out. */
+    GQL_WRONG_HANDLE = 8, /* A handle holds nothing, or another kind of value than the call takes. */
+    GQL_UNREAD = 9        /* Bytes are no UTF-8, or, as data, no JSON text of an object. */
+};
+
+/* Bits of `flags`. */
+enum gql_flag {
+    GQL_NAMED = 1,        /* The operation is the one of the name that is given; otherwise the only one. */
+    GQL_INTROSPECTION = 2 /* `__schema` and `__type` are answered. */
+};
+
+/* Kinds of operations. */
+enum gql_kind { GQL_NO_OPERATION = 0, GQL_QUERY = 1, GQL_MUTATION = 2, GQL_SUBSCRIPTION = 3 };
+
+/* Every call that makes something leaves the handle for it, and the reply, empty where it tells another status than it says below.
+ * Handles that a call only uses hold afterwards what they held before. */
+
+/* Reads and checks the text of a schema (UTF-8, nested at most 500 deep), into `schema`. REFUSED: `reply` has a JSON object with
+ * `errors`, one for each thing that is wrong; `schema` is empty. UNREAD: the text is no UTF-8. */
+uint32_t gql_schema_new(const uint8_t *text, size_t length, gql_handle *schema, gql_handle *reply);
+
+/* Reads and checks the text of a query against a schema, into `query`. The query keeps the schema: that handle may be freed first.
+ * REFUSED and UNREAD as above. */
+uint32_t gql_query_new(gql_handle *schema, const uint8_t *text, size_t length, gql_handle *query, gql_handle *reply);
+
+/* Reads plain data: the JSON text of an object, nested at most 127 deep, whose numbers are whole. UNREAD where it is none. */
+uint32_t gql_data_new(const uint8_t *text, size_t length, gql_handle *data);
+
+/* Executes an operation of a query over data, which are the object that the query begins at. `name` is the operation's where `flags`
+ * has GQL_NAMED. `variables` is the JSON text of an object; no bytes at all are one without members. ANSWERED: `reply` has the
+ * response. REFUSED: `reply` has a JSON object with `errors`: no such operation, a variable that is not coerced, variables that are no
+ * JSON object, introspection that goes too deep. UNREAD: the name is no UTF-8. */
+uint32_t gql_execute(gql_handle *query, gql_handle *data, const uint8_t *name, size_t name_length, const uint8_t *variables,
+                     size_t variables_length, uint32_t flags, gql_handle *reply);
+
+/* The kind of the operation that gql_execute would execute, into `kind`. REFUSED, and GQL_NO_OPERATION, where there is none. */
+uint32_t gql_operation_kind(gql_handle *query, const uint8_t *name, size_t name_length, uint32_t flags, uint32_t *kind);
+
+/* What is wrong with the texts of a schema and of a query, for people. ANSWERED: nothing, and `reply` is empty. REFUSED: `reply` has
+ * the reports of the first text that something is wrong with, a line for each place: `schema.graphql:2:9: here`. */
+uint32_t gql_check(const uint8_t *schema, size_t schema_length, const uint8_t *query, size_t query_length, gql_handle *reply);
+
+/* Has `to` hold the same value as `from`: a schema, a query or data. WRONG_HANDLE for a reply. */
+uint32_t gql_share(gql_handle *from, gql_handle *to);
+
+/* Lets go of what a handle holds, if it holds anything. */
+void gql_free(gql_handle *handle);
+
+/* How many bytes a reply has; 0 where the handle holds no reply. */
+size_t gql_reply_length(gql_handle *reply);
+
+/* Copies the bytes of a reply, which end with no zero byte, if there is room for all; gives their number. */
+size_t gql_reply_copy(gql_handle *reply, uint8_t *into, size_t length);
+
+/* The version of the library: 65536 times the major number, 256 times the minor one, and the patch. */
+uint32_t gql_version(void);
+
+#ifdef __cplusplus
+}
+#endif
+#endif
