@@ -1,0 +1,95 @@
+/* Each allocation of a whole request is refused in turn: each call answers as ever or tells NO_MEMORY, or that a handle is empty for that
+ * reason, and no block is left. So it is where all after it are refused too. heap.c is compiled once more over the three functions below. */
+#include "check.h"
+
+static long left = -1, live;
+static bool all_after, is_hit;
+
+static void *counted(void *at) {
+    live += at != NULL;
+    return at;
+}
+
+/* Whether this allocation is the one whose turn it is, or comes after it where all of these are refused too. */
+static bool is_refused(void) {
+    if (left < 0 || (left > 0 && --left > 0)) {
+        return false;
+    }
+    is_hit = true;
+    left = all_after ? 0 : -1;
+    return true;
+}
+
+void *counted_malloc(size_t size) {
+    return is_refused() ? NULL : counted(malloc(size));
+}
+
+void *counted_realloc(void *at, size_t size) {
+    return is_refused() ? NULL : realloc(at, size);
+}
+
+void counted_free(void *at) {
+    live -= at != NULL;
+    free(at);
+}
+
+static gql_handle schema, query, data, share, reply;
+
+/* Whether a call that needs these told a status that want of memory explains. */
+static bool is_right(uint32_t status, uint32_t usual, bool has_all) {
+    return status == GQL_NO_MEMORY || status == (has_all ? usual : GQL_WRONG_HANDLE);
+}
+
+/* One request. */
+static void request(void) {
+    uint32_t kind = 7, statuses[8];
+    statuses[0] = gql_schema_new(TEXT(BOOKS), &schema, &reply);
+    CHECK(is_right(statuses[0], GQL_ANSWERED, true) && is_empty(&reply) && is_empty(&schema) == (statuses[0] != 0));
+    statuses[1] = gql_query_new(&schema, TEXT(BOOK_QUERY), &query, &reply);
+    CHECK(is_right(statuses[1], GQL_ANSWERED, !is_empty(&schema)) && is_empty(&query) == (statuses[1] != 0));
+    statuses[2] = gql_data_new(TEXT(BOOK_DATA), &data);
+    CHECK(is_right(statuses[2], GQL_ANSWERED, true) && is_empty(&data) == (statuses[2] != 0));
+    statuses[3] = gql_execute(&query, &data, NOTHING, TEXT(BOOK_TITLE), GQL_INTROSPECTION, &reply);
+    CHECK(is_right(statuses[3], GQL_ANSWERED, !is_empty(&query) && !is_empty(&data)));
+    CHECK(statuses[3] == GQL_ANSWERED ? says(&reply, BOOK_ANSWER) : is_empty(&reply));
+    statuses[4] = gql_execute(&query, &data, NOTHING, TEXT("{\"title\":null}"), 0, &reply);
+    CHECK(is_right(statuses[4], GQL_REFUSED, !is_empty(&query) && !is_empty(&data)));
+    CHECK(statuses[4] == GQL_REFUSED ? gql_reply_length(&reply) > 0 : is_empty(&reply));
+    statuses[5] = gql_share(&query, &share);
+    CHECK(is_right(statuses[5], GQL_ANSWERED, !is_empty(&query)) && is_empty(&share) == (statuses[5] != 0));
+    statuses[6] = gql_operation_kind(&query, TEXT("X"), GQL_NAMED, &kind);
+    CHECK(is_right(statuses[6], GQL_REFUSED, !is_empty(&query)) && kind == GQL_NO_OPERATION);
+    statuses[7] = gql_check(TEXT(BOOKS), TEXT("{ nope }"), &reply);
+    CHECK(is_right(statuses[7], GQL_REFUSED, true) && is_empty(&reply) == (statuses[7] != GQL_REFUSED));
+    left = -1;
+    gql_free(&schema);
+    gql_free(&query);
+    gql_free(&data);
+    gql_free(&share);
+    gql_free(&reply);
+}
+
+/* How many allocations were refused, until a request took fewer. */
+static long refuse_each(void) {
+    long point = 0;
+    do {
+        point++;
+        is_hit = false;
+        left = point;
+        request();
+        if (live != 0) {
+            printf("%ld blocks are left where allocation %ld is refused\n", live, point);
+            exit(1);
+        }
+    } while (is_hit);
+    return point - 1;
+}
+
+int main(void) {
+    long alone = refuse_each();
+    all_after = true;
+    long with_rest = refuse_each();
+    CHECK(alone > 100 && with_rest > 100);
+    printf("refused_memory: ok, %ld allocations refused alone, %ld with all after them\n", alone, with_rest);
+    return 0;
+}

@@ -1,0 +1,3 @@
+module sunwaket
+
+go 1.19

@@ -1,0 +1,136 @@
+'use strict';
+// GraphQL requests answered by a proved engine. `index.d.ts` says what each call gives, with an example.
+
+const library = require('./sunwaket.node');
+
+const NAMED = 1;
+const INTROSPECTION = 2;
+const KINDS = [null, 'query', 'mutation', 'subscription'];
+const NOTHING = Buffer.alloc(0);
+
+const number = library.version();
+const VERSION = `${number >> 16}.${(number >> 8) & 255}.${number & 255}`;
+
+class Refused extends Error {
+  constructor(reply) {
+    super(JSON.parse(reply.toString()).errors.map((error) => error.message).join('; '));
+    this.name = this.constructor.name;
+    this.json = reply;
+  }
+
+  get errors() {
+    return JSON.parse(this.json.toString()).errors;
+  }
+}
+
+class SchemaRefused extends Refused {}
+class QueryRefused extends Refused {}
+class RequestRefused extends Refused {}
+
+// An error of the library as users are told it.
+function toldBy(error, Kind, unread) {
+  switch (error.code) {
+    case 'GQL_REFUSED':
+      return new Kind(error.reply);
+    case 'GQL_UNREAD':
+      return new TypeError(unread);
+    case 'GQL_WRONG_HANDLE':
+      return new TypeError('the value is closed, or of another kind');
+    case 'GQL_NO_MEMORY':
+      return new RangeError('memory ran out');
+    default:
+      return error;
+  }
+}
+
+function attempt(call, Kind, unread) {
+  try {
+    return call();
+  } catch (error) {
+    throw toldBy(error, Kind, unread);
+  }
+}
+
+const bytesOf = (text) => (Buffer.isBuffer(text) ? text : Buffer.from(text));
+
+// The JSON of an object; a text or a buffer is taken as it is.
+const jsonOf = (value) => bytesOf(typeof value === 'string' || Buffer.isBuffer(value) ? value : JSON.stringify(value));
+
+// What is given to a constructor with a value of the library that is made already.
+const MADE = Symbol('made');
+
+class Value {
+  constructor(held) {
+    Object.defineProperty(this, 'held', { value: held });
+  }
+
+  share() {
+    return new this.constructor(attempt(() => library.share(this.held)), MADE);
+  }
+
+  close() {
+    library.close(this.held);
+  }
+}
+
+class Data extends Value {
+  constructor(value, made) {
+    super(made === MADE ? value : attempt(() => library.newData(jsonOf(value)), Refused, 'the data are no JSON object of whole numbers'));
+  }
+}
+
+class Schema extends Value {
+  constructor(text, made) {
+    super(made === MADE ? text : attempt(() => library.newSchema(bytesOf(text)), SchemaRefused, 'the schema is no UTF-8'));
+  }
+
+  query(text) {
+    return new Query(attempt(() => library.newQuery(this.held, bytesOf(text)), QueryRefused, 'the query is no UTF-8'), MADE);
+  }
+}
+
+// The five arguments of an execution.
+function asked(query, data, options) {
+  const { operationName, variables, introspection } = options;
+  return [
+    query.held,
+    (data instanceof Data ? data : new Data(data)).held,
+    operationName == null ? NOTHING : Buffer.from(operationName),
+    variables == null ? NOTHING : jsonOf(variables),
+    (operationName == null ? 0 : NAMED) | (introspection ? INTROSPECTION : 0),
+  ];
+}
+
+class Query extends Value {
+  constructor(held, made) {
+    if (made !== MADE) throw new TypeError('a query is made by Schema.query');
+    super(held);
+  }
+
+  executeSync(data = {}, options = {}) {
+    return attempt(() => library.execute(...asked(this, data, options)), RequestRefused, 'the name of the operation is no UTF-8');
+  }
+
+  async execute(data = {}, options = {}) {
+    try {
+      return await library.executeAsync(...asked(this, data, options));
+    } catch (error) {
+      throw toldBy(error, RequestRefused, 'the name of the operation is no UTF-8');
+    }
+  }
+
+  kind(operationName) {
+    const name = operationName == null ? NOTHING : Buffer.from(operationName);
+    return KINDS[attempt(() => library.operationKind(this.held, name, operationName == null ? 0 : NAMED))];
+  }
+}
+
+async function answer(schema, query, data, options) {
+  return new Schema(schema).query(query).execute(data, options);
+}
+
+function check(schema, query) {
+  return attempt(() => library.check(bytesOf(schema), bytesOf(query)), Refused, 'a text is no UTF-8').toString();
+}
+
+module.exports = { VERSION, Data, Query, QueryRefused, Refused, RequestRefused, Schema, SchemaRefused, answer, check };

@@ -1,0 +1,11 @@
+pub mod Checks
+pub mod Data
+pub mod Executions
+pub mod Handles
+pub mod Kinds
+pub mod Outcomes
+pub mod Queries
+pub mod Replies
+pub mod Requests
+pub mod Schemas
+pub mod Shares

@@ -1,0 +1,47 @@
+-- What comes of the text of a query against a schema: sections 2 and 5 of GraphQL October 2021.
+use Rattle.std.specs.Prelude.{◌≡◌, ℕ, List, ¬◌, Option, Some, None, arc_value, box_value}
+use Rattle.std.specs.Str.{IsUtf8}
+use Rattle.gql_document_types.specs.declared.document.ExecutableDocument.{ExecutableDocument}
+use Rattle.gql_schema_types.specs.declared.schema.Schema.{Schema as SchemaOf}
+use Rattle.gql_engine.specs.AtHand.{TwoTexts}
+use Rattle.gql_engine.specs.Meant.{AreMeant, IsNoDocument}
+use Rattle.gql_engine.specs.Service.{IsOfTexts}
+use Rattle.gql_c.specs.Replies.{HoldsReply}
+use Rattle.gql_c.specs.Schemas.{AreTold}
+use Rattle.gql_c.specs.declared.held.Held.{Held}
+use Rattle.gql_c.specs.declared.held.Held.TheVariants.{Schema, Query, Data, Reply}
+use Rattle.gql_c.specs.declared.outcome.Outcome.{Outcome}
+use Rattle.gql_c.specs.declared.outcome.Outcome.TheVariants.{Answered, Refused, NoMemory, WrongHandle, Unread}
+
+-- the texts of a schema and of a query mean it
+pub record IsTextsDocument (texts : TwoTexts) (document : ExecutableDocument) : Type 0 where
+  pub schema : SchemaOf
+  pub are : AreMeant texts.schema texts.query schema document
+
+-- it is the query that the text means against the schema of the other text
+abbrev pub HoldsQuery : (schema text : List ℕ) → Held → Type 0
+HoldsQuery schema text (Schema service) = ⊥
+HoldsQuery schema text (Query query) = IsOfTexts schema text (arc_value query)
+HoldsQuery schema text (Data data) = ⊥
+HoldsQuery schema text (Reply bytes) = ⊥
+
+-- of a text against the schema of this text: the query that it means, or what is wrong with it
+abbrev pub ReadsQueryText : (schema text : List ℕ) → Outcome → Type 0
+ReadsQueryText schema text (Answered held) = HoldsQuery schema text (box_value held)
+ReadsQueryText schema text (Refused held) = HoldsReply (AreTold (IsNoDocument schema text)) (box_value held)
+ReadsQueryText schema text NoMemory = Unit {0}
+ReadsQueryText schema text WrongHandle = ⊥
+ReadsQueryText schema text Unread = ⊥
+
+-- of bytes, which may be no text
+pub data ReadsQueryBytes (schema bytes : List ℕ) : Outcome → Type 0 where
+  text : (outcome : Outcome) → IsUtf8 bytes → ReadsQueryText schema bytes outcome → ReadsQueryBytes schema bytes outcome
+  no_text : ¬ (IsUtf8 bytes) → ReadsQueryBytes schema bytes Unread
+
+-- against what a handle holds, which may be no schema
+abbrev pub ReadsQuery : Option Held → List ℕ → Outcome → Type 0
+ReadsQuery None bytes outcome = outcome ≡ WrongHandle
+ReadsQuery (Some (Schema service)) bytes outcome = ReadsQueryBytes (arc_value service) bytes outcome
+ReadsQuery (Some (Query query)) bytes outcome = outcome ≡ WrongHandle
+ReadsQuery (Some (Data data)) bytes outcome = outcome ≡ WrongHandle
+ReadsQuery (Some (Reply reply)) bytes outcome = outcome ≡ WrongHandle

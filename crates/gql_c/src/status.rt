@@ -1,0 +1,16 @@
+//! What a call tells. The first three have the numbers of the program's exit statuses that mean the same.
+
+/// The call did what it says.
+pub const ANSWERED: u32 = 0;
+
+/// The text or the request is refused: the reply tells why.
+pub const REFUSED: u32 = 1;
+
+/// Memory ran out.
+pub const NO_MEMORY: u32 = 3;
+
+/// A handle holds nothing, or another kind of value than the call takes.
+pub const WRONG_HANDLE: u32 = 8;
+
+/// Bytes are no UTF-8, or, as data, no JSON text of an object.
+pub const UNREAD: u32 = 9;
