@@ -1,5 +1,7 @@
 -- What comes of a call, and how it is told: by a status, and by what two handles hold afterwards.
 use Rattle.std.specs.Prelude.{◌≡◌, ℕ, List, Option, Some, None, Result, Ok, Err, box_value}
+use Rattle.gql_engine.specs.Told.{IsToldOf}
+use Rattle.gql_engine.specs.declared.answer_error.AnswerError.{AnswerError}
 use Rattle.gql_c.specs.Replies.{HoldsReply}
 use Rattle.gql_c.specs.declared.held.Held.{Held}
 use Rattle.gql_c.specs.declared.outcome.Outcome.{Outcome}
@@ -48,3 +50,11 @@ IsRefusedWith (Ok text) (Refused made) = HoldsReply (λ bytes. bytes ≡ text) (
 IsRefusedWith (Ok text) NoMemory = Unit {0}
 IsRefusedWith (Ok text) outcome = ⊥
 IsRefusedWith (Err error) outcome = outcome ≡ NoMemory
+
+-- the JSON of a refusal, unless memory ran out
+abbrev pub IsRefusal : AnswerError → Outcome → Type 0
+IsRefusal refusal (Answered made) = ⊥
+IsRefusal refusal (Refused made) = HoldsReply (IsToldOf refusal) (box_value made)
+IsRefusal refusal NoMemory = Unit {0}
+IsRefusal refusal WrongHandle = ⊥
+IsRefusal refusal Unread = ⊥

@@ -1,13 +1,16 @@
 -- What comes of the text of a query against a schema: sections 2 and 5 of GraphQL October 2021.
-use Rattle.std.specs.Prelude.{◌≡◌, ℕ, List, ¬◌, Option, Some, None, arc_value, box_value}
+use Rattle.std.specs.Prelude.{◌≡◌, ℕ, List, Err, ¬◌, Option, Some, None, arc_value, box_value}
 use Rattle.std.specs.Str.{IsUtf8}
+use Rattle.jb_text.specs.declared.refused.Refused.TheVariants.{Fault}
 use Rattle.gql_document_types.specs.declared.document.ExecutableDocument.{ExecutableDocument}
 use Rattle.gql_schema_types.specs.declared.schema.Schema.{Schema as SchemaOf}
 use Rattle.gql_engine.specs.AtHand.{TwoTexts}
-use Rattle.gql_engine.specs.Meant.{AreMeant, IsNoDocument}
-use Rattle.gql_engine.specs.Service.{IsOfTexts}
+use Rattle.gql_engine.specs.Meant.{AreMeant}
+use Rattle.gql_engine.specs.Service.{IsOfTexts, IsPreparationOf}
+use Rattle.gql_engine.specs.declared.answer_error.AnswerError.{AnswerError}
+use Rattle.gql_engine.specs.declared.answer_error.AnswerError.TheVariants as error
 use Rattle.gql_c.specs.Replies.{HoldsReply}
-use Rattle.gql_c.specs.Schemas.{AreTold}
+use Rattle.gql_c.specs.Schemas.{TellsRefusal}
 use Rattle.gql_c.specs.declared.held.Held.{Held}
 use Rattle.gql_c.specs.declared.held.Held.TheVariants.{Schema, Query, Data, Reply}
 use Rattle.gql_c.specs.declared.outcome.Outcome.{Outcome}
@@ -17,6 +20,14 @@ use Rattle.gql_c.specs.declared.outcome.Outcome.TheVariants.{Answered, Refused, 
 pub record IsTextsDocument (texts : TwoTexts) (document : ExecutableDocument) : Type 0 where
   pub schema : SchemaOf
   pub are : AreMeant texts.schema texts.query schema document
+
+-- what is wrong with the text of a query against the schema of the other text
+abbrev pub IsNoQuery : (schema text : List ℕ) → AnswerError → Type 0
+IsNoQuery schema text (error.Variables fault) = ⊥
+IsNoQuery schema text (error.Schema list) = ⊥
+IsNoQuery schema text (error.Document list) = IsPreparationOf schema text (Err (Fault list))
+IsNoQuery schema text (error.Request step told) = ⊥
+IsNoQuery schema text error.Memory = ⊥
 
 -- it is the query that the text means against the schema of the other text
 abbrev pub HoldsQuery : (schema text : List ℕ) → Held → Type 0
@@ -28,7 +39,7 @@ HoldsQuery schema text (Reply bytes) = ⊥
 -- of a text against the schema of this text: the query that it means, or what is wrong with it
 abbrev pub ReadsQueryText : (schema text : List ℕ) → Outcome → Type 0
 ReadsQueryText schema text (Answered held) = HoldsQuery schema text (box_value held)
-ReadsQueryText schema text (Refused held) = HoldsReply (AreTold (IsNoDocument schema text)) (box_value held)
+ReadsQueryText schema text (Refused held) = HoldsReply (TellsRefusal (IsNoQuery schema text)) (box_value held)
 ReadsQueryText schema text NoMemory = Unit {0}
 ReadsQueryText schema text WrongHandle = ⊥
 ReadsQueryText schema text Unread = ⊥

@@ -1,22 +1,30 @@
 -- What comes of the text of a schema: sections 2 and 3 of GraphQL October 2021.
-use Rattle.std.specs.Prelude.{◌≡◌, ℕ, List, ¬◌, arc_value, box_value}
+use Rattle.std.specs.Prelude.{◌≡◌, ℕ, List, Err, ¬◌, arc_value, box_value}
 use Rattle.std.specs.Str.{IsUtf8}
-use Rattle.jb_print.specs.Compact.{compact}
-use Rattle.gql_diag.specs.List.{Diagnostics}
-use Rattle.gql_diag.specs.Refusal.{errors_of, refusal_value}
-use Rattle.gql_parser.specs.SchemaFaults.{SchemaFaults}
-use Rattle.gql_engine.specs.Service.{IsOfText}
+use Rattle.jb_text.specs.declared.refused.Refused.TheVariants.{Fault}
+use Rattle.gql_engine.specs.Service.{IsOfText, IsServiceOf}
+use Rattle.gql_engine.specs.Told.{IsToldOf}
+use Rattle.gql_engine.specs.declared.answer_error.AnswerError.{AnswerError}
+use Rattle.gql_engine.specs.declared.answer_error.AnswerError.TheVariants as error
 use Rattle.gql_c.specs.Replies.{HoldsReply}
 use Rattle.gql_c.specs.declared.held.Held.{Held}
 use Rattle.gql_c.specs.declared.held.Held.TheVariants.{Schema, Query, Data, Reply}
 use Rattle.gql_c.specs.declared.outcome.Outcome.{Outcome}
 use Rattle.gql_c.specs.declared.outcome.Outcome.TheVariants.{Answered, Refused, NoMemory, WrongHandle, Unread}
 
--- the bytes are the JSON of a list of diagnostics of which this holds: an object with an error for each
-pub record AreTold (Holds : Diagnostics → Type 0) (bytes : List ℕ) : Type 0 where
-  pub list : Diagnostics
-  pub holds : Holds list
-  pub written : bytes ≡ compact (refusal_value (errors_of list))
+-- the bytes are the JSON of a refusal that has this cause
+pub record TellsRefusal (Cause : AnswerError → Type 0) (bytes : List ℕ) : Type 0 where
+  pub refusal : AnswerError
+  pub cause : Cause refusal
+  pub told : IsToldOf refusal bytes
+
+-- what is wrong with the text of a schema
+abbrev pub IsNoSchema : List ℕ → AnswerError → Type 0
+IsNoSchema text (error.Variables fault) = ⊥
+IsNoSchema text (error.Schema list) = IsServiceOf text (Err (Fault list))
+IsNoSchema text (error.Document list) = ⊥
+IsNoSchema text (error.Request step told) = ⊥
+IsNoSchema text error.Memory = ⊥
 
 -- it is the schema that the text means
 abbrev pub HoldsSchema : List ℕ → Held → Type 0
@@ -28,7 +36,7 @@ HoldsSchema text (Reply bytes) = ⊥
 -- of a text: the schema that it means, or what is wrong with it
 abbrev pub ReadsSchemaText : List ℕ → Outcome → Type 0
 ReadsSchemaText text (Answered held) = HoldsSchema text (box_value held)
-ReadsSchemaText text (Refused held) = HoldsReply (AreTold (SchemaFaults text)) (box_value held)
+ReadsSchemaText text (Refused held) = HoldsReply (TellsRefusal (IsNoSchema text)) (box_value held)
 ReadsSchemaText text NoMemory = Unit {0}
 ReadsSchemaText text WrongHandle = ⊥
 ReadsSchemaText text Unread = ⊥

@@ -7,7 +7,7 @@ ghost use Rattle.gql_c.specs.Outcomes.{Tells};
 
 use crate::handle::Handle;
 use crate::held::Held;
-use crate::outcome::Outcome;
+use crate::outcome::{Outcome, refuse};
 use crate::query::Query;
 use crate::request::{Request, has_introspection, operation_name, variables_text};
 use crate::store::{put_back, take_from};
@@ -114,6 +114,6 @@ fn reply_with(alloc: Global, answer: Result<Bytes, AnswerError>) -> Outcome
 {
     match answer {
         Ok(response) => Outcome::answered(alloc, Held::Reply(response)),
-        Err(refusal) => Outcome::refused(alloc, refusal.into_bytes(alloc)),
+        Err(refusal) => refuse(alloc, refusal),
     }
 }

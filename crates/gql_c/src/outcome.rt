@@ -1,11 +1,11 @@
 //! What comes of a call, before it is put into handles.
 
 ghost use Rattle.std.specs.Prelude.{Ok};
-ghost use Rattle.gql_c.specs.Outcomes.{IsAnswered, IsRefusedWith};
+ghost use Rattle.gql_c.specs.Outcomes.{IsAnswered, IsRefusal, IsRefusedWith};
 
 use crate::held::Held;
 use bytes::Bytes;
-use gql_engine::Memory;
+use gql_engine::{AnswerError, Memory};
 use std::alloc::Global;
 
 /// What comes of a call that makes a value.
@@ -52,4 +52,11 @@ impl Outcome {
             Err(_) => Outcome::NoMemory,
         }
     }
+}
+
+/// The refusal as JSON, for a client.
+pub(crate) fn refuse(alloc: Global, refusal: AnswerError) -> Outcome
+    ensures { IsRefusal refusal result }
+{
+    Outcome::refused(alloc, refusal.into_bytes(alloc))
 }

@@ -6,11 +6,11 @@ ghost use Rattle.gql_c.specs.Queries.{ReadsQuery, ReadsQueryBytes, ReadsQueryTex
 
 use crate::handle::Handle;
 use crate::held::Held;
-use crate::outcome::Outcome;
+use crate::outcome::{Outcome, refuse};
 use crate::query::Query;
 use crate::store::{put_back, take_from};
 use crate::told::tell_made;
-use gql_engine::{Refused, Service, refusal_of_diagnostics};
+use gql_engine::{AnswerError, Refused, Service};
 use std::alloc::Global;
 use std::sync::Arc;
 
@@ -70,7 +70,7 @@ fn query_of_text(alloc: Global, service: &Arc<Service>, text: &str) -> Outcome
             Ok(query) => Outcome::answered(alloc, Held::Query(query)),
             Err(_) => Outcome::NoMemory,
         },
-        Err(Refused::Fault(list)) => Outcome::refused(alloc, refusal_of_diagnostics(alloc, list)),
+        Err(Refused::Fault(list)) => refuse(alloc, AnswerError::Document(list)),
         Err(Refused::Memory) => Outcome::NoMemory,
     }
 }

@@ -17,6 +17,7 @@ pub(crate) struct Request<'r> {
 }
 
 /// That a name is no text.
+#[derive(Drop)]
 pub(crate) struct NoText;
 
 /// The name of the operation, where it counts. `Err` exactly where it counts and is no UTF-8.

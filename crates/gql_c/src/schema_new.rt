@@ -5,9 +5,9 @@ ghost use Rattle.gql_c.specs.Schemas.{ReadsSchema, ReadsSchemaText};
 
 use crate::handle::Handle;
 use crate::held::Held;
-use crate::outcome::Outcome;
+use crate::outcome::{Outcome, refuse};
 use crate::told::tell_made;
-use gql_engine::{Refused, Service, refusal_of_diagnostics};
+use gql_engine::{AnswerError, Refused, Service};
 use std::alloc::Global;
 use std::sync::Arc;
 
@@ -49,7 +49,7 @@ fn schema_of_text(alloc: Global, text: &str) -> Outcome
             Ok(service) => Outcome::answered(alloc, Held::Schema(service)),
             Err(_) => Outcome::NoMemory,
         },
-        Err(Refused::Fault(list)) => Outcome::refused(alloc, refusal_of_diagnostics(alloc, list)),
+        Err(Refused::Fault(list)) => refuse(alloc, AnswerError::Schema(list)),
         Err(Refused::Memory) => Outcome::NoMemory,
     }
 }

@@ -1,0 +1,246 @@
+#!/usr/bin/env python3
+"""Builds the C library and the bindings from what the gate has left, and runs their tests: bindings/build, then
+
+- the calls in C, plain, under valgrind, and with AddressSanitizer; with each allocation refused in turn, alone and with all after it;
+  one schema in eight threads; the example;
+- the package for Python: its tests, from its folder and from the wheel;
+- the package for Node, and the one for Go;
+- the worked requests of checks/tables/ and examples/ through C and through Python, whose bytes are those of the program.
+
+It says what it skips: all, where no gate has left the libraries; a language or a tool that is not here."""
+import importlib.util
+import json
+import os
+import pathlib
+import shutil
+import subprocess
+import sys
+import tempfile
+
+from shared.trying import ROOT
+
+BINDINGS = ROOT / "bindings"
+LACKING = 3
+PATIENCE = 600
+CC = os.environ.get("CC", "cc")
+STRICT = ["-std=c11", "-O1", "-g", "-Wall", "-Wextra", "-Werror"]
+VALGRIND = ["valgrind", "--quiet", "--error-exitcode=9", "--leak-check=full", "--show-leak-kinds=all", "--errors-for-leak-kinds=all"]
+
+passed, failed = [], []
+
+
+def try_command(name, words, **how):
+    """Runs a command, which passes where its status is 0; what one that fails says is shown."""
+    run = subprocess.run([str(word) for word in words], capture_output=True, timeout=PATIENCE, check=False, **how)
+    if run.returncode == 0:
+        passed.append(name)
+    else:
+        failed.append(name)
+        print(f"bindings: {name}: status {run.returncode}\n{(run.stdout + run.stderr).decode(errors='replace')[-3000:]}")
+    return run
+
+
+def skip(what, why):
+    print(f"bindings: skipped {what}: {why}")
+
+
+# ---- C
+
+
+def compile_c(folder, name, sources, *words):
+    """A program over the library."""
+    lib = BINDINGS / "out" / "lib"
+    to = folder / name
+    sources = [BINDINGS / "c" / source for source in sources]
+    made = try_command(f"cc {name}", [CC, *STRICT, *words, *sources, lib / "libgql_c.a", "-lpthread", "-o", to])
+    return to if made.returncode == 0 else None
+
+
+def run_c(folder):
+    """The tests in C, each plain, under valgrind and with AddressSanitizer."""
+    programs = {
+        "calls": ["tests/calls.c", "heap.c"],
+        "refused_memory": ["tests/refused_memory.c", "tests/counted_heap.c"],
+        "threads": ["tests/threads.c", "heap.c"],
+    }
+    has_valgrind = shutil.which("valgrind") is not None
+    if not has_valgrind:
+        skip("the tests in C under valgrind", "it is not here")
+    for name, sources in programs.items():
+        program = compile_c(folder, name, sources)
+        if program is not None:
+            print(try_command(name, [program]).stdout.decode(), end="")
+            if has_valgrind:
+                try_command(f"{name} under valgrind", [*VALGRIND, program])
+        watched = compile_c(folder, f"{name}_asan", sources, "-fsanitize=address")
+        if watched is not None:
+            try_command(f"{name} with AddressSanitizer", [watched])
+
+
+def run_example(folder):
+    """The example over the shared library, by its file for pkg-config if that command is here."""
+    out = BINDINGS / "out"
+    words = ["-I", out / "include", "-L", out / "lib", "-lgql"]
+    if shutil.which("pkg-config") is None:
+        skip("the file for pkg-config", "that command is not here")
+    else:
+        asked = subprocess.run(
+            ["pkg-config", "--cflags", "--libs", "gql"],
+            capture_output=True,
+            text=True,
+            check=False,
+            env=os.environ | {"PKG_CONFIG_PATH": str(out / "lib" / "pkgconfig")},
+        )
+        words = asked.stdout.split()
+    made = try_command("cc example", [CC, *STRICT, BINDINGS / "c" / "example.c", *words, "-o", folder / "example"])
+    if made.returncode == 0:
+        run = try_command("example", [folder / "example"], env=os.environ | {"LD_LIBRARY_PATH": str(out / "lib")})
+        expect("the answer of the example", run.stdout == b'{"data":{"book":{"title":"Emma","year":1815}}}\n')
+
+
+def expect(name, holds):
+    (passed if holds else failed).append(name)
+    if not holds:
+        print(f"bindings: {name} is another")
+
+
+# ---- Python, Node, Go
+
+
+def run_python(folder):
+    """The tests of the package, from its folder and from the wheel."""
+    python = BINDINGS / "python"
+    quiet = os.environ | {"PYTHONDONTWRITEBYTECODE": "1"}
+    try_command("Python", [sys.executable, "-m", "unittest", "-q", "tests.test_sunwaket"], cwd=python, env=quiet)
+    wheels = sorted((BINDINGS / "out").glob("*.whl"))
+    expect("one wheel", len(wheels) == 1)
+    site = folder / "site"
+    installed = [sys.executable, "-m", "pip", "install", "--quiet", "--no-index", "--target", site, *wheels]
+    if importlib.util.find_spec("pip") is None:
+        skip("the wheel", "pip is not here")
+    elif try_command("pip install the wheel", installed).returncode == 0:
+        shutil.copytree(python / "tests", folder / "tests")
+        alone = quiet | {"PYTHONPATH": str(site)}
+        try_command("Python, from the wheel", [sys.executable, "-m", "unittest", "-q", "tests.test_sunwaket"], cwd=folder, env=alone)
+
+
+def run_node():
+    node = BINDINGS / "node"
+    if not (node / "sunwaket.node").is_file():
+        skip("the package for Node", "Node is not here with its headers")
+        return
+    try_command("Node", ["node", "--test", "tests/sunwaket.test.js"], cwd=node)
+
+
+def run_go():
+    if shutil.which("go") is None:
+        skip("the package for Go", "Go is not here")
+        return
+    out = BINDINGS / "out"
+    told = {
+        "CGO_CFLAGS": f"-I{out / 'include'}",
+        "CGO_LDFLAGS": str(out / "lib" / "libgql.a"),
+        "GOFLAGS": "-mod=mod",
+        "GOPROXY": "off",
+    }
+    try_command("Go", ["go", "test", "-count=1", "./..."], cwd=BINDINGS / "go", env=os.environ | told)
+
+
+# ---- the worked requests
+
+
+def worked_requests():
+    """A name, a word, a request and what the program writes, for each row of checks/tables/ and each file of examples/."""
+    import tables
+
+    for table in sorted(tables.FOLDER.glob("*.json")):
+        for name, request, _, output in tables.rows_of(table):
+            yield name, "answer", request, output.encode("utf-8")
+    for word in ("answer", "check"):
+        for path in sorted((ROOT / "examples").glob(f"*.{word}")):
+            request = json.loads(path.with_suffix(".json").read_text(encoding="utf-8"))
+            yield f"examples: {path.name}", word, request, path.read_bytes()
+
+
+def compact(value):
+    return json.dumps(value, ensure_ascii=False, separators=(",", ":"))
+
+
+def parts_of(word, request):
+    """A request in the parts that tests/cases.c reads."""
+    name = request.get("operationName")
+    return [
+        word,
+        request["schema"],
+        request["query"],
+        compact(request.get("variables") or {}),
+        name or "",
+        "" if name is None else "named",
+        "on" if request.get("introspection") else "",
+        compact(request.get("data") or {}),
+    ]
+
+
+def framed(part):
+    text = part.encode("utf-8")
+    return b"%d\n%s" % (len(text), text)
+
+
+def outputs_of(text):
+    """What tests/cases.c wrote for each request."""
+    outputs = []
+    while text:
+        head, _, rest = text.partition(b"\n")
+        length = int(head.split()[1])
+        outputs.append(rest[:length])
+        text = rest[length:]
+    return outputs
+
+
+def compare(language, rows, outputs):
+    wrong = [row[0] for row, output in zip(rows, outputs) if row[3] != output]
+    expect(f"the worked requests through {language}", not wrong and len(outputs) == len(rows))
+    print(f"bindings: {len(rows) - len(wrong)} of {len(rows)} worked requests through {language} have the program's bytes")
+    for name in wrong[:5]:
+        print(f"  {name}")
+
+
+def run_worked(folder):
+    rows = list(worked_requests())
+    program = compile_c(folder, "cases", ["tests/cases.c", "heap.c"])
+    if program is not None:
+        text = b"".join(framed(part) for _, word, request, _ in rows for part in parts_of(word, request))
+        run = try_command("cases", [program], input=text)
+        compare("C", rows, outputs_of(run.stdout) if run.returncode == 0 else [])
+    sys.path.insert(0, str(BINDINGS / "python" / "tests"))
+    import program as in_python
+
+    outputs = [in_python.run([word], compact(request).encode("utf-8"))[1] for _, word, request, _ in rows]
+    compare("Python", rows, outputs)
+
+
+def main():
+    sys.dont_write_bytecode = True
+    built = subprocess.run([sys.executable, BINDINGS / "build"], capture_output=True, text=True, check=False)
+    print(built.stdout, end="")
+    if built.returncode == LACKING:
+        skip("all", "there is nothing to build the library from")
+        return 0
+    if built.returncode:
+        print(built.stderr[-3000:])
+        print("bindings: bindings/build failed")
+        return 1
+    with tempfile.TemporaryDirectory() as room:
+        folder = pathlib.Path(room)
+        run_c(folder)
+        run_example(folder)
+        run_python(folder)
+        run_node()
+        run_go()
+        run_worked(folder)
+    print(f"bindings: {len(passed)} passed, {len(failed)} failed")
+    return 1 if failed or not passed else 0
+
+
+if __name__ == "__main__":
+    sys.exit(main())
