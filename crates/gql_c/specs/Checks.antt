@@ -1,5 +1,5 @@
 -- What is wrong with texts, for people: sections 2, 3 and 5 of GraphQL October 2021.
-use Rattle.std.specs.Prelude.{◌≡◌, ◌⊎◌, ℕ, List, [], ¬◌, box_value}
+use Rattle.std.specs.Prelude.{◌≡◌, ◌⊎◌, ℕ, List, [], box_value}
 use Rattle.std.specs.Str.{IsUtf8}
 use Rattle.gql_engine.specs.Meant.{Meant}
 use Rattle.gql_engine.specs.Reports.{reports_of}

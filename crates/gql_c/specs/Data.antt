@@ -1,5 +1,6 @@
 -- What comes of the text of data (RFC 8259).
-use Rattle.std.specs.Prelude.{◌≡◌, ℕ, List, Some, None, arc_value, box_value}
+use Rattle.std.specs.Prelude.{◌≡◌, ℕ, List, Some, None, box_value}
+use Rattle.std.specs.Arc.{arc_value}
 use Rattle.jb_read.specs.Faults.{JsonFault}
 use Rattle.jb_read.specs.declared.fault.ReadFault.{ReadFault}
 use Rattle.jb_tree.specs.declared.value.Value.{Value}
@@ -15,7 +16,7 @@ use Rattle.gql_c.specs.declared.outcome.Outcome.TheVariants.{Answered, Refused, 
 abbrev pub HoldsData : (Members → Type 0) → Held → Type 0
 HoldsData Holds (Schema service) = ⊥
 HoldsData Holds (Query query) = ⊥
-HoldsData Holds (Data data) = Holds (arc_value data)
+HoldsData Holds (Data members) = Holds (arc_value members)
 HoldsData Holds (Reply bytes) = ⊥
 
 -- the bytes are no JSON text, or one of another value than an object

@@ -1,5 +1,6 @@
 -- What comes of a request: sections 6 and 7 of GraphQL October 2021.
-use Rattle.std.specs.Prelude.{◌≡◌, ℕ, Bool, List, [], Option, Some, None, Result, Ok, Err, arc_value, box_value}
+use Rattle.std.specs.Prelude.{◌≡◌, ℕ, Bool, List, [], Option, Some, None, Result, Ok, Err, box_value}
+use Rattle.std.specs.Arc.{arc_value}
 use Rattle.gql_resolvers.specs.Data.{Data as DataOf}
 use Rattle.gql_resolvers.specs.DataMeaning.{data_meaning}
 use Rattle.gql_engine.specs.AnswerError.{Call}
@@ -40,22 +41,22 @@ call_to texts name variables introspection = record {
 
 -- what a call for an answer gives, over plain data
 abbrev pub GivesOver : Members → Call → Result (List ℕ) AnswerError → Type 0
-GivesOver data call result = GivesAnswer (λ (object : DataOf). object.type_name) data_meaning (root_of data) call result
+GivesOver root call result = GivesAnswer (λ (object : DataOf). object.type_name) data_meaning (root_of root) call result
 
 -- what the texts of a schema and of a query are answered with, over these data
-pub record Executes (texts : TwoTexts) (data : Members) (name : Option (List ℕ)) (variables : List ℕ) (flags : ℕ) (outcome : Outcome) : Type 0 where
+pub record Executes (texts : TwoTexts) (root : Members) (name : Option (List ℕ)) (variables : List ℕ) (flags : ℕ) (outcome : Outcome) : Type 0 where
   pub result : Result (List ℕ) AnswerError
-  pub gives : GivesOver data (call_to texts name (variables_given variables) (is_introspected flags)) result
+  pub gives : GivesOver root (call_to texts name (variables_given variables) (is_introspected flags)) result
   pub told : IsToldAs result outcome
 
 -- the same by the name that counts, which may be no text
-pub data ExecutesNamed (texts : TwoTexts) (data : Members) (name variables : List ℕ) (flags : ℕ) : Outcome → Type 0 where
-  executed : (outcome : Outcome) → IsNameRead name flags → Executes texts data (name_given name flags) variables flags outcome
-      → ExecutesNamed texts data name variables flags outcome
-  unread : IsNoName name flags → ExecutesNamed texts data name variables flags Unread
+pub data ExecutesNamed (texts : TwoTexts) (root : Members) (name variables : List ℕ) (flags : ℕ) : Outcome → Type 0 where
+  executed : (outcome : Outcome) → IsNameRead name flags → Executes texts root (name_given name flags) variables flags outcome
+      → ExecutesNamed texts root name variables flags outcome
+  unread : IsNoName name flags → ExecutesNamed texts root name variables flags Unread
 
 -- the same of what two handles hold, which may be no query and no data
-abbrev pub ExecutesHeld : (query data : Option Held) → (name variables : List ℕ) → ℕ → Outcome → Type 0
-ExecutesHeld (Some (Query query)) (Some (Data data)) name variables flags outcome =
-    ExecutesNamed (arc_value query) (arc_value data) name variables flags outcome
-ExecutesHeld query data name variables flags outcome = outcome ≡ WrongHandle
+abbrev pub ExecutesHeld : (query root : Option Held) → (name variables : List ℕ) → ℕ → Outcome → Type 0
+ExecutesHeld (Some (Query query)) (Some (Data members)) name variables flags outcome =
+    ExecutesNamed (arc_value query) (arc_value members) name variables flags outcome
+ExecutesHeld query root name variables flags outcome = outcome ≡ WrongHandle

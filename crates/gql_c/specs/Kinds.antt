@@ -1,5 +1,6 @@
 -- Which kind of operation a request is for: sections 2.3 and 6.1 of GraphQL October 2021.
-use Rattle.std.specs.Prelude.{◌≡◌, ℕ, List, Option, Some, None, arc_value}
+use Rattle.std.specs.Prelude.{◌≡◌, ℕ, List, Option, Some, None}
+use Rattle.std.specs.Arc.{arc_value}
 use Rattle.gql_ast_base.specs.declared.operation_type.OperationType.TheVariants as type
 use Rattle.gql_document_types.specs.ChosenOperation.{chosen}
 use Rattle.gql_document_types.specs.declared.document.ExecutableDocument.{ExecutableDocument}
@@ -50,7 +51,7 @@ abbrev pub IsChoice : Option Held → List ℕ → ℕ → Choice → Type 0
 IsChoice None name flags told = told ≡ choice.WrongHandle
 IsChoice (Some (Schema service)) name flags told = told ≡ choice.WrongHandle
 IsChoice (Some (Query query)) name flags told = IsChoiceNamed (arc_value query) name flags told
-IsChoice (Some (Data data)) name flags told = told ≡ choice.WrongHandle
+IsChoice (Some (Data members)) name flags told = told ≡ choice.WrongHandle
 IsChoice (Some (Reply reply)) name flags told = told ≡ choice.WrongHandle
 
 -- a choice of which this holds is told by the status and the number of the kind

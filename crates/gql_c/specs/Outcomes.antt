@@ -44,11 +44,16 @@ IsAnswered held NoMemory = Unit {0}
 IsAnswered held WrongHandle = ⊥
 IsAnswered held Unread = ⊥
 
--- a refusal that says this, unless memory ran out
+-- a refusal with this text, unless memory ran out
+abbrev pub IsRefusedText : List ℕ → Outcome → Type 0
+IsRefusedText text (Answered made) = ⊥
+IsRefusedText text (Refused made) = HoldsReply (λ bytes. bytes ≡ text) (box_value made)
+IsRefusedText text NoMemory = Unit {0}
+IsRefusedText text WrongHandle = ⊥
+IsRefusedText text Unread = ⊥
+
 abbrev pub IsRefusedWith : {E : Type 0} → Result (List ℕ) E → Outcome → Type 0
-IsRefusedWith (Ok text) (Refused made) = HoldsReply (λ bytes. bytes ≡ text) (box_value made)
-IsRefusedWith (Ok text) NoMemory = Unit {0}
-IsRefusedWith (Ok text) outcome = ⊥
+IsRefusedWith (Ok text) outcome = IsRefusedText text outcome
 IsRefusedWith (Err error) outcome = outcome ≡ NoMemory
 
 -- the JSON of a refusal, unless memory ran out

@@ -1,5 +1,6 @@
 -- What comes of the text of a query against a schema: sections 2 and 5 of GraphQL October 2021.
-use Rattle.std.specs.Prelude.{◌≡◌, ℕ, List, Err, ¬◌, Option, Some, None, arc_value, box_value}
+use Rattle.std.specs.Prelude.{◌≡◌, ℕ, List, Err, Option, Some, None, box_value}
+use Rattle.std.specs.Arc.{arc_value}
 use Rattle.std.specs.Str.{IsUtf8}
 use Rattle.jb_text.specs.declared.refused.Refused.TheVariants.{Fault}
 use Rattle.gql_document_types.specs.declared.document.ExecutableDocument.{ExecutableDocument}
@@ -33,7 +34,7 @@ IsNoQuery schema text error.Memory = ⊥
 abbrev pub HoldsQuery : (schema text : List ℕ) → Held → Type 0
 HoldsQuery schema text (Schema service) = ⊥
 HoldsQuery schema text (Query query) = IsOfTexts schema text (arc_value query)
-HoldsQuery schema text (Data data) = ⊥
+HoldsQuery schema text (Data members) = ⊥
 HoldsQuery schema text (Reply bytes) = ⊥
 
 -- of a text against the schema of this text: the query that it means, or what is wrong with it
@@ -54,5 +55,5 @@ abbrev pub ReadsQuery : Option Held → List ℕ → Outcome → Type 0
 ReadsQuery None bytes outcome = outcome ≡ WrongHandle
 ReadsQuery (Some (Schema service)) bytes outcome = ReadsQueryBytes (arc_value service) bytes outcome
 ReadsQuery (Some (Query query)) bytes outcome = outcome ≡ WrongHandle
-ReadsQuery (Some (Data data)) bytes outcome = outcome ≡ WrongHandle
+ReadsQuery (Some (Data members)) bytes outcome = outcome ≡ WrongHandle
 ReadsQuery (Some (Reply reply)) bytes outcome = outcome ≡ WrongHandle

@@ -7,7 +7,7 @@ use Rattle.gql_c.specs.declared.held.Held.TheVariants.{Schema, Query, Data, Repl
 abbrev pub bytes_of : Held → List ℕ
 bytes_of (Schema service) = []
 bytes_of (Query query) = []
-bytes_of (Data data) = []
+bytes_of (Data members) = []
 bytes_of (Reply bytes) = bytes
 
 abbrev pub bytes_held : Option Held → List ℕ
@@ -18,5 +18,5 @@ bytes_held (Some held) = bytes_of held
 abbrev pub HoldsReply : (List ℕ → Type 0) → Held → Type 0
 HoldsReply Holds (Schema service) = ⊥
 HoldsReply Holds (Query query) = ⊥
-HoldsReply Holds (Data data) = ⊥
+HoldsReply Holds (Data members) = ⊥
 HoldsReply Holds (Reply bytes) = Holds bytes

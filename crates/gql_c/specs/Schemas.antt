@@ -1,5 +1,6 @@
 -- What comes of the text of a schema: sections 2 and 3 of GraphQL October 2021.
-use Rattle.std.specs.Prelude.{◌≡◌, ℕ, List, Err, ¬◌, arc_value, box_value}
+use Rattle.std.specs.Prelude.{◌≡◌, ℕ, List, Err, box_value}
+use Rattle.std.specs.Arc.{arc_value}
 use Rattle.std.specs.Str.{IsUtf8}
 use Rattle.jb_text.specs.declared.refused.Refused.TheVariants.{Fault}
 use Rattle.gql_engine.specs.Service.{IsOfText, IsServiceOf}
@@ -30,7 +31,7 @@ IsNoSchema text error.Memory = ⊥
 abbrev pub HoldsSchema : List ℕ → Held → Type 0
 HoldsSchema text (Schema service) = IsOfText text (arc_value service)
 HoldsSchema text (Query query) = ⊥
-HoldsSchema text (Data data) = ⊥
+HoldsSchema text (Data members) = ⊥
 HoldsSchema text (Reply bytes) = ⊥
 
 -- of a text: the schema that it means, or what is wrong with it

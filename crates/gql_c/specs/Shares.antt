@@ -1,5 +1,6 @@
 -- What comes of sharing a value.
-use Rattle.std.specs.Prelude.{◌≡◌, Option, Some, None, arc_value, box_value}
+use Rattle.std.specs.Prelude.{◌≡◌, Option, Some, None, box_value}
+use Rattle.std.specs.Arc.{arc_value}
 use Rattle.gql_c.specs.declared.held.Held.{Held}
 use Rattle.gql_c.specs.declared.held.Held.TheVariants.{Schema, Query, Data, Reply}
 use Rattle.gql_c.specs.declared.outcome.Outcome.{Outcome}
@@ -16,7 +17,7 @@ IsSame one other = ⊥
 abbrev pub IsShared : Held → Type 0
 IsShared (Schema service) = Unit {0}
 IsShared (Query query) = Unit {0}
-IsShared (Data data) = Unit {0}
+IsShared (Data members) = Unit {0}
 IsShared (Reply bytes) = ⊥
 
 -- the same value, unless memory ran out; a reply is not shared

@@ -17,11 +17,11 @@ use std::sync::Arc;
 ///
 /// [`UNREAD`](crate::UNREAD) exactly where the bytes are no such text, and [`NO_MEMORY`](crate::NO_MEMORY) only when out of memory.
 #[unsafe(no_mangle)]
-pub extern "C" fn gql_data_new(alloc: Global, text: &[u8], data: &mut Handle) -> u32
-    ensures { Tells (ReadsData text.now) result data.new.held }
+pub extern "C" fn gql_data_new(alloc: Global, text: &[u8], to: &mut Handle) -> u32
+    ensures { Tells (ReadsData text.now) result to.new.held }
 {
     let outcome = read_data(alloc, text);
-    tell(alloc, outcome, data)
+    tell(alloc, outcome, to)
 }
 
 /// The data that bytes spell.

@@ -30,15 +30,15 @@ use std::alloc::Global;
 pub extern "C" fn gql_execute(
     alloc: Global,
     query: &mut Handle,
-    data: &mut Handle,
+    root: &mut Handle,
     name: &[u8],
     variables: &[u8],
     flags: u32,
     reply: &mut Handle,
 ) -> u32
     ensures same_query { query.new.held ≡ query.old.held }
-    ensures same_data { data.new.held ≡ data.old.held }
-    ensures told { Tells (ExecutesHeld query.old.held data.old.held name.now variables.now flags) result reply.new.held }
+    ensures same_data { root.new.held ≡ root.old.held }
+    ensures told { Tells (ExecutesHeld query.old.held root.old.held name.now variables.now flags) result reply.new.held }
 {
     let request = Request {
         name,
@@ -46,10 +46,10 @@ pub extern "C" fn gql_execute(
         flags,
     };
     let held_query = take_from(alloc, query);
-    let held_data = take_from(alloc, data);
-    let outcome = execute_held(alloc, &held_query, &held_data, &request);
+    let held_root = take_from(alloc, root);
+    let outcome = execute_held(alloc, &held_query, &held_root, &request);
     put_back(alloc, held_query, query);
-    put_back(alloc, held_data, data);
+    put_back(alloc, held_root, root);
     tell(alloc, outcome, reply)
 }
 
@@ -57,33 +57,33 @@ pub extern "C" fn gql_execute(
 fn execute_held(
     alloc: Global,
     query: &Option<Box<Held>>,
-    data: &Option<Box<Held>>,
+    root: &Option<Box<Held>>,
     request: &Request<'_>,
 ) -> Outcome
-    ensures { ExecutesHeld (option_map (λ b. b.value) query.now) (option_map (λ b. b.value) data.now)
+    ensures { ExecutesHeld (option_map (λ b. b.value) query.now) (option_map (λ b. b.value) root.now)
         request.now.name.now request.now.variables.now request.now.flags result }
 {
-    match (query, data) {
-        (Some(query), Some(data)) => execute_both(alloc, query.as_ref(), data.as_ref(), request),
+    match (query, root) {
+        (Some(query), Some(root)) => execute_both(alloc, query.as_ref(), root.as_ref(), request),
         _ => Outcome::WrongHandle,
     }
 }
 
-fn execute_both(alloc: Global, query: &Held, data: &Held, request: &Request<'_>) -> Outcome
-    ensures { ExecutesHeld (Some query.now) (Some data.now) request.now.name.now request.now.variables.now request.now.flags result }
+fn execute_both(alloc: Global, query: &Held, root: &Held, request: &Request<'_>) -> Outcome
+    ensures { ExecutesHeld (Some query.now) (Some root.now) request.now.name.now request.now.variables.now request.now.flags result }
 {
-    match (query, data) {
-        (Held::Query(query), Held::Data(data)) => execute_named(alloc, query, data, request),
+    match (query, root) {
+        (Held::Query(query), Held::Data(members)) => execute_named(alloc, query, members, request),
         _ => Outcome::WrongHandle,
     }
 }
 
 /// What comes of a request to a query over data.
-fn execute_named(alloc: Global, query: &Query, data: &Map, request: &Request<'_>) -> Outcome
-    ensures { ExecutesNamed query.now data.now request.now.name.now request.now.variables.now request.now.flags result }
+fn execute_named(alloc: Global, query: &Query, members: &Map, request: &Request<'_>) -> Outcome
+    ensures { ExecutesNamed query.now members.now request.now.name.now request.now.variables.now request.now.flags result }
 {
     match operation_name(request.name, request.flags) {
-        Ok(name) => execute(alloc, query, data, name, request),
+        Ok(name) => execute(alloc, query, members, name, request),
         Err(_) => Outcome::Unread,
     }
 }
@@ -92,16 +92,16 @@ fn execute_named(alloc: Global, query: &Query, data: &Map, request: &Request<'_>
 fn execute(
     alloc: Global,
     query: &Query,
-    data: &Map,
+    members: &Map,
     name: Option<&str>,
     request: &Request<'_>,
 ) -> Outcome
-    ensures { Executes query.now data.now (text_of name.entry) request.now.variables.now request.now.flags result }
+    ensures { Executes query.now members.now (text_of name.entry) request.now.variables.now request.now.flags result }
 {
     let introspection = has_introspection(request.flags);
     match variables_text(alloc, request.variables) {
         Ok(variables) => {
-            let answer = query.answer(alloc, name, &variables, introspection, data);
+            let answer = query.answer(alloc, name, &variables, introspection, members);
             reply_with(alloc, answer)
         }
         Err(_) => Outcome::NoMemory,

@@ -1,7 +1,6 @@
 //! What comes of a call, before it is put into handles.
 
-ghost use Rattle.std.specs.Prelude.{Ok};
-ghost use Rattle.gql_c.specs.Outcomes.{IsAnswered, IsRefusal, IsRefusedWith};
+ghost use Rattle.gql_c.specs.Outcomes.{IsAnswered, IsRefusal, IsRefusedText, IsRefusedWith};
 
 use crate::held::Held;
 use bytes::Bytes;
@@ -45,7 +44,7 @@ impl Outcome {
     }
 
     fn refused_with(alloc: Global, text: Bytes) -> Outcome
-        ensures { IsRefusedWith (Ok text) result }
+        ensures { IsRefusedText text result }
     {
         match Box::new(alloc, Held::Reply(text)) {
             Ok(held) => Outcome::Refused(held),

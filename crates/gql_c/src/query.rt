@@ -1,6 +1,6 @@
 //! A query with the schema that it was checked against.
 
-ghost use Rattle.std.specs.Prelude.{arc_value};
+ghost use Rattle.std.specs.Arc.{arc_value};
 ghost use Rattle.gql_c.specs.Executions.{GivesOver, call_to};
 ghost use Rattle.gql_c.specs.Queries.{IsTextsDocument};
 ghost use Rattle.gql_document_types.specs.ChosenOperation.{text_of};
@@ -36,7 +36,7 @@ impl Drop for Query {
 }
 
 impl Model for Query {
-    ghost use Rattle.std.specs.Prelude.{arc_value};
+    ghost use Rattle.std.specs.Arc.{arc_value};
     ghost use Rattle.gql_engine.specs.AtHand.{IsDocumentOver, TwoTexts};
 
     ghost Value = { TwoTexts };
@@ -83,9 +83,9 @@ impl Query {
         operation_name: Option<&str>,
         variables: &Bytes,
         introspection: bool,
-        data: &Map,
+        members: &Map,
     ) -> Result<Bytes, AnswerError>
-        ensures { GivesOver data.now (call_to self.now (text_of operation_name.entry) variables.now introspection) result }
+        ensures { GivesOver members.now (call_to self.now (text_of operation_name.entry) variables.now introspection) result }
     {
         let question = Question {
             query: self.text.as_str(),
@@ -94,6 +94,6 @@ impl Query {
             introspection,
         };
         self.service
-            .answer_uncounted(alloc, &question, &DataObject::root(data))
+            .answer_uncounted(alloc, &question, &DataObject::root(members))
     }
 }

@@ -1,6 +1,7 @@
 //! Queries from their texts.
 
-ghost use Rattle.std.specs.Prelude.{◌≡◌, arc_value, option_map};
+ghost use Rattle.std.specs.Prelude.{◌≡◌, option_map};
+ghost use Rattle.std.specs.Arc.{arc_value};
 ghost use Rattle.gql_c.specs.Outcomes.{TellsMade};
 ghost use Rattle.gql_c.specs.Queries.{ReadsQuery, ReadsQueryBytes, ReadsQueryText};
 
