@@ -1,5 +1,5 @@
 -- What is wrong with texts, for people: sections 2, 3 and 5 of GraphQL October 2021.
-use Rattle.std.specs.Prelude.{◌≡◌, ◌⊎◌, ℕ, List, [], box_value}
+use Rattle.std.specs.Prelude.{◌≡◌, ℕ, List, [], box_value}
 use Rattle.std.specs.Str.{IsUtf8}
 use Rattle.gql_engine.specs.Meant.{Meant}
 use Rattle.gql_engine.specs.Reports.{reports_of}
@@ -35,4 +35,5 @@ ChecksTexts schema query Unread = ⊥
 -- of bytes, which may be no texts
 pub data ChecksBytes (schema query : List ℕ) : Outcome → Type 0 where
   texts : (outcome : Outcome) → IsUtf8 schema → IsUtf8 query → ChecksTexts schema query outcome → ChecksBytes schema query outcome
-  no_text : ¬ (IsUtf8 schema) ⊎ ¬ (IsUtf8 query) → ChecksBytes schema query Unread
+  no_schema : ¬ (IsUtf8 schema) → ChecksBytes schema query Unread
+  no_query : ¬ (IsUtf8 query) → ChecksBytes schema query Unread

@@ -1,5 +1,5 @@
 -- What comes of the text of a query against a schema: sections 2 and 5 of GraphQL October 2021.
-use Rattle.std.specs.Prelude.{◌≡◌, ℕ, List, Err, Option, Some, None, box_value}
+use Rattle.std.specs.Prelude.{◌≡◌, ℕ, List, Err, Option, Some, None}
 use Rattle.std.specs.Arc.{arc_value}
 use Rattle.std.specs.Str.{IsUtf8}
 use Rattle.jb_text.specs.declared.refused.Refused.TheVariants.{Fault}
@@ -10,12 +10,11 @@ use Rattle.gql_engine.specs.Meant.{AreMeant}
 use Rattle.gql_engine.specs.Service.{IsOfTexts, IsPreparationOf}
 use Rattle.gql_engine.specs.declared.answer_error.AnswerError.{AnswerError}
 use Rattle.gql_engine.specs.declared.answer_error.AnswerError.TheVariants as error
-use Rattle.gql_c.specs.Replies.{HoldsReply}
-use Rattle.gql_c.specs.Schemas.{TellsRefusal}
+use Rattle.gql_c.specs.Schemas.{Reads}
 use Rattle.gql_c.specs.declared.held.Held.{Held}
 use Rattle.gql_c.specs.declared.held.Held.TheVariants.{Schema, Query, Data, Reply}
 use Rattle.gql_c.specs.declared.outcome.Outcome.{Outcome}
-use Rattle.gql_c.specs.declared.outcome.Outcome.TheVariants.{Answered, Refused, NoMemory, WrongHandle, Unread}
+use Rattle.gql_c.specs.declared.outcome.Outcome.TheVariants.{WrongHandle, Unread}
 
 -- the texts of a schema and of a query mean it
 pub record IsTextsDocument (texts : TwoTexts) (document : ExecutableDocument) : Type 0 where
@@ -39,11 +38,7 @@ HoldsQuery schema text (Reply bytes) = ⊥
 
 -- of a text against the schema of this text: the query that it means, or what is wrong with it
 abbrev pub ReadsQueryText : (schema text : List ℕ) → Outcome → Type 0
-ReadsQueryText schema text (Answered held) = HoldsQuery schema text (box_value held)
-ReadsQueryText schema text (Refused held) = HoldsReply (TellsRefusal (IsNoQuery schema text)) (box_value held)
-ReadsQueryText schema text NoMemory = Unit {0}
-ReadsQueryText schema text WrongHandle = ⊥
-ReadsQueryText schema text Unread = ⊥
+ReadsQueryText schema text outcome = Reads (HoldsQuery schema text) (IsNoQuery schema text) outcome
 
 -- of bytes, which may be no text
 pub data ReadsQueryBytes (schema bytes : List ℕ) : Outcome → Type 0 where

@@ -34,13 +34,17 @@ HoldsSchema text (Query query) = ⊥
 HoldsSchema text (Data members) = ⊥
 HoldsSchema text (Reply bytes) = ⊥
 
--- of a text: the schema that it means, or what is wrong with it
+-- of a text: a value of which this holds, or the JSON of a refusal that has this cause
+abbrev pub Reads : (Held → Type 0) → (AnswerError → Type 0) → Outcome → Type 0
+Reads Holds Cause (Answered held) = Holds (box_value held)
+Reads Holds Cause (Refused held) = HoldsReply (TellsRefusal Cause) (box_value held)
+Reads Holds Cause NoMemory = Unit {0}
+Reads Holds Cause WrongHandle = ⊥
+Reads Holds Cause Unread = ⊥
+
+-- the schema that a text means, or what is wrong with it
 abbrev pub ReadsSchemaText : List ℕ → Outcome → Type 0
-ReadsSchemaText text (Answered held) = HoldsSchema text (box_value held)
-ReadsSchemaText text (Refused held) = HoldsReply (TellsRefusal (IsNoSchema text)) (box_value held)
-ReadsSchemaText text NoMemory = Unit {0}
-ReadsSchemaText text WrongHandle = ⊥
-ReadsSchemaText text Unread = ⊥
+ReadsSchemaText text outcome = Reads (HoldsSchema text) (IsNoSchema text) outcome
 
 -- of bytes, which may be no text
 pub data ReadsSchema (bytes : List ℕ) : Outcome → Type 0 where

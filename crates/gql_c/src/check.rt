@@ -1,6 +1,6 @@
 //! What is wrong with texts, for people.
 
-ghost use Rattle.gql_c.specs.Checks.{ChecksBytes, ChecksQuery, ChecksTexts};
+ghost use Rattle.gql_c.specs.Checks.{ChecksBytes, ChecksTexts};
 ghost use Rattle.gql_c.specs.Outcomes.{Tells};
 
 use crate::handle::Handle;
@@ -33,9 +33,18 @@ pub extern "C" fn gql_check(
 fn check_bytes(alloc: Global, schema: &[u8], query: &[u8]) -> Outcome
     ensures { ChecksBytes schema.now query.now result }
 {
-    match (str::from_utf8(schema), str::from_utf8(query)) {
-        (Ok(schema), Ok(query)) => check_texts(alloc, schema, query),
-        _ => Outcome::Unread,
+    match str::from_utf8(schema) {
+        Ok(schema) => check_query_bytes(alloc, schema, query),
+        Err(_) => Outcome::Unread,
+    }
+}
+
+fn check_query_bytes(alloc: Global, schema: &str, query: &[u8]) -> Outcome
+    ensures { ChecksBytes schema.now query.now result }
+{
+    match str::from_utf8(query) {
+        Ok(query) => check_texts(alloc, schema, query),
+        Err(_) => Outcome::Unread,
     }
 }
 
