@@ -18,12 +18,7 @@ use std::alloc::Global;
 /// is: the reply has the reports of the first text that means nothing, a message for each thing that is wrong with a line for
 /// each place. [`UNREAD`](crate::UNREAD) exactly where one is no UTF-8. [`NO_MEMORY`](crate::NO_MEMORY) only when out of memory.
 #[unsafe(no_mangle)]
-pub extern "C" fn gql_check(
-    alloc: Global,
-    schema: &[u8],
-    query: &[u8],
-    reply: &mut Handle,
-) -> u32
+pub extern "C" fn gql_check(alloc: Global, schema: &[u8], query: &[u8], reply: &mut Handle) -> u32
     ensures { Tells (ChecksBytes schema.now query.now) result reply.new.held }
 {
     let outcome = check_bytes(alloc, schema, query);

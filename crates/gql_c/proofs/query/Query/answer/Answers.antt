@@ -7,5 +7,5 @@ use Rattle.gql_c.proofs.query.Query.answer.Goals as goal
 pub returns : goal.returns
 returns c =
     subst (λ (texts : TwoTexts). GivesOver c.args.members.now (call_to texts (text_of c.args.operation_name) c.args.variables.now c.args.introspection)
-        c.answer_uncounted-2.result) c.self.view_is
+    c.answer_uncounted-2.result) c.self.view_is
     (rw (c.deref.ensures, c.as_str.ensures, c.root.ensures) at c.answer_uncounted-2.ensures)
