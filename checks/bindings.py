@@ -2,7 +2,7 @@
 """Builds the C library and the bindings from what the gate has left, and runs their tests: bindings/build, then
 
 - the calls in C, plain, under valgrind, and with AddressSanitizer; with each allocation refused in turn, alone and with all after it;
-  one schema in eight threads; the example;
+  values that eight threads share; the example;
 - the package for Python: its tests, from its folder and from the wheel;
 - the package for Node, and the one for Go;
 - the worked requests of checks/tables/ and examples/ through C and through Python, whose bytes are those of the program.
@@ -57,7 +57,7 @@ def compile_c(folder, name, sources, *words):
 
 
 def run_c(folder):
-    """The tests in C, each plain, under valgrind and with AddressSanitizer."""
+    """The tests in C, each plain and with AddressSanitizer, and under valgrind those that count no blocks themselves."""
     programs = {
         "calls": ["tests/calls.c", "heap.c"],
         "refused_memory": ["tests/refused_memory.c", "tests/counted_heap.c"],
@@ -70,7 +70,7 @@ def run_c(folder):
         program = compile_c(folder, name, sources)
         if program is not None:
             print(try_command(name, [program]).stdout.decode(), end="")
-            if has_valgrind:
+            if has_valgrind and name != "refused_memory":
                 try_command(f"{name} under valgrind", [*VALGRIND, program])
         watched = compile_c(folder, f"{name}_asan", sources, "-fsanitize=address")
         if watched is not None:

@@ -88,7 +88,7 @@ static void kinds(void) {
 static void checks(void) {
     CHECK(gql_check(TEXT(BOOKS), TEXT(BOOK_QUERY), &reply) == GQL_ANSWERED && gql_reply_length(&reply) == 0);
     CHECK(gql_check(TEXT("type Query { a: Missing }"), TEXT("{ a }"), &reply) == GQL_REFUSED);
-    CHECK(says(&reply, "Error: cannot find type `Missing` in this document\nschema.graphql:1:17: not found in this scope\n"));
+    CHECK(says(&reply, "Error: cannot find type `Missing` in this document\nschema.graphql:1:17: here\n"));
     CHECK(gql_check(TEXT(BOOKS), TEXT("{ nope }"), &reply) == GQL_REFUSED);
     CHECK(gql_check((const uint8_t *)"\xff", 1, TEXT("{ a }"), &reply) == GQL_UNREAD && is_empty(&reply));
     CHECK(gql_check(TEXT(BOOKS), (const uint8_t *)"\xff", 1, &reply) == GQL_UNREAD && is_empty(&reply));

@@ -2,7 +2,7 @@
 #include "check.h"
 #include <pthread.h>
 
-enum { THREADS = 8, TURNS = 2000 };
+enum { THREADS = 8, TURNS = 300 };
 
 struct work {
     gql_handle schema, query, data;

@@ -281,7 +281,7 @@ def check(schema: Union[str, bytes], query: Union[str, bytes]) -> str:
 
     >>> print(check("type Query { a: Missing }", "{ a }"), end="")
     Error: cannot find type `Missing` in this document
-    schema.graphql:1:17: not found in this scope
+    schema.graphql:1:17: here
     """
     first, second, reply = _text_of(schema), _text_of(query), library.Handle()
     status = library.check(first, len(first), second, len(second), byref(reply))
