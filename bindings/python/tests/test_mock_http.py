@@ -113,7 +113,7 @@ class Rules(unittest.TestCase):
         with serving(DATA, "--fail", "echo=sorry") as it:
             status, response = it.ask("{ count echo }")
             self.assertEqual((status, response["data"]), (200, {"count": 1, "echo": None}))
-            self.assertEqual([(error["message"], error["path"]) for error in response["errors"]], [("sorry", ["echo"])])
+            self.assertEqual([(error["message"], error["path"]) for error in response["errors"]], [("resolver error: sorry", ["echo"])])
 
     def test_null_data_are_a_response(self):
         with serving({}) as it:

@@ -58,11 +58,12 @@ class MockServer(ThreadingHTTPServer):
 
 def executed(query, data, name, variables, introspection):
     """The response, made with handles of this thread's own, so that several threads execute at once."""
+    asked = {"operation_name": name, "variables": variables, "introspection": introspection}
     with query.share() as mine:
         if not isinstance(data, sunwaket.Data):
-            return mine.execute(data, name, variables, introspection=introspection)
+            return mine.execute(data, **asked)
         with data.share() as own:
-            return mine.execute(own, name, variables, introspection=introspection)
+            return mine.execute(own, **asked)
 
 
 class Handler(BaseHTTPRequestHandler):
