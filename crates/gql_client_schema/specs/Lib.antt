@@ -1,0 +1,9 @@
+pub mod Constants
+pub mod Reading
+pub mod Members
+pub mod References
+pub mod Parts
+pub mod Answers
+pub mod Query
+pub mod ClientSchema
+pub mod Program

@@ -1,0 +1,4 @@
+pub mod Pieces
+pub mod Forms
+pub mod Definitions
+pub mod Schemas
