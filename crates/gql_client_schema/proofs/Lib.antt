@@ -1,8 +1,9 @@
 mod Readings
 mod OneReading
 mod OneConstant
-mod Constant
+mod ReadConstant
 mod OneQuery
-mod Again
-mod Making
+mod OneAnswer
+mod OneMaking
+mod Levels
 mod Lines

@@ -1,9 +1,14 @@
 -- Texts that end in LF.
-use Rattle.std.proofs.Common.{◌≡◌, ℕ, Bool, true, false, List, [], ◌∷◌, ◌++◌, flat_map, Option, Some, None, codes, refl, sym, ap, ◌∙◌, subst, append_assoc}
+use Rattle.std.proofs.Common.{◌≡◌, ◌-◌, ℕ, Bool, true, false, List, [], ◌∷◌, ◌++◌, take, length, flat_map, Option, Some, None, codes, refl, sym, ap, ◌∙◌, subst, append_assoc, arith}
+use Rattle.std.proofs.Math.Seq.{take-append_seam}
+use Rattle.std.proofs.lemmas.List.{length-append}
+use Rattle.std.proofs.lemmas.List.Sorted.{length_permutation}
+use Rattle.std.specs.List.Sorted.{IsPermutation}
 use Rattle.jb_io.specs.Reply.{line}
 use Rattle.gql_diag.specs.List.{Diagnostics}
 use Rattle.gql_diag.specs.Report.{Report, report_text, label_line, line_in, placed_line, line_of}
 use Rattle.gql_diag.specs.Reported.{data_reported, message_alone}
+use Rattle.gql_diag_messages.specs.Details.{message_of}
 use Rattle.gql_diag_messages.specs.declared.diagnostic_data.DiagnosticData.{DiagnosticData}
 use Rattle.gql_source.specs.File.{File, Files, is_file}
 use Rattle.gql_source.specs.Lines.{line_column_within}
@@ -15,7 +20,12 @@ use Rattle.gql_sdl.specs.Schemas.{line_unless, is_directive_name, is_built_in, d
 use Rattle.gql_sdl.specs.declared.shown.ShownDirective.{ShownDirective}
 use Rattle.gql_sdl.specs.declared.shown.ShownSchema.{ShownSchema}
 use Rattle.gql_sdl.specs.declared.shown.ShownType.{ShownType}
-use Rattle.gql_client_schema.specs.Program.{EndsLine, item_report, list_reports}
+use Rattle.gql_parser.specs.SchemaFaults.{SchemaFaults, no_sentence, no_build, broken}
+use Rattle.gql_client_schema.specs.ClientSchema.{HasCause, IsClientSchema}
+use Rattle.gql_client_schema.specs.Program.{EndsLine, item_report, list_reports, read_text, shape_text, refusal_of}
+use Rattle.gql_client_schema.specs.declared.making.ClientFault.{ClientFault}
+use Rattle.gql_client_schema.specs.declared.making.ClientFault.TheVariants.{Read, Shape, Schema}
+use Rattle.gql_client_schema.specs.declared.making.ClientSchema.{ClientSchema}
 
 -- with one of these behind it a text that ends in LF still does
 data IsLines (text : List ℕ) : Type 0 where
@@ -56,7 +66,7 @@ a_type : (ty : ShownType) → IsLines (type_line ty)
 unfolding type_line
 a_type ty = unless (is_built_in ty) (type_definition_text ty)
 
-pub schema_ends : (shown : ShownSchema) → EndsLine (schema_text shown)
+schema_ends : (shown : ShownSchema) → EndsLine (schema_text shown)
 schema_ends shown =
     behind (roots_text shown ++ codes "\n") (flat_map directive_line shown.directives ++ flat_map type_line shown.types) (ends (roots_text shown))
     (both (flat_map directive_line shown.directives) (flat_map type_line shown.types)
@@ -93,10 +103,44 @@ report_ends report =
     (title_line (codes "Note: ") report.note)
 
 item_ends : (sources : Files) (item : DiagnosticData) → EndsLine (item_report sources item)
-item_ends sources item = report_ends _
+item_ends sources item = report_ends (data_reported item (message_alone sources (message_of item.details)))
 
-pub reports_end : (list : Diagnostics) (first : DiagnosticData) (rest : List DiagnosticData) → list.items ≡ first ∷ rest → EndsLine (list_reports list)
+reports_end : (list : Diagnostics) (first : DiagnosticData) (rest : List DiagnosticData) → list.items ≡ first ∷ rest → EndsLine (list_reports list)
 reports_end list first rest is =
     subst (λ (items : List DiagnosticData). EndsLine (flat_map (item_report list.sources) items)) (sym is)
     (behind (item_report list.sources first) (flat_map (item_report list.sources) rest) (item_ends list.sources first)
     (all_lines (item_report list.sources) (λ item. some (item_ends list.sources item)) rest))
+
+-- ---- the text before the LF
+
+front_of : (front : List ℕ) → take (length (front ++ 10 ∷ []) - 1) (front ++ 10 ∷ []) ≡ front
+front_of front =
+    let e : length (front ++ 10 ∷ []) - 1 ≡ length front = omega (arith, length-append front (10 ∷ [])) in
+    rw e (take-append_seam front (10 ∷ []))
+
+pub front_line : (text : List ℕ) → EndsLine text → line (take (length text - 1) text) ≡ text
+front_line text h = subst (λ (t : List ℕ). line (take (length t - 1) t) ≡ t) (sym h.is) (ap line (front_of h.front))
+
+no_items : (xs : List DiagnosticData) → length xs ≡ 0 → xs ≡ []
+no_items [] h = refl
+no_items (x ∷ xs) h = absurd (omega (arith, h))
+
+some_reports : (list : Diagnostics) (faults : List DiagnosticData) → (faults ≡ [] → ⊥) → IsPermutation faults list.items → EndsLine (list_reports list)
+some_reports list faults some permutes = by_items list.items refl
+  where
+    by_items : (items : List DiagnosticData) → list.items ≡ items → EndsLine (list_reports list)
+    by_items [] is = absurd (some (no_items faults (length_permutation faults list.items permutes ∙ ap length is)))
+    by_items (first ∷ rest) is = reports_end list first rest is
+
+faults_end : (text : List ℕ) (list : Diagnostics) → SchemaFaults text list → EndsLine (list_reports list)
+faults_end text list (no_sentence error stops) = reports_end _ _ [] refl
+faults_end text list (no_build told taken definitions is) = some_reports list _ is.some is.items.permutation
+faults_end text list (broken told taken faults definitions builds are is) = some_reports list _ is.some is.items.permutation
+
+pub refusal_ends : (bytes : List ℕ) (fault : ClientFault) → HasCause bytes fault → EndsLine (refusal_of fault)
+refusal_ends bytes (Read fault) cause = record { front = read_text fault; is = refl }
+refusal_ends bytes (Shape path) cause = record { front = shape_text path; is = refl }
+refusal_ends bytes (Schema list) cause = faults_end (schema_text cause.holds.shown) list cause.holds.faults
+
+pub made_ends : (bytes : List ℕ) (made : ClientSchema) → IsClientSchema bytes made → EndsLine made.text
+made_ends bytes made is = subst EndsLine (sym is.made_of.is) (schema_ends is.made_of.shown)

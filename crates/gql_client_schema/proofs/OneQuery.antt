@@ -1,5 +1,5 @@
 -- A text builds one document at most against a schema, and none where the build has a fault.
-use Rattle.std.proofs.Common.{◌≡◌, inl, inr, ℕ, List, [], ◌∷◌, codes, Result, Ok, Err, refl, sym, ◌∙◌, ap, subst}
+use Rattle.std.proofs.Common.{◌≡◌, inl, inr, ℕ, List, [], ◌∷◌, codes, true, Result, Ok, Err, refl, sym, ◌∙◌, ap, subst}
 use Rattle.jb_text.specs.declared.refused.Refused.TheVariants.{Fault}
 use Rattle.gql_ast.specs.declared.definition.Definition.{Definition}
 use Rattle.gql_ast.specs.declared.document.Document.{Document}
@@ -52,30 +52,6 @@ module _ (schema : Schema) (text : List ℕ) where
         → IsSentenceWithin fresh.limits rule.Document text → ⊥
     no_sentence document errors stopped sentence =
         stopped.stopped.none (subst (λ (l : Limits). IsSentenceWithin l rule.Document text) (sym limits) sentence)
-
-    -- a reading that was stopped leaves a fault
-    stopped_faults : (document : Document) (errors : Diagnostics) (taken : Taken) → IsFileStopped parser (its_given text) document errors
-        → taken ≡ with_document (nothing_taken schema) document errors true → all_faults taken ≡ [] → ⊥
-    stopped_faults document errors taken stopped is none =
-        let told : all_faults (with_document (nothing_taken schema) no_document (list_of (its_given text) stopped.error) true) ≡ [] =
-        ap all_faults (sym (is
-        ∙ ap (λ (d : Document). with_document (nothing_taken schema) d errors true) stopped.none
-        ∙ ap (λ (l : Diagnostics). with_document (nothing_taken schema) no_document l true) stopped.told)) ∙ none in
-        absurd cc
-
-    -- the document that was built is that of the text
-    pub built_of : (document : ExecutableDocument) → IsBuilt parser (its_given text) schema (Ok document) → IsBuiltOf schema text document
-    built_of document b = by_reading b.takes.read
-      where
-        by_reading : IsFileRead parser (its_given text) b.takes.document b.takes.errors → IsBuiltOf schema text document
-        by_reading (inl whole) = record {
-          taken = b.taken;
-          definitions = whole_taken b.takes.document b.takes.errors b.taken whole b.takes.taken;
-          builds = b.answers.judged.0;
-          is = b.answers.judged.1;
-        }
-        by_reading (inr stopped) =
-            absurd (stopped_faults b.takes.document b.takes.errors b.taken stopped b.takes.taken b.answers.judged.0)
 
     -- where there were faults there is none
     pub none_built : DocumentsLaw → (refusal : WithErrors ExecutableDocument) → IsBuilt parser (its_given text) schema (Err (Fault refusal))

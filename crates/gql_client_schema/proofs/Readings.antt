@@ -1,7 +1,10 @@
 -- Readings step by step.
-use Rattle.std.proofs.Common.{◌≡◌, inl, inr, ℕ, ◌+◌, ◌<◌, List, [], ◌∷◌, ◌++◌, length, get_or, drop, Result, Ok, Err, refl, sym, ap, ◌∙◌, subst, add-one, drop-cons, suc, arith}
+use Rattle.std.proofs.Common.{◌≡◌, inl, inr, ℕ, Bool, true, false, if◌then◌else◌, Option, Some, None, ◌+◌, ◌<◌, List, [], ◌∷◌, ◌++◌, length, get_or, drop, Result, Ok, Err, refl, sym, ap, ◌∙◌, subst, add-one, drop-cons, suc, arith}
 use Rattle.jb_text.specs.declared.refused.Refused.{Refused}
 use Rattle.jb_text.specs.declared.refused.Refused.TheVariants.{Fault, Memory}
+use Rattle.jb_tree.specs.declared.value.Value.{Value}
+use Rattle.jb_tree.specs.Value.{is_null}
+use Rattle.gql_client_schema.specs.Members.{or_null}
 use Rattle.gql_response.specs.declared.path.ResponseDataPathSegment.{ResponseDataPathSegment}
 use Rattle.gql_client_schema.specs.Reading.{Steps, Reading, gives, breaks, asks, and_then, mapped, both, under, item, Gives, Breaks, Answers, IsPath, read_items}
 
@@ -51,9 +54,9 @@ module _ {A : Type 0} (step : ResponseDataPathSegment) where
   under_path m p Memory h is = tt
 
 -- the value itself
-pub whole_breaks : {A : Type 0} (e : Refused Steps) → IsPath [] e → Answers {A = A} (breaks []) (Err e)
-whole_breaks (Fault q) is = is
-whole_breaks Memory is = tt
+pub whole_breaks : (A : Type 0) (e : Refused Steps) → IsPath [] e → Answers {A = A} (breaks []) (Err e)
+whole_breaks A (Fault q) is = is
+whole_breaks A Memory is = tt
 
 -- ---- items
 
@@ -91,6 +94,13 @@ module _ {A B : Type 0} (make : A → B) where
 
   pub mapped_stops : (m : Reading A) (e : Refused Steps) → Answers m (Err e) → Answers (mapped make m) (Err e)
   mapped_stops m e h = stops (λ (x : A). gives (make x)) m e h
+
+-- ---- a value that is not null
+
+pub not_null : {A : Type 0} (rule : Value → Reading A) (value : Value) (r : Result (Option A) (Refused Steps)) → is_null value ≡ false
+    → Answers (mapped Some (rule value)) r → Answers (or_null rule value) r
+not_null {A} rule value r is h =
+    subst (λ (b : Bool). Answers {A = Option A} (if b then gives None else mapped Some (rule value)) r) (sym is) h
 
 -- ---- one thing and then another
 

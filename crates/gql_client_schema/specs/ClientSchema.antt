@@ -5,6 +5,7 @@ use Rattle.jb_text.specs.declared.refused.Refused.TheVariants as refused
 use Rattle.jb_tree.specs.declared.value.Value.{Value}
 use Rattle.jb_read.specs.Spelling.{JsonText}
 use Rattle.jb_read.specs.Faults.{JsonFault}
+use Rattle.jb_read.specs.declared.fault.ReadFault.{ReadFault}
 use Rattle.gql_diag.specs.List.{Diagnostics}
 use Rattle.gql_parser.specs.SchemaFaults.{SchemaFaults}
 use Rattle.gql_parser.specs.SchemaText.{SchemaText}
@@ -67,6 +68,11 @@ ComesFor fault (refused.Fault told) = fault ≡ told
 ComesFor fault refused.Memory = Unit {0}
 
 -- ---- on the way
+
+-- the refusal of bytes that are no JSON text
+abbrev pub unread_as : Refused ReadFault → Refused ClientFault
+unread_as (refused.Fault fault) = refused.Fault (Read fault)
+unread_as refused.Memory = refused.Memory
 
 abbrev pub IsMadeOf : Value → Result ClientSchema (Refused ClientFault) → Type 0
 IsMadeOf value (Ok made) = IsMade value made

@@ -5,7 +5,7 @@ use Rattle.std.specs.Str.{bytes_eq}
 use Rattle.jb_tree.specs.declared.value.Value.{Value}
 use Rattle.jb_tree.specs.Value.{object_members, array_items, string_text, truth_value, is_null}
 use Rattle.gql_ast_base.specs.Names.{Named, is_name}
-use Rattle.gql_client_schema.specs.Reading.{Reading, gives, breaks, and_then, under, member, read_items}
+use Rattle.gql_client_schema.specs.Reading.{Reading, gives, breaks, and_then, mapped, under, member, read_items}
 
 abbrev pub Members : Type 0
 Members = List (List ℕ × Value)
@@ -29,7 +29,7 @@ read_list_or_null rule value = if is_null value then gives [] else read_list rul
 
 -- null, or something else
 abbrev pub or_null : {A : Type 0} → (Value → Reading A) → Value → Reading (Option A)
-or_null rule value = if is_null value then gives None else and_then (rule value) (λ found. gives (Some found))
+or_null rule value = if is_null value then gives None else mapped Some (rule value)
 
 -- a member that has to be there
 abbrev pub there : {A : Type 0} → (Value → Reading A) → Option Value → Reading A

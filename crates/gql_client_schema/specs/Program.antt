@@ -1,5 +1,6 @@
 -- What the program writes of an answer.
-use Rattle.std.specs.Prelude.{◌≡◌, ℕ, Bool, true, false, List, [], ◌∷◌, ◌++◌, Option, Some, None, map, codes}
+use Rattle.std.specs.Prelude.{◌≡◌, ℕ, Bool, true, false, List, String, [], ◌∷◌, ◌++◌, Option, Some, None, map, codes}
+use Rattle.std.specs.declared.alloc.Global.{Global}
 use Rattle.std.specs.Fmt.{decimal}
 use Rattle.std.specs.List.{flat_map}
 use Rattle.gql_diag.specs.List.{Diagnostics}
@@ -26,17 +27,18 @@ abbrev pub usage : List ℕ
 usage = line (codes "usage: gql_client_schema")
 
 -- no words
-abbrev pub printing_asked : List (List ℕ) → Option Printing
-printing_asked [] = Some (record { })
+abbrev pub printing_asked : List (String Global) → Option Printing
+printing_asked [] = Some (record {})
 printing_asked (word ∷ words) = None
 
--- the line behind the schema where introspection of it gives other data
-abbrev pub remark : Bool → List ℕ
-remark true = []
-remark false = line (codes "# introspection differs")
+-- and the line behind it where introspection of the schema gives other data
+abbrev pub with_remark : Bool → List ℕ → List ℕ
+with_remark true text = text
+with_remark false text = text ++ line (codes "# introspection differs")
 
+-- the text of the schema
 abbrev pub output_of : ClientSchema → List ℕ
-output_of made = made.text ++ remark made.same
+output_of made = with_remark made.same made.text
 
 abbrev pub read_text : ReadFault → List ℕ
 read_text fault = codes "answer: " ++ (kind_name fault.kind ++ (codes " at byte " ++ decimal fault.place))

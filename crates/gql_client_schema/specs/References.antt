@@ -4,7 +4,8 @@ use Rattle.std.specs.Option.{option_map}
 use Rattle.std.specs.Str.{bytes_eq}
 use Rattle.jb_tree.specs.declared.value.Value.{Value}
 use Rattle.jb_tree.specs.Value.{is_null}
-use Rattle.gql_ast_base.specs.declared.type_ref.TypeRef.{TypeRef, List as ListOf}
+use Rattle.gql_ast_base.specs.declared.type_ref.TypeRef.{TypeRef, List as ListOf, NonNullList, out-TypeRef}
+use Rattle.gql_ast_base.specs.declared.type_ref.TypeRef.TheOpen.{TypeRef-F}
 use Rattle.gql_ast_base.specs.declared.type_ref.TypeRef.TheVariants as ref
 use Rattle.gql_sdl.specs.declared.shown.TypeKind.{TypeKind}
 use Rattle.gql_sdl.specs.declared.shown.TypeKind.TheVariants.{Scalar, Object, Interface, Union, Enum, InputObject}
@@ -51,10 +52,13 @@ abbrev pub head_of : Members → Reading Head
 head_of members = and_then (required read_kind (codes "kind") members) (λ kind. head_by kind members)
 
 -- the same type as not null, if it is not so already
+abbrev pub non_null_at : TypeRef-F TypeRef → Option TypeRef
+non_null_at (TypeRef-F.Named name) = Some (ref.NonNullNamed name)
+non_null_at (TypeRef-F.List item) = Some (NonNullList item)
+non_null_at _ = None
+
 abbrev pub non_null : TypeRef → Option TypeRef
-non_null (ref.Named name) = Some (ref.NonNullNamed name)
-non_null (ref.List inner) = Some (ref.NonNullList inner)
-non_null _ = None
+non_null ty = non_null_at (out-TypeRef ty)
 
 abbrev pub list_of : Option TypeRef → Option TypeRef
 list_of = option_map ListOf

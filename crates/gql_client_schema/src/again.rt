@@ -1,6 +1,6 @@
 //! Whether a schema gives the data of an answer again.
 
-ghost use Rattle.std.specs.Prelude.{◌≡◌, ◌↔◌, IsTrue, IfOk};
+ghost use Rattle.std.specs.Prelude.{◌≡◌, ◌↔◌, IsTrue, IfOk, Some};
 ghost use Rattle.std.specs.Option.{option_copied};
 ghost use Rattle.gql_document_types.specs.Spreads.{AreAcyclic};
 ghost use Rattle.gql_response.specs.Response.{data_value};
@@ -32,11 +32,25 @@ pub(crate) fn gives_again(
 {
     tree_laws::texts_have_one_document();
     let schema = Valid::assume_valid(schema);
-    let Some(document) = query_on(alloc, &schema)? else {
-        return Ok(false);
-    };
+    match query_on(alloc, &schema)? {
+        Some(document) => answered_again(alloc, &schema, document, given),
+        None => Ok(false),
+    }
+}
+
+/// The same with the query's document at hand.
+fn answered_again(
+    alloc: Global,
+    schema: &Valid<Schema>,
+    document: ExecutableDocument,
+    given: Option<&Value>,
+) -> Result<bool, Memory>
+    requires { spec.IsQueryOn schema.now document }
+    ensures { IfOk result (λ again. IsTrue again ↔ spec.GivesAgain schema.now (option_copied given.entry)) }
+{
+    tree_laws::texts_have_one_document();
     let document = Valid::assume_valid(document);
-    match answer_on(alloc, &schema, &document)? {
+    match answer_on(alloc, schema, &document)? {
         Some(response) => Ok(is_same(response, given)),
         None => Ok(false),
     }
@@ -46,11 +60,24 @@ pub(crate) fn gives_again(
 fn query_on(alloc: Global, schema: &Valid<Schema>) -> Result<Option<ExecutableDocument>, Memory>
     ensures { IfOk result (spec.IsQueryIn schema.now) }
 {
+    match built_query(alloc, schema)? {
+        Some(document) => if_acyclic(alloc, schema, document),
+        None => Ok(None),
+    }
+}
+
+/// The document, if no fragment of it leads back to itself.
+fn if_acyclic(
+    alloc: Global,
+    schema: &Valid<Schema>,
+    document: ExecutableDocument,
+) -> Result<Option<ExecutableDocument>, Memory>
+    requires { spec.IsBuiltIn schema.now (Some document) }
+    ensures { IfOk result (spec.IsQueryIn schema.now) }
+{
     tree_laws::texts_have_one_document();
-    let Some(document) = built_query(alloc, schema)? else {
-        return Ok(None);
-    };
-    if document.fragments_acyclic(alloc)? {
+    let acyclic = document.fragments_acyclic(alloc)?;
+    if acyclic {
         Ok(Some(document))
     } else {
         Ok(None)
@@ -87,7 +114,14 @@ fn answer_on(
     };
     let implementers = schema.as_ref().implementers_map(alloc)?;
     let variables = Valid::assume_valid(Map::new(alloc));
-    match partial_execute(alloc, schema, &implementers, document, operation, &variables) {
+    match partial_execute(
+        alloc,
+        schema,
+        &implementers,
+        document,
+        operation,
+        &variables,
+    ) {
         Ok(response) => Ok(Some(response)),
         Err(Refused::Fault(_)) => Ok(None),
         Err(Refused::Memory) => Err(AllocError),

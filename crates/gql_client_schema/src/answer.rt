@@ -47,10 +47,10 @@ pub(crate) fn read_answer(alloc: Global, value: &Value) -> Result<ShownSchema, U
     }
 }
 
-fn schema_in(data: Data) -> ShownSchema
-    ensures { result ≡ spec.schema_in data }
+fn schema_in(found: Data) -> ShownSchema
+    ensures { result ≡ spec.schema_in found }
 {
-    let Data { schema } = data;
+    let Data { schema } = found;
     schema
 }
 
@@ -58,7 +58,7 @@ fn answer_of(alloc: Global, members: &Map) -> Result<ShownSchema, Unread>
     ensures { Answers (spec.answer_of members.now) result }
 {
     match required(alloc, "data", members) {
-        Ok(data) => Ok(schema_in(data)),
+        Ok(found) => Ok(schema_in(found)),
         Err(unread) => Err(unread),
     }
 }

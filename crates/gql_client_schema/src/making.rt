@@ -11,12 +11,10 @@ use crate::answer::read_answer;
 use bytes::Bytes;
 use gql_cst::laws as cst_laws;
 use gql_diag::DiagnosticList;
-use gql_parser::laws as text_laws;
-use gql_parser::schema_of_text;
+use gql_parser::{laws as text_laws, schema_of_text};
 use gql_response::ResponseDataPathSegment;
 use gql_sdl::{ShownSchema, print_schema};
-use jb_read::laws as json_laws;
-use jb_read::{ReadFault, from_bytes_whole};
+use jb_read::{ReadFault, from_bytes_whole, laws as json_laws};
 use jb_text::{Listed, Refused, Text};
 use jb_tree::Value;
 use std::alloc::Global;
@@ -63,8 +61,17 @@ pub fn client_schema(alloc: Global, answer: &Bytes) -> Result<ClientSchema, Refu
     cst_laws::texts_have_one_tree();
     match from_bytes_whole(alloc, answer) {
         Ok(value) => made_of(alloc, &value),
-        Err(Refused::Fault(fault)) => Err(Refused::Fault(ClientFault::Read(fault))),
-        Err(Refused::Memory) => Err(Refused::Memory),
+        Err(refused) => Err(unread(refused)),
+    }
+}
+
+/// The refusal of bytes that are no JSON text.
+fn unread(refused: Refused<ReadFault>) -> Refused<ClientFault>
+    ensures { result ≡ spec.unread_as refused }
+{
+    match refused {
+        Refused::Fault(fault) => Refused::Fault(ClientFault::Read(fault)),
+        Refused::Memory => Refused::Memory,
     }
 }
 

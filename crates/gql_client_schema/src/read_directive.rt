@@ -30,7 +30,10 @@ fn directive_of(alloc: Global, members: &Map) -> Result<ShownDirective, Unread>
     let is_repeatable = spared(alloc, "isRepeatable", false, members);
     let locations = required(alloc, "locations", members);
     let arguments = required(alloc, "args", members);
-    match both(name, both(description, both(is_repeatable, both(locations, arguments)))) {
+    match both(
+        name,
+        both(description, both(is_repeatable, both(locations, arguments))),
+    ) {
         Ok(parts) => {
             let (name, (description, (is_repeatable, (locations, arguments)))) = parts;
             Ok(ShownDirective {

@@ -30,7 +30,10 @@ fn field_of(alloc: Global, members: &Map) -> Result<ShownField, Unread>
     let arguments = required(alloc, "args", members);
     let ty = required(alloc, "type", members);
     let deprecation = deprecation_in(alloc, members);
-    match both(name, both(description, both(arguments, both(ty, deprecation)))) {
+    match both(
+        name,
+        both(description, both(arguments, both(ty, deprecation))),
+    ) {
         Ok(parts) => {
             let (name, (description, (arguments, (ty, deprecation)))) = parts;
             Ok(ShownField {

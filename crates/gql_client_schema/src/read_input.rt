@@ -30,7 +30,10 @@ fn input_of(alloc: Global, members: &Map) -> Result<ShownInput, Unread>
     let ty = required(alloc, "type", members);
     let default_value = required(alloc, "defaultValue", members);
     let deprecation = deprecation_if_there(alloc, members);
-    match both(name, both(description, both(ty, both(default_value, deprecation)))) {
+    match both(
+        name,
+        both(description, both(ty, both(default_value, deprecation))),
+    ) {
         Ok(parts) => {
             let (name, (description, (ty, (default_value, deprecation)))) = parts;
             Ok(ShownInput {

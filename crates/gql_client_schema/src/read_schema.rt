@@ -33,7 +33,13 @@ fn schema_of(alloc: Global, members: &Map) -> Result<ShownSchema, Unread>
     let subscription = required(alloc, "subscriptionType", members);
     let types = required(alloc, "types", members);
     let directives = required(alloc, "directives", members);
-    match both(description, both(query, both(mutation, both(subscription, both(types, directives))))) {
+    match both(
+        description,
+        both(
+            query,
+            both(mutation, both(subscription, both(types, directives))),
+        ),
+    ) {
         Ok(parts) => Ok(schema_by(parts)),
         Err(unread) => Err(unread),
     }

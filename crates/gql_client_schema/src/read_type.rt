@@ -75,7 +75,13 @@ fn lists_of(alloc: Global, members: &Map) -> Result<Lists, Unread>
     let interfaces = required_list(alloc, "interfaces", members);
     let possible_types = required_list(alloc, "possibleTypes", members);
     let enum_values = required_list(alloc, "enumValues", members);
-    match both(fields, both(input_fields, both(interfaces, both(possible_types, enum_values)))) {
+    match both(
+        fields,
+        both(
+            input_fields,
+            both(interfaces, both(possible_types, enum_values)),
+        ),
+    ) {
         Ok(parts) => {
             let (fields, (input_fields, (interfaces, (possible_types, enum_values)))) = parts;
             Ok(Lists {

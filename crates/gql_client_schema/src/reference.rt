@@ -2,14 +2,14 @@
 
 ghost use Rattle.std.specs.Prelude.{◌≡◌, ◌-◌, ◌<◌, IfOk};
 ghost use Rattle.std.specs.Option.{option_copied};
-ghost use Rattle.gql_client_schema.specs.Reading.{Answers};
+ghost use Rattle.gql_client_schema.specs.Reading.{Answers, gives};
 ghost use Rattle.gql_client_schema.specs.References as spec;
 
 use crate::kind::{Head, head_of};
 use crate::path::{Unread, in_member, misfit};
 use crate::reading::{Read, both};
 use gql_ast_base::{Boxed, TypeRef};
-use jb_text::Memory;
+use jb_text::{Memory, Refused};
 use jb_tree::{Map, Value};
 use std::alloc::Global;
 
@@ -45,7 +45,7 @@ fn linked(alloc: Global, left: u32, members: &Map) -> Result<Option<TypeRef>, Un
 {
     let head = head_of(alloc, members);
     match both(head, inner(alloc, left, members)) {
-        Ok(parts) => Ok(joined_head(alloc, parts)?),
+        Ok(parts) => joined_head(alloc, parts),
         Err(unread) => Err(unread),
     }
 }
@@ -89,14 +89,14 @@ fn nested(alloc: Global, left: u32, value: &Value) -> Result<Option<TypeRef>, Un
     }
 }
 
-fn joined_head(
-    alloc: Global,
-    parts: (Head, Option<TypeRef>),
-) -> Result<Option<TypeRef>, Memory>
-    ensures { IfOk result (λ made. made ≡ spec.joined_head parts) }
+fn joined_head(alloc: Global, parts: (Head, Option<TypeRef>)) -> Result<Option<TypeRef>, Unread>
+    ensures { Answers (gives (spec.joined_head parts)) result }
 {
     let (head, inner) = parts;
-    with_head(alloc, head, inner)
+    match with_head(alloc, head, inner) {
+        Ok(made) => Ok(made),
+        Err(_) => Err(Refused::Memory),
+    }
 }
 
 /// The named type, or what the wrapper makes of the type inside.

@@ -18,12 +18,7 @@ fn main(rt: HostRuntime) -> ExitCode {
     };
     let mut source = ReaderSource::new(rt.reader());
     let mut sink = WriterSink::new(io::writer(&rt));
-    ExitCode::from(run_client_schema(
-        rt.alloc(),
-        words.as_slice(),
-        &mut source,
-        &mut sink,
-    ))
+    ExitCode::from(run_client_schema(rt.alloc(), words.as_slice(), &mut source, &mut sink))
 }
 
 // The arguments without the program's name.

@@ -13,10 +13,7 @@ use std::alloc::Global;
 
 /// The definition of a directive as a text, in one line without its end (GraphQL October 2021, section 3.13). One without locations
 /// ends in `on`, which is no sentence. `Err` only when out of memory.
-pub fn print_directive_definition(
-    alloc: Global,
-    directive: &ShownDirective,
-) -> Result<Text, Memory>
+pub fn print_directive_definition(alloc: Global, directive: &ShownDirective) -> Result<Text, Memory>
     ensures { IfOk result (λ text. text ≡ directive_text directive.now) }
 {
     let mut text = String::new(alloc);

@@ -75,7 +75,11 @@ fn answer_of(alloc: Global, text: &str) -> Result<Bytes, Fail> {
     executed(alloc, &schema, document)
 }
 
-fn executed(alloc: Global, schema: &Valid<Schema>, document: ExecutableDocument) -> Result<Bytes, Fail> {
+fn executed(
+    alloc: Global,
+    schema: &Valid<Schema>,
+    document: ExecutableDocument,
+) -> Result<Bytes, Fail> {
     if !document.fragments_acyclic(alloc)? {
         return Err(Fail::from("a fragment leads back to itself"));
     }
@@ -85,7 +89,14 @@ fn executed(alloc: Global, schema: &Valid<Schema>, document: ExecutableDocument)
     };
     let implementers = schema.as_ref().implementers_map(alloc)?;
     let variables = Valid::assume_valid(Map::new(alloc));
-    match partial_execute(alloc, schema, &implementers, &document, operation, &variables) {
+    match partial_execute(
+        alloc,
+        schema,
+        &implementers,
+        &document,
+        operation,
+        &variables,
+    ) {
         Ok(response) => Ok(response.to_bytes(alloc)?),
         Err(_) => Err(Fail::from("the query is refused")),
     }

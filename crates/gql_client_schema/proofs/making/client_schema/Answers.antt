@@ -1,5 +1,7 @@
+use Rattle.std.proofs.Common.{sym, subst}
+use Rattle.gql_client_schema.specs.ClientSchema.{ComesFor, IsRefused}
 use Rattle.gql_client_schema.proofs.OneConstant.{one_constant}
-use Rattle.gql_client_schema.proofs.Making.{made_is, refused_is, exact_is, read_exact}
+use Rattle.gql_client_schema.proofs.OneMaking.{made_is, refused_is, exact_is, read_refused, read_exact}
 use Rattle.gql_client_schema.proofs.making.client_schema.Goals as goal
 
 pub returns-in-Ok : goal.returns-in-Ok
@@ -17,15 +19,13 @@ returns-in-Ok c =
           c.made_of.result spells c.made_of.ensures fault cause;
     }
 
-pub returns-in-Err-Fault : goal.returns-in-Err-Fault
-returns-in-Err-Fault c =
+pub returns-in-Err : goal.returns-in-Err
+returns-in-Err c =
+    let bytes = c.args.answer.now in
     let texts = c.each_text_has_one_answer.ensures in
-    let broken = rw c.in-Err-Fault.field-0-is at c.in-Err-Fault.ensures.broken in
+    let broken = c.in-Err.ensures.broken in
     record {
       made = tt;
-      refused = broken;
-      exact = λ fault cause. read_exact texts.fault texts.not_both c.args.answer.now c.in-Err-Fault.fault broken fault cause;
+      refused = subst (IsRefused bytes) (sym c.unread.ensures) (read_refused bytes c.in-Err.refused broken);
+      exact = λ fault cause. subst (ComesFor fault) (sym c.unread.ensures) (read_exact texts.fault texts.not_both bytes c.in-Err.refused broken fault cause);
     }
-
-pub returns-in-Err-Memory : goal.returns-in-Err-Memory
-returns-in-Err-Memory c = record { made = tt; refused = tt; exact = λ fault cause. tt }

@@ -1,4 +1,4 @@
-use Rattle.gql_client_schema.proofs.Making.{of_shown}
+use Rattle.gql_client_schema.proofs.OneMaking.{of_shown}
 use Rattle.gql_client_schema.proofs.making.made_of.Goals as goal
 
 pub returns-in-Ok : goal.returns-in-Ok

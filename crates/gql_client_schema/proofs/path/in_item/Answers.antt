@@ -7,7 +7,7 @@ returns-in-Ok g c = λ m h. under_gives (item c.args.index) m c.in-Ok.found (rw 
 
 pub returns-in-Err-Fault : goal.returns-in-Err-Fault
 returns-in-Err-Fault g c =
-    λ m h. under_path (item c.args.index) m c.in-Err-Fault.path c.behind_item.result (rw c.in-Err-Fault.is at h) c.behind_item.ensures
+    λ m h. under_path (item c.args.index) m c.in-Err-Fault.path c.behind_item.result (rw (c.in-Err-Fault.is, c.in-Err-Fault.field-0-is) at h) c.behind_item.ensures
 
 pub returns-in-Err-Memory : goal.returns-in-Err-Memory
 returns-in-Err-Memory g c = λ m h. tt

@@ -5,7 +5,6 @@ use Rattle.gql_document_types.specs.Spreads.{AreAcyclic, TellsAcyclic}
 use Rattle.gql_document_types.specs.declared.document.ExecutableDocument.{ExecutableDocument}
 use Rattle.gql_document_types.specs.declared.fragment.Fragment.{Fragment}
 use Rattle.gql_document_types.specs.declared.operation.Operation.{Operation}
-use Rattle.gql_document_types.specs.ChosenOperation.{chosen}
 use Rattle.gql_exec.specs.Partial.{request_of_schema}
 use Rattle.gql_exec.specs.Thing.{Thing, of_user}
 use Rattle.gql_exec_fields.specs.Response.{IsExecuted}
@@ -48,18 +47,6 @@ module _ (schema : Schema) (document : ExecutableDocument) where
       (subst (λ (o : Operation). IsExecuted (request_of_schema schema document []) h.root (of_user schema tt) o.selection_set.selections one) operation h.executed))
       k.executed
 
-  -- there is none without an operation, and none where its root type is no object type
-  pub none_chosen : chosen None document.operations ≡ None → IsAnswerIn schema document None
-  none_chosen none response h = let both : Some h.operation ≡ None = sym h.is_only ∙ none in absurd cc
-
-  pub none_root : (operation : Operation) → chosen None document.operations ≡ Some operation → object_of schema operation.selection_set.ty.text ≡ None
-      → IsAnswerIn schema document None
-  none_root operation is none response h =
-      let same : operation ≡ h.operation = same_operation operation h.operation (sym is ∙ h.is_only) in
-      let both : Some h.root ≡ None =
-      sym h.is_root ∙ subst (λ (o : Operation). object_of schema o.selection_set.ty.text ≡ None) same none in
-      absurd cc
-
 module _ (law : DocumentsLaw) (schema : Schema) where
   one_query : (one other : ExecutableDocument) → IsQueryOn schema one → IsQueryOn schema other → one ≡ other
   one_query one other h k = one_built schema full_query law one other h.built k.built
@@ -82,18 +69,19 @@ module _ (law : DocumentsLaw) (schema : Schema) where
 
     pub again_iff : (document : ExecutableDocument) → IsQueryOn schema document → (response : ExecutionResponse) → IsAnsweredWith schema document response
         → (same : Bool) → (IsTrue same ↔ IsSame response given) → IsTrue same ↔ GivesAgain schema given
-    again_iff document query response answers same iff =
-        ((λ t. let s = iff.0 t in record {
-          document = document;
-          query = query;
-          response = response;
-          answers = answers;
-          no_errors = s.no_errors;
-          again = s.again;
-        }),
-        (λ g. iff.1 (same_response g
-        (one_answer schema document g.response response
-        (subst (λ (d : ExecutableDocument). IsAnsweredWith schema d g.response) (one_query g.document document g.query query) g.answers) answers))))
+    again_iff document query response answers same iff = (
+      (λ t. let s = iff.0 t in record {
+        document = document;
+        query = query;
+        response = response;
+        answers = answers;
+        no_errors = s.no_errors;
+        again = s.again;
+      }),
+      (λ g. iff.1 (same_response g
+          (one_answer schema document g.response response
+          (subst (λ (d : ExecutableDocument). IsAnsweredWith schema d g.response) (one_query g.document document g.query query) g.answers) answers))),
+    )
       where
         same_response : (g : GivesAgain schema given) → g.response ≡ response → IsSame response given
         same_response g is = record {

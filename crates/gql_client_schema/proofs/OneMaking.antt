@@ -4,7 +4,7 @@ use Rattle.jb_text.specs.declared.refused.Refused.{Refused}
 use Rattle.jb_text.specs.declared.refused.Refused.TheVariants as refused
 use Rattle.jb_tree.specs.declared.value.Value.{Value}
 use Rattle.jb_read.specs.Spelling.{JsonText}
-use Rattle.jb_read.specs.Faults.{JsonFault}
+use Rattle.jb_read.specs.Faults.{JsonFault, IsFaultOf}
 use Rattle.jb_read.specs.declared.fault.ReadFault.{ReadFault}
 use Rattle.gql_diag.specs.List.{Diagnostics}
 use Rattle.gql_parser.specs.SchemaFaults.{SchemaFaults}
@@ -12,7 +12,7 @@ use Rattle.gql_parser.specs.SchemaText.{SchemaText}
 use Rattle.gql_schema_types.specs.declared.schema.Schema.{Schema as SchemaOf}
 use Rattle.gql_sdl.specs.Schemas.{schema_text}
 use Rattle.gql_sdl.specs.declared.shown.ShownSchema.{ShownSchema}
-use Rattle.gql_client_schema.specs.ClientSchema.{AreWrong, ComesFor, HasCause, IsClientSchema, IsFaultOfShown, IsMade, IsMadeOf, IsMadeOfShown, IsOfShown, IsRefused, IsUnmade, Spells}
+use Rattle.gql_client_schema.specs.ClientSchema.{AreWrong, ComesFor, HasCause, IsClientSchema, IsFaultOfShown, IsMade, IsMadeOf, IsMadeOfShown, IsOfShown, IsRefused, IsUnmade, Spells, unread_as}
 use Rattle.gql_client_schema.specs.Parts.{read_answer}
 use Rattle.gql_client_schema.specs.Reading.{Gives, Breaks, Steps}
 use Rattle.gql_client_schema.specs.declared.making.ClientFault.{ClientFault}
@@ -90,8 +90,18 @@ module _ (constant : OneConstant) (none : NoFaults) (lists : OneList) (value : V
   exact_is one both bytes r spells h (Schema list) cause =
       schema_exact r h list (subst (λ (v : Value). AreWrong v list) (one bytes cause.value value cause.spells spells) cause.holds)
 
--- bytes that are no JSON text
-pub read_exact : OneFault → NotBoth → (bytes : List ℕ) (found : ReadFault) → JsonFault bytes found → (fault : ClientFault) → HasCause bytes fault → ComesFor fault (refused.Fault (Read found))
-read_exact one both bytes found broken (Read fault) cause = ap Read (one bytes fault found cause broken)
-read_exact one both bytes found broken (Shape path) cause = absurd (both bytes cause.value found cause.spells broken)
-read_exact one both bytes found broken (Schema list) cause = absurd (both bytes cause.value found cause.spells broken)
+-- ---- bytes that are no JSON text
+
+pub read_refused : (bytes : List ℕ) (e : Refused ReadFault) → IsFaultOf bytes e → IsRefused bytes (unread_as e)
+read_refused bytes (refused.Fault found) broken = broken
+read_refused bytes refused.Memory broken = tt
+
+module _ (one : OneFault) (both : NotBoth) (bytes : List ℕ) where
+  fault_exact : (found : ReadFault) → JsonFault bytes found → (fault : ClientFault) → HasCause bytes fault → ComesFor fault (refused.Fault (Read found))
+  fault_exact found broken (Read fault) cause = ap Read (one bytes fault found cause broken)
+  fault_exact found broken (Shape path) cause = absurd (both bytes cause.value found cause.spells broken)
+  fault_exact found broken (Schema list) cause = absurd (both bytes cause.value found cause.spells broken)
+
+  pub read_exact : (e : Refused ReadFault) → IsFaultOf bytes e → (fault : ClientFault) → HasCause bytes fault → ComesFor fault (unread_as e)
+  read_exact (refused.Fault found) broken fault cause = fault_exact found broken fault cause
+  read_exact refused.Memory broken fault cause = tt

@@ -1,0 +1,15 @@
+use Rattle.std.specs.Option.{option_copied}
+use Rattle.gql_client_schema.proofs.OneAnswer.{no_answer, again_iff}
+use Rattle.gql_client_schema.proofs.again.answered_again.Goals as goal
+
+pub returns-in-Some : goal.returns-in-Some
+returns-in-Some c =
+    again_iff c.texts_have_one_document.ensures.document c.args.schema.now (option_copied c.args.given) c.args.document c.requires c.in-Some.response
+    (rw (c.in-Some.is, c.assume_valid-document.ensures) at c.in_ok-response.ensures) c.is_same.result c.is_same.ensures
+
+pub returns : goal.returns
+returns c = (
+  (λ t. absurd t),
+  (λ g. absurd (no_answer c.texts_have_one_document.ensures.document c.args.schema.now (option_copied c.args.given) c.args.document c.requires
+      (rw (c.in-None.is, c.assume_valid-document.ensures) at c.in_ok-response.ensures) g)),
+)
