@@ -20,6 +20,8 @@ use Rattle.gql_sdl.specs.Schemas.{line_unless, is_directive_name, is_built_in, d
 use Rattle.gql_sdl.specs.declared.shown.ShownDirective.{ShownDirective}
 use Rattle.gql_sdl.specs.declared.shown.ShownSchema.{ShownSchema}
 use Rattle.gql_sdl.specs.declared.shown.ShownType.{ShownType}
+use Rattle.gql_parser.specs.Diagnosed.{diagnostic}
+use Rattle.gql_parser.specs.SchemaText.{its_given}
 use Rattle.gql_parser.specs.SchemaFaults.{SchemaFaults, no_sentence, no_build, broken}
 use Rattle.gql_client_schema.specs.ClientSchema.{HasCause, IsClientSchema}
 use Rattle.gql_client_schema.specs.Program.{EndsLine, item_report, list_reports, read_text, shape_text, refusal_of}
@@ -126,14 +128,14 @@ no_items [] h = refl
 no_items (x ∷ xs) h = absurd (omega (arith, h))
 
 some_reports : (list : Diagnostics) (faults : List DiagnosticData) → (faults ≡ [] → ⊥) → IsPermutation faults list.items → EndsLine (list_reports list)
-some_reports list faults some permutes = by_items list.items refl
+some_reports list faults nonempty permutes = by_items list.items refl
   where
     by_items : (items : List DiagnosticData) → list.items ≡ items → EndsLine (list_reports list)
-    by_items [] is = absurd (some (no_items faults (length_permutation faults list.items permutes ∙ ap length is)))
+    by_items [] is = absurd (nonempty (no_items faults (sym (length_permutation faults list.items permutes) ∙ ap length is)))
     by_items (first ∷ rest) is = reports_end list first rest is
 
 faults_end : (text : List ℕ) (list : Diagnostics) → SchemaFaults text list → EndsLine (list_reports list)
-faults_end text list (no_sentence error stops) = reports_end _ _ [] refl
+faults_end text list (no_sentence error stops) = reports_end list (diagnostic (its_given text).file error) [] refl
 faults_end text list (no_build told taken definitions is) = some_reports list _ is.some is.items.permutation
 faults_end text list (broken told taken faults definitions builds are is) = some_reports list _ is.some is.items.permutation
 
