@@ -1,0 +1,12 @@
+pub mod Decides
+pub mod Facts
+pub mod Identical
+pub mod Judge
+pub mod Keyed
+pub mod Monotone
+pub mod Parts
+pub mod Paths
+pub mod Places
+pub mod Portions
+pub mod Shown
+pub mod Worst
