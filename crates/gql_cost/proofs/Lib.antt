@@ -1,0 +1,7 @@
+mod Chosen
+mod Exact
+mod Bounded
+mod Costs
+mod Calls
+mod Lines
+mod TwoWords

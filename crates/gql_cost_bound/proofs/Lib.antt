@@ -1,0 +1,18 @@
+mod Alls
+pub mod Standing
+mod Collected
+mod Sizes
+mod Bound
+mod Sums
+mod Groups
+mod Rooms
+mod Fixed
+pub mod Costs
+pub mod Evens
+mod Caps
+mod Selections
+mod Walks
+mod Sized
+mod Calls
+mod Whole
+mod SmallQueries
