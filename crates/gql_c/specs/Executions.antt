@@ -1,5 +1,5 @@
 -- What comes of a request: sections 6 and 7 of GraphQL October 2021.
-use Rattle.std.specs.Prelude.{◌≡◌, ℕ, Bool, List, [], Option, Some, None, Result, Ok, Err, box_value}
+use Rattle.std.specs.Prelude.{◌≡◌, ℕ, Bool, List, [], Option, Some, Result, Ok, Err, box_value}
 use Rattle.std.specs.Arc.{arc_value}
 use Rattle.gql_resolvers.specs.Data.{Data as DataOf}
 use Rattle.gql_resolvers.specs.DataMeaning.{data_meaning}
@@ -12,7 +12,7 @@ use Rattle.gql_engine.specs.declared.answer_error.AnswerError.{AnswerError}
 use Rattle.gql_c.specs.Replies.{HoldsReply}
 use Rattle.gql_c.specs.Requests.{IsNameRead, IsNoName, is_introspected, name_given, variables_given}
 use Rattle.gql_c.specs.declared.held.Held.{Held}
-use Rattle.gql_c.specs.declared.held.Held.TheVariants.{Schema, Query, Data, Reply}
+use Rattle.gql_c.specs.declared.held.Held.TheVariants.{Query, Data}
 use Rattle.gql_c.specs.declared.outcome.Outcome.{Outcome}
 use Rattle.gql_c.specs.declared.outcome.Outcome.TheVariants.{Answered, Refused, NoMemory, WrongHandle, Unread}
 

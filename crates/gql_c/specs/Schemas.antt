@@ -1,5 +1,5 @@
 -- What comes of the text of a schema: sections 2 and 3 of GraphQL October 2021.
-use Rattle.std.specs.Prelude.{◌≡◌, ℕ, List, Err, box_value}
+use Rattle.std.specs.Prelude.{ℕ, List, Err, box_value}
 use Rattle.std.specs.Arc.{arc_value}
 use Rattle.std.specs.Str.{IsUtf8}
 use Rattle.jb_text.specs.declared.refused.Refused.TheVariants.{Fault}

@@ -1,4 +1,3 @@
-use Rattle.std.proofs.Common.{rules}
 use Rattle.gql_c.specs.Checks.{no_schema}
 use Rattle.gql_c.proofs.check.check_bytes.Goals as goal
 

@@ -1,4 +1,3 @@
-use Rattle.std.proofs.Common.{rules}
 use Rattle.gql_engine.specs.Reports.{reports_of}
 use Rattle.gql_engine.specs.declared.answer_error.AnswerError.TheVariants.{Document}
 use Rattle.gql_c.specs.Checks.{of_query}

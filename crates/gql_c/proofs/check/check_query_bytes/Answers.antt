@@ -1,4 +1,3 @@
-use Rattle.std.proofs.Common.{rules}
 use Rattle.gql_c.specs.Checks.{texts, no_query}
 use Rattle.gql_c.proofs.check.check_query_bytes.Goals as goal
 

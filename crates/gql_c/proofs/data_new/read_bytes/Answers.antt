@@ -1,4 +1,3 @@
-use Rattle.std.proofs.Common.{rules}
 use Rattle.gql_c.specs.Data.{broken}
 use Rattle.gql_c.proofs.data_new.read_bytes.Goals as goal
 

@@ -1,4 +1,4 @@
-use Rattle.std.proofs.Common.{rules, refl}
+use Rattle.std.proofs.Common.{refl}
 use Rattle.std.specs.Prelude.{Err}
 use Rattle.gql_engine.specs.declared.answer_error.AnswerError.TheVariants.{Memory}
 use Rattle.gql_c.proofs.execute.execute.Goals as goal

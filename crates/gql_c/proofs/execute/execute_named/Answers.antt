@@ -1,4 +1,3 @@
-use Rattle.std.proofs.Common.{rules}
 use Rattle.gql_c.specs.Executions.{executed, unread}
 use Rattle.gql_c.proofs.execute.execute_named.Goals as goal
 

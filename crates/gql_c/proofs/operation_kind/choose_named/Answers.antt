@@ -1,4 +1,3 @@
-use Rattle.std.proofs.Common.{rules}
 use Rattle.gql_c.specs.Kinds.{found, unread}
 use Rattle.gql_c.proofs.operation_kind.choose_named.Goals as goal
 

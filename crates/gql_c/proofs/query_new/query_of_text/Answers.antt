@@ -1,4 +1,3 @@
-use Rattle.std.proofs.Common.{rules}
 use Rattle.std.specs.Arc.{arc_value}
 use Rattle.gql_engine.specs.declared.answer_error.AnswerError.TheVariants.{Document}
 use Rattle.gql_c.specs.Queries.{HoldsQuery, IsNoQuery}

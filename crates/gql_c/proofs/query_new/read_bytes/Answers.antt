@@ -1,4 +1,3 @@
-use Rattle.std.proofs.Common.{rules}
 use Rattle.gql_c.specs.Queries.{text, no_text}
 use Rattle.gql_c.proofs.query_new.read_bytes.Goals as goal
 

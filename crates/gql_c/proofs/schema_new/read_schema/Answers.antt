@@ -1,4 +1,3 @@
-use Rattle.std.proofs.Common.{rules}
 use Rattle.gql_c.specs.Schemas.{text, no_text}
 use Rattle.gql_c.proofs.schema_new.read_schema.Goals as goal
 

@@ -1,4 +1,3 @@
-use Rattle.std.proofs.Common.{rules}
 use Rattle.gql_engine.specs.declared.answer_error.AnswerError.TheVariants.{Schema}
 use Rattle.gql_c.specs.Schemas.{HoldsSchema, IsNoSchema}
 use Rattle.gql_c.proofs.Refusals.{refusal_reads}

@@ -1,4 +1,4 @@
-use Rattle.std.proofs.Common.{rules, ◌≡◌, ℕ, List, sym, subst}
+use Rattle.std.proofs.Common.{subst}
 use Rattle.gql_document_types.specs.ChosenOperation.{text_of}
 use Rattle.gql_engine.specs.AtHand.{TwoTexts}
 use Rattle.gql_c.specs.Executions.{GivesOver, call_to}

@@ -1,5 +1,5 @@
 -- A text means one schema at most, so the document is over each that it means.
-use Rattle.std.proofs.Common.{rules, ◌≡◌, ℕ, List, sym, subst}
+use Rattle.std.proofs.Common.{◌≡◌, ℕ, List, sym, subst}
 use Rattle.gql_document_types.specs.declared.document.ExecutableDocument.{ExecutableDocument}
 use Rattle.gql_parser.specs.DocumentText.{DocumentText}
 use Rattle.gql_schema_types.specs.declared.schema.Schema.{Schema}
