@@ -61,7 +61,7 @@ impl Query {
             Ok(document) => Ok(Query {
                 service: Arc::try_clone(service)?,
                 text: Text::from_str(alloc, text)?,
-                document: Valid::assume_valid(document),
+                document,
             }),
             Err(Refused::Fault(list)) => Err(Refused::Fault(list)),
             Err(Refused::Memory) => Err(Refused::Memory),
@@ -93,7 +93,6 @@ impl Query {
             variables,
             introspection,
         };
-        self.service
-            .answer_uncounted(alloc, &question, &DataObject::root(members))
+        self.service.answer_document(alloc, &self.document, &question, &DataObject::root(members))
     }
 }

@@ -25,13 +25,12 @@ const FILE_NUMBER: u64 = 4;
 /// 2021, sections 4 and 6). `Err` only when out of memory.
 pub(crate) fn gives_again(
     alloc: Global,
-    schema: Schema,
+    schema: Valid<Schema>,
     given: Option<&Value>,
 ) -> Result<bool, Memory>
     ensures { IfOk result (λ again. IsTrue again ↔ spec.GivesAgain schema (option_copied given.entry)) }
 {
     tree_laws::texts_have_one_document();
-    let schema = Valid::assume_valid(schema);
     match query_on(alloc, &schema)? {
         Some(document) => answered_again(alloc, &schema, document, given),
         None => Ok(false),

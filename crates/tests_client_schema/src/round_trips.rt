@@ -68,22 +68,20 @@ fn answer_of(alloc: Global, text: &str) -> Result<Bytes, Fail> {
     let Ok(schema) = schema_of_text(alloc, text) else {
         return Err(Fail::from("the schema is wrong"));
     };
-    let schema = Valid::assume_valid(schema);
     let Ok(document) = document_of_text(alloc, &schema, FULL_QUERY) else {
         return Err(Fail::from("the query is wrong"));
     };
-    executed(alloc, &schema, document)
+    executed(alloc, &schema, &document)
 }
 
 fn executed(
     alloc: Global,
     schema: &Valid<Schema>,
-    document: ExecutableDocument,
+    document: &Valid<ExecutableDocument>,
 ) -> Result<Bytes, Fail> {
-    if !document.fragments_acyclic(alloc)? {
+    if !document.as_ref().fragments_acyclic(alloc)? {
         return Err(Fail::from("a fragment leads back to itself"));
     }
-    let document = Valid::assume_valid(document);
     let Ok(operation) = document.as_ref().operations_get(alloc, None) else {
         return Err(Fail::from("there is no operation"));
     };
@@ -93,7 +91,7 @@ fn executed(
         alloc,
         schema,
         &implementers,
-        &document,
+        document,
         operation,
         &variables,
     ) {

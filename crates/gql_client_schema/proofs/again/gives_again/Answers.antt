@@ -6,5 +6,5 @@ pub returns : goal.returns
 returns c = (
   (λ t. absurd (cc)),
   (λ g. absurd (no_query c.texts_have_one_document.ensures.document c.args.schema (option_copied c.args.given)
-      (rw (c.in-None.is, c.assume_valid-schema.ensures) at c.in_ok-document.ensures) g)),
+      (rw c.in-None.is at c.in_ok-document.ensures) g)),
 )
