@@ -33,7 +33,7 @@ const ROWS: [Row; 5] = [
     },
     Row {
         input: ANSWER,
-        output: "Error: cannot find type `M` in this document\nschema.graphql:1:34: here\n\
+        output: "Error: cannot find type `M` in this document\nschema.graphql:1:33: here\n\
             Error: cannot find type `I` in this document\nschema.graphql:3:23: here\n\
             Error: cannot find type `M` in this document\nschema.graphql:7:15: here\n",
     },
@@ -60,6 +60,6 @@ fn words_are_refused(rt: HostRuntime) -> Result<(), Fail> {
     let mut sink = SureSink::new(alloc, 64)?;
     let status = run_client_schema(alloc, &[word], &mut source, &mut sink);
     assert_eq!(rt; status, MISUSED);
-    assert!(rt; sink.written() == b"usage: gql_client_schema\n");
+    assert!(rt; sink.written() == b"usage: gql_client_schema\n".as_slice());
     Ok(())
 }
