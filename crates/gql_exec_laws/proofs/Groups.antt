@@ -118,7 +118,7 @@ module _ (fragments : List Fragment) where
     abbrev t : Setting
     t = record { fragments = others; schema = schema; object = object; variables = variables }
 
-    flat-with : (xs : List Selection) → flat t (expanded fragments xs) ≡ with_fields (flat s xs)
+    pub flat-with : (xs : List Selection) → flat t (expanded fragments xs) ≡ with_fields (flat s xs)
     flat-with xs =
         flat-more t order ordered (enough s xs) (expanded fragments xs)
         ∙ flat-agrees fragments others schema object variables have (enough s xs + enough t (expanded fragments xs)) xs

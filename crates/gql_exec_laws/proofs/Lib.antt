@@ -1,7 +1,7 @@
 mod Flats
-mod Groups
-mod Runs
-mod Steady
+pub mod Groups
+pub mod Runs
+pub mod Steady
 -- Equations, one selection after the other.
 pub mod Collected
 pub mod Deep

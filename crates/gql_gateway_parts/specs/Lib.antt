@@ -1,0 +1,10 @@
+pub mod Concrete
+pub mod Part
+pub mod Pure
+pub mod Remote
+pub mod Joined
+pub mod KeysSeen
+pub mod Sides
+pub mod Joining
+pub mod Divided
+pub mod Whole
