@@ -1,5 +1,7 @@
 //! Schemas that are introspected, read back and introspected again.
 
+ghost use Rattle.gql_document_types.specs.Spreads.{AreAcyclic};
+
 use bytes::Bytes;
 use gql_client_schema::{FULL_QUERY, client_schema};
 use gql_document_types::ExecutableDocument;
@@ -78,10 +80,9 @@ fn executed(
     alloc: Global,
     schema: &Valid<Schema>,
     document: &Valid<ExecutableDocument>,
-) -> Result<Bytes, Fail> {
-    if !document.as_ref().fragments_acyclic(alloc)? {
-        return Err(Fail::from("a fragment leads back to itself"));
-    }
+) -> Result<Bytes, Fail>
+    requires { AreAcyclic document.now.fragments }
+{
     let Ok(operation) = document.as_ref().operations_get(alloc, None) else {
         return Err(Fail::from("there is no operation"));
     };
