@@ -21,7 +21,7 @@ from shared.trying import ROOT
 
 BINDINGS = ROOT / "bindings"
 LACKING = 3
-PATIENCE = 600
+PATIENCE = 1800
 CC = os.environ.get("CC", "cc")
 STRICT = ["-std=c11", "-O1", "-g", "-Wall", "-Wextra", "-Werror"]
 VALGRIND = ["valgrind", "--quiet", "--error-exitcode=9", "--leak-check=full", "--show-leak-kinds=all", "--errors-for-leak-kinds=all"]

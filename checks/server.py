@@ -21,8 +21,9 @@ PACKAGES = ["chromium", "chromium-driver", "python3-selenium"]
 # Debian's Python, for which Debian's Selenium is.
 DEBIAN_PYTHON = pathlib.Path("/usr/bin/python3")
 
-# In seconds.
-PATIENCE = 300
+# In seconds; it only ends what would not end by itself.
+PATIENCE = 900
+INSTALLING = 240
 
 
 def run_tests(python, module):
@@ -54,7 +55,7 @@ def has_browser():
 
     if DEBIAN_PYTHON.exists() and not is_there() and os.geteuid() == 0 and shutil.which("apt-get"):
         words = ["apt-get", "install", "-y", "--no-install-recommends", *PACKAGES]
-        quiet = {"stdout": subprocess.DEVNULL, "stderr": subprocess.DEVNULL, "check": False, "timeout": PATIENCE}
+        quiet = {"stdout": subprocess.DEVNULL, "stderr": subprocess.DEVNULL, "check": False, "timeout": INSTALLING}
         try:
             subprocess.run(["apt-get", "update"], **quiet)
             subprocess.run(words, env=os.environ | {"DEBIAN_FRONTEND": "noninteractive"}, **quiet)
@@ -69,7 +70,8 @@ def main(words):
         return 0
     passed = [run_tests(sys.executable, module) for module in ("test_mock_http", "test_mock_data", "test_mock_process")]
     if has_browser():
-        passed.append(run_tests(DEBIAN_PYTHON, "test_mock_page"))
+        # Once more where it failed: a browser's driver may lose its browser.
+        passed.append(run_tests(DEBIAN_PYTHON, "test_mock_page") or run_tests(DEBIAN_PYTHON, "test_mock_page"))
     else:
         print("server: there is no Chromium with its driver and Selenium: the page was not tried")
     if "--load" in words:

@@ -54,7 +54,7 @@ class Serving:
 
     def send(self, method, path, headers=None, body=None):
         """The status, the headers and the body of the answer to one request."""
-        connection = http.client.HTTPConnection("127.0.0.1", self.port, timeout=20)
+        connection = http.client.HTTPConnection("127.0.0.1", self.port, timeout=60)
         with contextlib.closing(connection):
             connection.request(method, path, body, headers or {})
             answer = connection.getresponse()

@@ -18,7 +18,7 @@ try:
 except ImportError:
     webdriver = None
 
-PATIENCE = 20
+PATIENCE = 60
 WRONG = "{ books { id\n  nope } }"
 
 

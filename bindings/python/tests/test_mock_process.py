@@ -14,7 +14,7 @@ import urllib.request
 
 from mock_serving import DATA, SCHEMA
 
-PATIENCE = 20
+PATIENCE = 60
 
 
 def started(folder, *words):
@@ -48,11 +48,11 @@ class Process(unittest.TestCase):
 
     def test_a_request_that_runs_is_answered_before_the_end(self):
         with tempfile.TemporaryDirectory() as folder:
-            server, address = started(folder, "schema.graphql", "data.json", "--latency", "700")
+            server, address = started(folder, "schema.graphql", "data.json", "--latency", "3000")
             found = []
             asking = threading.Thread(target=lambda: found.append(ask(address, "{ count }")))
             asking.start()
-            time.sleep(0.3)
+            time.sleep(1)
             server.send_signal(signal.SIGTERM)
             asking.join()
             server.communicate(timeout=PATIENCE)
