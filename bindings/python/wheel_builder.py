@@ -29,7 +29,8 @@ Tag: {TAG}
 
 def files():
     """What the wheel holds, by name."""
-    held = {path.relative_to(HERE).as_posix(): path.read_bytes() for path in sorted((HERE / NAME).glob("*")) if path.is_file()}
+    found = [path for path in sorted((HERE / NAME).rglob("*")) if path.is_file() and "__pycache__" not in path.parts]
+    held = {path.relative_to(HERE).as_posix(): path.read_bytes() for path in found}
     if f"{NAME}/libgql.so" not in held:
         raise SystemExit("there is no libgql.so in the package: run bindings/build first")
     info = f"{NAME}-{VERSION}.dist-info"

@@ -54,8 +54,8 @@ def accepted(header):
     return chosen
 
 
-def whole_object(text, name):
-    """The object that is the JSON text of a parameter in an address. Raises a Fault (400) where it is none."""
+def json_of(text, name):
+    """What the JSON text of a parameter in an address spells. Raises a Fault (400) where it is none."""
     try:
         return json.loads(text)
     except (ValueError, RecursionError) as error:
@@ -67,7 +67,7 @@ def from_address(query_string):
     given = {name: values[-1] for name, values in parse_qs(query_string).items()}
     for name in ("variables", "extensions"):
         if name in given:
-            given[name] = whole_object(given[name], name)
+            given[name] = json_of(given[name], name)
     return given
 
 

@@ -112,7 +112,9 @@ class Handler(BaseHTTPRequestHandler):
         """The methods, and for pages of other origins what they may send."""
         headers = {"Allow": METHODS}
         if self.server.settings.origin:
-            headers |= {"Access-Control-Allow-Methods": METHODS, "Access-Control-Allow-Headers": "Content-Type", "Access-Control-Max-Age": "600"}
+            headers["Access-Control-Allow-Methods"] = METHODS
+            headers["Access-Control-Allow-Headers"] = "Content-Type"
+            headers["Access-Control-Max-Age"] = "600"
         self.answer(204, None, b"", headers)
 
     def other(self):

@@ -27,7 +27,9 @@ def stamp_of(path):
 
 
 def with_failures(members, failures):
-    """A copy of data where each member of one of these names fails with its text."""
+    """Data where each member of one of these names fails with its text: a copy, unless no name is to fail."""
+    if not failures:
+        return members
     if isinstance(members, list):
         return [with_failures(it, failures) for it in members]
     if not isinstance(members, dict):
