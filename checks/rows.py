@@ -1,6 +1,8 @@
 #!/usr/bin/env python3
-"""Runs the program on the worked requests of checks/rows.json, and compares its status and its output with each row. A row's
-words are `answer` where it names none."""
+"""Runs the program on the worked requests of checks/rows.json, and compares its status and its output with each row.
+
+A row's words are `answer` where it names none. Its input stands so often as `times` says, and has spaces behind it up to as many
+bytes as `padded` says."""
 import itertools
 import json
 import sys
@@ -12,11 +14,15 @@ def words(row):
     return row.get("words", "answer")
 
 
+def input_of(row):
+    return (row["input"] * row.get("times", 1)).encode().ljust(row.get("padded", 0))
+
+
 def main():
     rows = json.loads((ROOT / "checks" / "rows.json").read_text(encoding="utf-8"))
     statuses, as_wanted = {}, set()
     for said, group in itertools.groupby(sorted(rows, key=words), words):
-        cases = [(row["name"], (row["input"] * row.get("times", 1)).encode(), row["output"]) for row in group]
+        cases = [(row["name"], input_of(row), row["output"]) for row in group]
         found, right = try_cases("gql_program", said, cases)
         statuses |= found
         as_wanted |= right
