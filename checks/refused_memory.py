@@ -3,7 +3,8 @@
 nothing had been refused.
 
 The worked requests are answered and checked: errors and nulls, introspection that is refused, fragments that spread twice, a request
-with everything, and a document with faults. Needs a program that the gate has built, and a C compiler as `cc`; where one of them is
+with everything, and a document with faults. Some of the runs are done once more under valgrind, which sees that no memory is read that
+is not the program's, and that none is left. Needs a program that the gate has built, and a C compiler as `cc`; where one of them is
 missing, it says so and passes."""
 import json
 import os
@@ -18,34 +19,53 @@ from shared.trying import PATIENCE, ROOT, built
 # Where memory runs out, and where it runs out before the program has its words.
 NO_MEMORY, NO_WORDS = 3, 7
 
+# Every so many runs are watched. The functions of refusing.c stay in the place of the C library's then.
+STEP = 199
+WATCHED = ["valgrind", "--quiet", "--error-exitcode=9", "--leak-check=full", "--show-leak-kinds=all", "--errors-for-leak-kinds=all"]
+WATCHED += ["--soname-synonyms=somalloc=nouserintercepts"]
+
 NAMES = [
     "first",
     "a-failed-item-nulls-itself",
     "introspection-through-a-fragment-too-deep",
+    "introspection-too-deep",
     "thirty-fragments-that-spread-twice",
     "a-request-with-everything",
     "fields-that-are-not-defined",
 ]
 
 
-def run(path, words, text, library, counted, refused):
-    """The status and the output of the program that is refused the piece of this number, and how many pieces it asked for."""
-    counted.unlink(missing_ok=True)
-    told = {"LD_PRELOAD": str(library), "COUNTED": str(counted), "REFUSED": str(refused)}
-    made = subprocess.run([path, *words], input=text, capture_output=True, check=False, timeout=PATIENCE, env=os.environ | told)
-    asked = int(counted.read_text(encoding="ascii")) if counted.exists() else 0
-    return (made.returncode, made.stdout), asked
+class Refusing:
+    """The program, and a library that refuses it memory."""
 
+    def __init__(self, path, folder):
+        self.path, self.library, self.counted = path, folder / "refusing.so", folder / "counted"
+        source = ROOT / "checks" / "shared" / "refusing.c"
+        subprocess.run(["cc", "-O1", "-shared", "-fPIC", "-o", self.library, source, "-ldl"], check=True)
+        self.runs = self.watched = 0
 
-def refusals(path, words, text, library, counted):
-    """How many pieces were refused, and a line for each run that went wrong."""
-    whole, asked = run(path, words, text, library, counted, 0)
-    lines = []
-    for number in range(1, asked + 1):
-        made, _asked = run(path, words, text, library, counted, number)
-        if made not in (whole, (NO_MEMORY, b""), (NO_WORDS, b"")):
-            lines.append(f"{' '.join(words)}, piece {number} of {asked}: {made}")
-    return asked, lines
+    def run(self, words, text, refused, watching=()):
+        """The status and the output of the program that is refused the piece of this number, and how many pieces it asked for."""
+        self.counted.unlink(missing_ok=True)
+        told = {"LD_PRELOAD": str(self.library), "PROGRAM": self.path.name, "COUNTED": str(self.counted), "REFUSED": str(refused)}
+        command = [*watching, self.path, *words]
+        made = subprocess.run(command, input=text, capture_output=True, check=False, timeout=PATIENCE, env=os.environ | told)
+        asked = int(self.counted.read_text(encoding="ascii")) if self.counted.exists() else 0
+        return (made.returncode, made.stdout), asked
+
+    def refusals(self, words, text):
+        """A line for each run that went wrong, of those in which each piece is refused in turn."""
+        whole, asked = self.run(words, text, 0)
+        for number in range(1, asked + 1):
+            self.runs += 1
+            made, _asked = self.run(words, text, number)
+            if made not in (whole, (NO_MEMORY, b""), (NO_WORDS, b"")):
+                yield f"{' '.join(words)}, piece {number} of {asked}: {made}"
+            elif self.runs % STEP == 0 and shutil.which("valgrind"):
+                self.watched += 1
+                seen, _asked = self.run(words, text, number, WATCHED)
+                if seen != made:
+                    yield f"{' '.join(words)}, piece {number} of {asked}, under valgrind: {seen}"
 
 
 def main():
@@ -54,22 +74,14 @@ def main():
         print("refused_memory: there is no built program, or no C compiler: nothing was tried")
         return 0
     rows = {row["name"]: row["input"].encode() for row in json.loads((ROOT / "checks" / "rows.json").read_text(encoding="utf-8"))}
-    tried, lines = 0, []
     with tempfile.TemporaryDirectory() as folder:
-        library, counted = pathlib.Path(folder) / "refusing.so", pathlib.Path(folder) / "counted"
-        source = ROOT / "checks" / "shared" / "refusing.c"
-        subprocess.run(["cc", "-O1", "-shared", "-fPIC", "-o", library, source, "-ldl"], check=True)
-        for name in NAMES:
-            for word in ("answer", "check"):
-                asked, wrong = refusals(path, [word], rows[name], library, counted)
-                tried += asked
-                lines += [f"{name}: {line}" for line in wrong]
-        asked, wrong = refusals(path, ["selftest", "10"], b"", library, counted)
-        tried, lines = tried + asked, lines + wrong
+        refusing = Refusing(path, pathlib.Path(folder))
+        lines = [f"{name}: {line}" for name in NAMES for word in ("answer", "check") for line in refusing.refusals([word], rows[name])]
+        lines += refusing.refusals(["selftest", "10"], b"")
     for line in lines:
         print(f"refused_memory: {line}")
-    print(f"refused_memory: {tried - len(lines)} passed, {len(lines)} failed")
-    return 1 if lines or not tried else 0
+    print(f"refused_memory: {refusing.runs - len(lines)} passed, {len(lines)} failed; {refusing.watched} of them under valgrind too")
+    return 1 if lines or not refusing.runs else 0
 
 
 if __name__ == "__main__":
