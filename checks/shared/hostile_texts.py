@@ -37,6 +37,11 @@ def long_block(length):
     return request("type Query{f(a:String):Int}", '{f(a:"""' + line * (length // len(line)) + '""")}', data={"f": 1})
 
 
+def one_conflict(count):
+    """One scalar field under one key so often, and another once."""
+    return request("type Query{a:Int b:Int}", "{" + "x:a " * count + "x:b}")
+
+
 def many_operations(count):
     query = " ".join(f"query Q{number}{{f}}" for number in range(count))
     return request("type Query{f:Int}", query, operationName=f"Q{count - 1}", data={"f": 1})
@@ -106,6 +111,8 @@ def texts(count):
     yield "literal", long_literal(LITERAL * count // 100_000), [ANSWERED]
     yield "name", long_name(NAME), [ANSWERED]
     yield "block", long_block(BLOCK * count // 100_000), [ANSWERED]
+    # Each pair that conflicts is told, so there are fewer of these.
+    yield "conflict", one_conflict(count // 100), [REFUSED]
     yield "operations", many_operations(count // 10), [ANSWERED]
     yield "directives", many_directives(count // 10, " repeatable "), [ANSWERED]
     yield "repeated-directives", many_directives(count // 10, " "), [REFUSED]
