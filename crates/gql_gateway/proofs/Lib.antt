@@ -1,0 +1,6 @@
+mod Chosen
+mod Divisible
+mod Local
+mod Exact
+mod Calls
+mod Lines

@@ -1,0 +1,30 @@
+use Rattle.gql_engine.specs.AnswerError.{Asks, HasCause}
+use Rattle.gql_engine.specs.Service.{asked_of}
+use Rattle.jb_io.specs.Stream.{HasFailed}
+use Rattle.gql_gateway.specs.Joined.{Fits, IsTooLarge, LacksKey}
+use Rattle.gql_gateway.proofs.Calls.{call-answered, call-refused, engine-caused}
+use Rattle.gql_gateway.proofs.answering.answer_question.Goals as goal
+
+pub returns-in-Ok-clause-answered : goal.returns-in-Ok-clause-answered
+returns-in-Ok-clause-answered g c =
+    let call = asked_of c.args.schema.now c.args.question.now in
+    call-answered (g.R.Remote.tells c.args.remote.now) (HasFailed (g.R.Remote.faults c.args.remote.now) (g.R.Remote.faults c.answer_wanted.new.remote))
+    call c.in-Ok.variables c.in-Ok.ensures.read
+    (λ refusal cause. c.causes_exclude_one_another.ensures.lifted call c.in-Ok.variables refusal c.in-Ok.ensures.read cause)
+    c.answer_wanted.result c.answer_wanted.ensures.responds
+
+pub returns-in-Ok-clause-refused : goal.returns-in-Ok-clause-refused
+returns-in-Ok-clause-refused g c =
+    let call = asked_of c.args.schema.now c.args.question.now in
+    call-refused (g.R.Remote.tells c.args.remote.now) (HasFailed (g.R.Remote.faults c.args.remote.now) (g.R.Remote.faults c.answer_wanted.new.remote))
+    call c.in-Ok.variables c.in-Ok.ensures.read
+    (λ refusal cause. c.causes_exclude_one_another.ensures.lifted call c.in-Ok.variables refusal c.in-Ok.ensures.read cause)
+    c.answer_wanted.result c.answer_wanted.ensures.responds
+
+pub returns-in-Err-clause-refused : goal.returns-in-Err-clause-refused
+returns-in-Err-clause-refused g c =
+    let call = asked_of c.args.schema.now c.args.question.now in
+    let tells = g.R.Remote.tells c.args.remote.now in
+    let Failed : Type 0 = HasFailed (g.R.Remote.faults c.args.remote.now) (g.R.Remote.faults c.args.remote.now) in
+    engine-caused (HasCause call) (Asks call IsTooLarge) (Asks call Fits × Failed) (λ key. Asks call (λ wanted. LacksKey tells wanted key)) c.in-Err.refusal
+    (c.causes_exclude_one_another.ensures.unread call c.in-Err.refusal c.in-Err.ensures.refused) c.from.result c.from.ensures

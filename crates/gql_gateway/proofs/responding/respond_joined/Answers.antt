@@ -1,0 +1,21 @@
+use Rattle.std.proofs.Common.{ℕ, List, refl, subst}
+use Rattle.gql_engine.specs.Responding.{HasCauseOf}
+use Rattle.gql_engine.specs.Wanted.{Wanted, wanted_over}
+use Rattle.jb_io.specs.Stream.{HasFailed}
+use Rattle.gql_gateway.specs.Causes.{JoinsOrCause}
+use Rattle.gql_gateway.specs.Joined.{Fits, IsTooLarge, LacksKey}
+use Rattle.gql_gateway.proofs.Calls.{engine-caused}
+use Rattle.gql_gateway.proofs.responding.respond_joined.Goals as goal
+
+pub returns-in-Ok-clause-responds : goal.returns-in-Ok-clause-responds
+returns-in-Ok-clause-responds g c =
+    subst (λ (schema : List ℕ). JoinsOrCause (g.R.Remote.tells c.args.remote.now)
+    (HasFailed (g.R.Remote.faults c.args.remote.now) (g.R.Remote.faults c.respond_by.new.remote))
+    (wanted_over schema c.args.query.now c.args.wanted.now) c.respond_by.result) c.in-Ok.ensures.made.is c.respond_by.ensures.responds
+
+pub returns-in-Err-clause-responds : goal.returns-in-Err-clause-responds
+returns-in-Err-clause-responds g c =
+    let wanted = wanted_over c.args.schema.now c.args.query.now c.args.wanted.now in
+    let Failed : Type 0 = HasFailed (g.R.Remote.faults c.args.remote.now) (g.R.Remote.faults c.args.remote.now) in
+    engine-caused (HasCauseOf wanted) (IsTooLarge wanted) (Fits wanted × Failed) (LacksKey (g.R.Remote.tells c.args.remote.now) wanted)
+    c.in-Err.refusal (c.in-Err.ensures.refused wanted refl) c.from.result c.from.ensures
