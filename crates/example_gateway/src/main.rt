@@ -43,8 +43,8 @@ fn answer_all(rt: HostRuntime, data: &Value) -> io::Result<()> {
         return println!(rt; "the data is no JSON object");
     };
     let root = DataObject::root(data);
+    let mut books = LocalRemote::new(&root);
     for query in OF_BOOKS {
-        let mut books = LocalRemote::new(&root);
         print_answer(rt, ask(rt.alloc(), BOOKS, query, &mut books))?;
     }
     let mut loans = Loans::new();

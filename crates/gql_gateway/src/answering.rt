@@ -1,6 +1,6 @@
 //! Requests answered by a gateway.
 
-ghost use Rattle.std.specs.Prelude.{◌≡◌, ◌<◌, ◌≤◌, IfErr, IfOk};
+ghost use Rattle.std.specs.Prelude.{◌≡◌, ◌<◌, ◌≤◌, true, IfErr, IfOk};
 ghost use Rattle.gql_engine.specs.AnswerError.{Asks, call_of, wanted_with};
 ghost use Rattle.gql_engine.specs.Service.{asked_of};
 ghost use Rattle.gql_gateway.specs.Answering.{GivesJoined};
