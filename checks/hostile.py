@@ -10,7 +10,7 @@ import resource
 import subprocess
 import sys
 
-from shared.hostile_requests import ANSWERED, REFUSED, REQUESTS, changed, cut, fields, large, of_some_size
+from shared.hostile_requests import ANSWERED, REFUSED, REQUESTS, changed, cut, fields, large, many_fields, of_some_size
 from shared.hostile_texts import texts
 from shared.trying import PATIENCE, built, try_cases
 
@@ -53,10 +53,21 @@ def syntax_cases():
     yield "fields", ("{" + fields(100_000) + "}").encode(), [ANSWERED]
 
 
+def gateway_cases():
+    """The same of requests to a gateway: as many root fields as it takes, and one more."""
+    count = 100_000 if built("gql_gateway_program") else 10_000
+    yield "root-fields", many_fields(count), [ANSWERED]
+    yield "more-root-fields", many_fields(100_001), [REFUSED]
+
+
 def requests_failed(step):
     """How many requests passed, and a line for each that did not."""
     passed, lines = 0, []
-    programs = [("gql_program", "answer", list(engine_cases(step))), ("gql_syntax_program", "document", list(syntax_cases()))]
+    programs = [
+        ("gql_program", "answer", list(engine_cases(step))),
+        ("gql_syntax_program", "document", list(syntax_cases())),
+        ("gql_gateway_program", "", list(gateway_cases())),
+    ]
     for program, word, cases in programs:
         found, _as_wanted = try_cases(program, word, [(name, text, None) for name, text, _statuses in cases])
         for name, _text, wanted in cases:
