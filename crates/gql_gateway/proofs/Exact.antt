@@ -148,12 +148,12 @@ module _ (laws : EngineLaws) where
           exact-of (HasCause call) (IsValid call) (Asks call Fits) (Asks call IsTooLarge) (Asks call Fits × Failed)
           (λ key. Asks call (λ wanted. LacksKey tells wanted key)) fits-valid large-valid-call (λ it. it.0) lacks-fits-call calls-apart
           (λ e valid cause. laws.valid call e valid cause) (laws.calls call)
-          (λ bytes. Asks call (λ wanted. IsJoinedBy tells wanted bytes)) joined-fits result answered refused;
+          (λ (bytes : List ℕ). Asks call (λ wanted. IsJoinedBy tells wanted bytes)) joined-fits result answered refused;
       too_large =
           large-of (HasCause call) (IsValid call) (Asks call Fits) (Asks call IsTooLarge) (Asks call Fits × Failed)
           (λ key. Asks call (λ wanted. LacksKey tells wanted key)) fits-valid large-valid-call (λ it. it.0) lacks-fits-call calls-apart
           (λ e valid cause. laws.valid call e valid cause) (laws.calls call)
-          (λ bytes. Asks call (λ wanted. IsJoinedBy tells wanted bytes)) joined-fits result answered refused;
+          (λ (bytes : List ℕ). Asks call (λ wanted. IsJoinedBy tells wanted bytes)) joined-fits result answered refused;
       fitting =
           fitting-of (HasCause call) (IsValid call) (Asks call Fits) (Asks call IsTooLarge) (Asks call Fits × Failed)
           (λ key. Asks call (λ wanted. LacksKey tells wanted key)) fits-valid large-valid-call (λ it. it.0) lacks-fits-call calls-apart

@@ -114,6 +114,6 @@ fn the_operation_of_the_name_is_answered(rt: HostRuntime) -> Result<(), Fail> {
         Ok(response) => response,
         Err(refusal) => refusal.into_bytes(rt.alloc())?,
     };
-    assert!(rt; told.as_slice() == b"{\"data\":{\"a\":1}}");
+    assert!(rt; told.as_slice() == "{\"data\":{\"a\":1}}".as_bytes());
     Ok(())
 }
