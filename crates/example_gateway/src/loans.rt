@@ -7,6 +7,7 @@ use std::alloc::Global;
 
 /// A service that nobody reaches; it counts how often it was tried. One that is reached would be sent the operation here, and its
 /// response be read from bytes by [`ExecutionResponse::from_bytes`].
+#[derive(Drop)]
 pub(crate) struct Loans {
     failures: u64,
 }

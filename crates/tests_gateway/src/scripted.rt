@@ -7,6 +7,7 @@ use gql_gateway::{
 use std::alloc::Global;
 
 /// A remote with one response, or one that fails. It counts how often it was asked.
+#[derive(Drop)]
 pub(crate) struct Scripted {
     response: Option<&'static str>,
     pub(crate) asked: u64,
