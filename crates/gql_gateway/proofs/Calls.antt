@@ -1,5 +1,5 @@
 -- What a gateway makes of what stands below, and what a call gives by what is wanted with its variables.
-use Rattle.std.proofs.Common.{◌≡◌, ◌≢◌, ℕ, List, Result, Ok, Err, IfOk, IfErr, refl, sym, subst}
+use Rattle.std.proofs.Common.{◌≡◌, ℕ, List, Result, Ok, Err, IfOk, IfErr, sym, subst}
 use Rattle.jb_text.specs.declared.refused.Refused.{Refused}
 use Rattle.jb_text.specs.declared.refused.Refused.TheVariants as refused
 use Rattle.gql_ast_base.specs.Names.{Named}
@@ -20,13 +20,6 @@ use Rattle.gql_gateway.specs.declared.gateway_error.GatewayError.{GatewayError}
 use Rattle.gql_gateway.specs.declared.gateway_error.GatewayError.TheVariants.{Answer, TooLarge, Remote, MissingKey, Memory}
 
 -- ---- refusals of the engine
-
-pub told-otherwise : (refusal : AnswerError) → refusal ≢ error.Memory → Answer refusal ≡ of_answer refusal
-told-otherwise error.Memory not = absurd (not refl)
-told-otherwise (error.Variables why) not = refl
-told-otherwise (error.Schema list) not = refl
-told-otherwise (error.Document list) not = refl
-told-otherwise (error.Request kind told) not = refl
 
 module _ (Cause : AnswerError → Type 0) (Large Failed : Type 0) (Lacks : Named → Type 0) where
   of-engine : (refusal : AnswerError) → Cause refusal → CauseBy Cause Large Failed Lacks (of_answer refusal)

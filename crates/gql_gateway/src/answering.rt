@@ -60,14 +60,21 @@ pub fn gateway_answer<R: Remote>(
         variables,
         introspection: true,
     };
-    answer_alone::<R, Brand>(alloc, schema, &question, remote, Blank::new(1))
+    let call = Call { schema, question };
+    answer_alone::<R, Brand>(alloc, &call, remote, Blank::new(1))
+}
+
+/// The text of a schema, and what is asked of it.
+#[derive(Clone, Copy)]
+struct Call<'c> {
+    schema: &'c str,
+    question: Question<'c>,
 }
 
 /// The answer, with a counter of its own.
 fn answer_alone<R: Remote, L: Ledger>(
     alloc: Global,
-    schema: &str,
-    question: &Question<'_>,
+    call: &Call<'_>,
     remote: &mut R,
     blank: Blank,
 ) -> Result<Bytes, GatewayError>
@@ -75,33 +82,32 @@ fn answer_alone<R: Remote, L: Ledger>(
     requires parts { blank.parts ≡ L.parts }
     requires some { 0 < blank.parts }
     ensures answer { GivesJoined (R.tells remote.old) (HasFailed (R.faults remote.old) (R.faults remote.new))
-        (asked_of schema.now question.now) result }
+        (asked_of call.now.schema.now call.now.question) result }
     ensures later { R.faults remote.old ≤ R.faults remote.new }
     ensures unasked { IfErr result (λ refusal. IsBeforeAsking refusal → remote.new ≡ remote.old) }
 {
     engine_laws::causes_exclude_one_another();
     engine_laws::readiness_is_one();
     let mut steps = Steps::<L>::open(blank);
-    answer_question(alloc, schema, question, remote, &mut steps)
+    answer_question(alloc, call, remote, &mut steps)
 }
 
 /// The answer, or the first cause of a refusal.
 fn answer_question<R: Remote, L: Ledger>(
     alloc: Global,
-    schema: &str,
-    question: &Question<'_>,
+    call: &Call<'_>,
     remote: &mut R,
     steps: &mut Steps<L>,
 ) -> Result<Bytes, GatewayError>
-    ensures answered { IfOk result (λ bytes. Asks (asked_of schema.now question.now) (λ wanted. IsJoinedBy (R.tells remote.old) wanted bytes)) }
+    ensures answered { IfOk result (λ bytes. Asks (asked_of call.now.schema.now call.now.question) (λ wanted. IsJoinedBy (R.tells remote.old) wanted bytes)) }
     ensures refused { IfErr result (HasGatewayCause (R.tells remote.old) (HasFailed (R.faults remote.old) (R.faults remote.new))
-        (asked_of schema.now question.now)) }
+        (asked_of call.now.schema.now call.now.question)) }
     ensures later { R.faults remote.old ≤ R.faults remote.new }
     ensures unasked { IfErr result (λ refusal. IsBeforeAsking refusal → remote.new ≡ remote.old) }
 {
     engine_laws::causes_exclude_one_another();
-    match read_variables(alloc, question.variables) {
-        Ok(variables) => answer_wanted(alloc, schema, question, &variables, remote, steps),
+    match read_variables(alloc, call.question.variables) {
+        Ok(variables) => answer_wanted(alloc, call, &variables, remote, steps),
         Err(refusal) => Err(GatewayError::from(refusal)),
     }
 }
@@ -109,21 +115,27 @@ fn answer_question<R: Remote, L: Ledger>(
 /// The answer where the variables have these values.
 fn answer_wanted<R: Remote, L: Ledger>(
     alloc: Global,
-    schema: &str,
-    question: &Question<'_>,
+    call: &Call<'_>,
     variables: &Map,
     remote: &mut R,
     steps: &mut Steps<L>,
 ) -> Result<Bytes, GatewayError>
     ensures responds { JoinsOrCause (R.tells remote.old) (HasFailed (R.faults remote.old) (R.faults remote.new))
-        (wanted_with (asked_of schema.now question.now) variables.now) result }
+        (wanted_with (asked_of call.now.schema.now call.now.question) variables.now) result }
     ensures later { R.faults remote.old ≤ R.faults remote.new }
     ensures unasked { IfErr result (λ refusal. IsBeforeAsking refusal → remote.new ≡ remote.old) }
 {
     let wanted = Wanted {
-        operation_name: question.operation_name,
+        operation_name: call.question.operation_name,
         variables,
-        introspection: question.introspection,
+        introspection: call.question.introspection,
     };
-    respond_joined(alloc, schema, question.query, &wanted, remote, steps)
+    respond_joined(
+        alloc,
+        call.schema,
+        call.question.query,
+        &wanted,
+        remote,
+        steps,
+    )
 }

@@ -23,7 +23,9 @@ pub use answering::gateway_answer;
 pub use gateway_error::GatewayError;
 pub use gql_engine::executable::Operation;
 pub use gql_engine::response::JsonMap;
-pub use gql_engine::{AnswerError, DataObject, ExecutableDocument, ExecutionResponse, Schema, Valid};
+pub use gql_engine::{
+    AnswerError, DataObject, ExecutableDocument, ExecutionResponse, Schema, Valid,
+};
 pub use gql_gateway_parts::{
     DivideFault, Division, LocalRemote, MOST_SELECTIONS, Remote, RemoteError, RootKey,
     concrete_part, divide, join, root_keys,

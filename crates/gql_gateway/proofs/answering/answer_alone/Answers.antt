@@ -16,4 +16,4 @@ returns-clause-answer g c =
       members = c.readiness_is_one.ensures.members;
     } in
     gives-joined laws (g.R.Remote.tells c.args.remote.now) (HasFailed (g.R.Remote.faults c.args.remote.now) (g.R.Remote.faults c.answer_question.new.remote))
-    (asked_of c.args.schema.now c.args.question.now) c.answer_question.result c.answer_question.ensures.answered c.answer_question.ensures.refused
+    (asked_of c.args.call.now.schema.now c.args.call.now.question) c.answer_question.result c.answer_question.ensures.answered c.answer_question.ensures.refused

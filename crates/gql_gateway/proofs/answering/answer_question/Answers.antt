@@ -7,7 +7,7 @@ use Rattle.gql_gateway.proofs.answering.answer_question.Goals as goal
 
 pub returns-in-Ok-clause-answered : goal.returns-in-Ok-clause-answered
 returns-in-Ok-clause-answered g c =
-    let call = asked_of c.args.schema.now c.args.question.now in
+    let call = asked_of c.args.call.now.schema.now c.args.call.now.question in
     call-answered (g.R.Remote.tells c.args.remote.now) (HasFailed (g.R.Remote.faults c.args.remote.now) (g.R.Remote.faults c.answer_wanted.new.remote))
     call c.in-Ok.variables c.in-Ok.ensures.read
     (λ refusal cause. c.causes_exclude_one_another.ensures.lifted call c.in-Ok.variables refusal c.in-Ok.ensures.read cause)
@@ -15,7 +15,7 @@ returns-in-Ok-clause-answered g c =
 
 pub returns-in-Ok-clause-refused : goal.returns-in-Ok-clause-refused
 returns-in-Ok-clause-refused g c =
-    let call = asked_of c.args.schema.now c.args.question.now in
+    let call = asked_of c.args.call.now.schema.now c.args.call.now.question in
     call-refused (g.R.Remote.tells c.args.remote.now) (HasFailed (g.R.Remote.faults c.args.remote.now) (g.R.Remote.faults c.answer_wanted.new.remote))
     call c.in-Ok.variables c.in-Ok.ensures.read
     (λ refusal cause. c.causes_exclude_one_another.ensures.lifted call c.in-Ok.variables refusal c.in-Ok.ensures.read cause)
@@ -23,7 +23,7 @@ returns-in-Ok-clause-refused g c =
 
 pub returns-in-Err-clause-refused : goal.returns-in-Err-clause-refused
 returns-in-Err-clause-refused g c =
-    let call = asked_of c.args.schema.now c.args.question.now in
+    let call = asked_of c.args.call.now.schema.now c.args.call.now.question in
     let tells = g.R.Remote.tells c.args.remote.now in
     let Failed : Type 0 = HasFailed (g.R.Remote.faults c.args.remote.now) (g.R.Remote.faults c.args.remote.now) in
     engine-caused (HasCause call) (Asks call IsTooLarge) (Asks call Fits × Failed) (λ key. Asks call (λ wanted. LacksKey tells wanted key)) c.in-Err.refusal

@@ -18,8 +18,8 @@ divide-requires-clause-root g c =
     (c.roots_are_object_types.ensures.text wanted.schema ready.schema.now is.meant.is_schema)
     (c.valid_documents_run.ensures.roots ready.schema.now wanted.query ready.document.now is.meant.is_document) is.is_chosen
 
-pub returns-in-Ok-clause-responds : goal.returns-in-Ok-clause-responds
-returns-in-Ok-clause-responds g c = λ wanted before after is. record {
+pub returns-in_ok-to_bytes-in-Ok-clause-responds : goal.returns-in_ok-to_bytes-in-Ok-clause-responds
+returns-in_ok-to_bytes-in-Ok-clause-responds g c = λ wanted before after is. record {
   ready = ready_as is;
   response = c.in-Ok.response;
   divides = c.in-Ok.ensures.divides;
