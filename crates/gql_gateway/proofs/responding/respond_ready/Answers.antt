@@ -23,7 +23,7 @@ returns-in_ok-to_bytes-in-Ok-clause-responds g c = λ wanted before after is. re
   ready = ready_as is;
   response = c.in-Ok.response;
   divides = c.in-Ok.ensures.divides;
-  written = c.in_ok-to_bytes.ensures;
+  written = c.in_ok-to_bytes-in-Ok.ensures;
 }
 
 pub returns-in-Err-clause-responds : goal.returns-in-Err-clause-responds
