@@ -1,0 +1,4 @@
+pub mod Definitions
+pub mod Documents
+pub mod Schemas
+pub mod Syntax
