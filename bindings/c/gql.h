@@ -17,6 +17,10 @@
  *   - a handle may be moved but not copied: of two copies only one is used from then on. To have a value twice, use gql_share;
  *   - no call comes from a signal handler, nor from the forked child of a process with threads;
  *   - a thread that calls has 2 MB of stack (texts nested at their limits take that; threads of musl and of macOS have less unless told).
+ *
+ * Threads: a handle may go from one thread to another, whatever it holds. The caller orders that by a lock, by the start or the join of a
+ * thread, or by a sequentially consistent atomic. To use one value in several threads at once, each has a handle of its own by gql_share,
+ * which copies nothing: no call changes a schema, a query or data.
  */
 #ifndef GQL_H
 #define GQL_H
@@ -40,7 +44,8 @@ enum gql_status {
     GQL_REFUSED = 1,      /* The text or the request is refused: the reply tells why. */
     GQL_NO_MEMORY = 3,    /* Memory ran out. */
     GQL_WRONG_HANDLE = 8, /* A handle holds nothing, or another kind of value than the call takes. */
-    GQL_UNREAD = 9        /* Bytes are no UTF-8, or, as data, no JSON text of an object. */
+    GQL_UNREAD = 9,       /* Bytes are no UTF-8, or, as data, no JSON text of an object. */
+    GQL_TOO_COSTLY = 10   /* An operation costs more than the limit: the reply says so. */
 };
 
 /* Bits of `flags`. */
@@ -48,6 +53,13 @@ enum gql_flag {
     GQL_NAMED = 1,        /* The operation is the one of the name that is given; otherwise the only one. */
     GQL_INTROSPECTION = 2 /* `__schema` and `__type` are answered. */
 };
+
+/* How many nodes the data of a response may have (one for the data, and one for each value in them), where no list has more items than
+ * `items`. */
+typedef struct gql_limit {
+    uint32_t items;
+    uint32_t nodes;
+} gql_limit;
 
 /* Kinds of operations. */
 enum gql_kind { GQL_NO_OPERATION = 0, GQL_QUERY = 1, GQL_MUTATION = 2, GQL_SUBSCRIPTION = 3 };
@@ -75,6 +87,13 @@ uint32_t gql_execute(gql_handle *query, gql_handle *data, const uint8_t *name, s
 
 /* The kind of the operation that gql_execute would execute, into `kind`. REFUSED, and GQL_NO_OPERATION, where there is none. */
 uint32_t gql_operation_kind(gql_handle *query, const uint8_t *name, size_t name_length, uint32_t flags, uint32_t *kind);
+
+/* The cost of the operation that gql_execute would execute, into `cost`: how many nodes the data of its response can have at most, where
+ * no list has more items than the limit says. Nothing is executed. `cost` is 0, and `reply` is empty, unless it is said otherwise here.
+ * ANSWERED: `cost` is no more than `nodes` of the limit. TOO_COSTLY exactly where the cost is more: `reply` has a JSON object with the one
+ * error `cost above limit`. REFUSED: there is no such operation, and `reply` has a JSON object that says so. */
+uint32_t gql_operation_cost(gql_handle *query, const uint8_t *name, size_t name_length, uint32_t flags, const gql_limit *limit,
+                            uint32_t *cost, gql_handle *reply);
 
 /* What is wrong with the texts of a schema and of a query, for people. ANSWERED: nothing, and `reply` is empty. REFUSED: `reply` has
  * the reports of the first text that something is wrong with, a line for each place: `schema.graphql:2:9: here`. */

@@ -85,6 +85,28 @@ static void kinds(void) {
     gql_free(&both);
 }
 
+/* 1 for the data, and for each list itself and its items: the lists of books have as many as the limit says. */
+static void costs(void) {
+    uint32_t cost = 7;
+    gql_handle both = GQL_EMPTY, none = GQL_EMPTY;
+    gql_limit ten = {10, 22}, less = {10, 21}, most = {UINT32_MAX, UINT32_MAX};
+    CHECK(gql_query_new(&schema, TEXT("query Q { books { title } } mutation M { add(title: \"x\") { title } }"), &both, &reply) == GQL_ANSWERED);
+    CHECK(gql_operation_cost(&both, TEXT("Q"), GQL_NAMED, &ten, &cost, &reply) == GQL_ANSWERED && cost == 22 && is_empty(&reply));
+    CHECK(gql_operation_cost(&both, TEXT("M"), GQL_NAMED, &ten, &cost, &reply) == GQL_ANSWERED && cost == 3 && is_empty(&reply));
+    CHECK(gql_operation_cost(&query, NOTHING, 0, &most, &cost, &reply) == GQL_ANSWERED && cost == 4 && is_empty(&reply));
+    CHECK(gql_operation_cost(&both, TEXT("Q"), GQL_NAMED, &less, &cost, &reply) == GQL_TOO_COSTLY && cost == 0);
+    CHECK(says(&reply, "{\"errors\":[{\"message\":\"cost above limit\"}]}"));
+    CHECK(gql_operation_cost(&both, TEXT("Q"), GQL_NAMED, &most, &cost, &reply) == GQL_TOO_COSTLY && cost == 0 && !is_empty(&reply));
+    CHECK(gql_operation_cost(&both, NOTHING, 0, &ten, &cost, &reply) == GQL_REFUSED && cost == 0);
+    CHECK(says(&reply, "{\"errors\":[{\"message\":\"document has 2 operations and no name was given\"}]}"));
+    CHECK(gql_operation_cost(&both, TEXT("X"), GQL_NAMED, &ten, &cost, &reply) == GQL_REFUSED && cost == 0);
+    CHECK(says(&reply, "{\"errors\":[{\"message\":\"operation `X` is not defined\"}]}"));
+    CHECK(gql_operation_cost(&both, (const uint8_t *)"\xff", 1, GQL_NAMED, &ten, &cost, &reply) == GQL_UNREAD && cost == 0 && is_empty(&reply));
+    CHECK(gql_operation_cost(&none, NOTHING, 0, &ten, &cost, &reply) == GQL_WRONG_HANDLE && cost == 0 && is_empty(&reply));
+    CHECK(gql_operation_cost(&schema, NOTHING, 0, &ten, &cost, &reply) == GQL_WRONG_HANDLE && !is_empty(&schema));
+    gql_free(&both);
+}
+
 static void checks(void) {
     CHECK(gql_check(TEXT(BOOKS), TEXT(BOOK_QUERY), &reply) == GQL_ANSWERED && gql_reply_length(&reply) == 0);
     CHECK(gql_check(TEXT("type Query { a: Missing }"), TEXT("{ a }"), &reply) == GQL_REFUSED);
@@ -137,6 +159,7 @@ int main(void) {
     requests();
     introspection();
     kinds();
+    costs();
     checks();
     replies();
     lives();

@@ -42,7 +42,8 @@ static bool is_right(uint32_t status, uint32_t usual, bool has_all) {
 
 /* One request. */
 static void request(void) {
-    uint32_t kind = 7, statuses[8];
+    uint32_t kind = 7, cost = 7, statuses[10];
+    gql_limit wide = {10, 100}, narrow = {10, 1};
     statuses[0] = gql_schema_new(TEXT(BOOKS), &schema, &reply);
     CHECK(is_right(statuses[0], GQL_ANSWERED, true) && is_empty(&reply) && is_empty(&schema) == (statuses[0] != 0));
     statuses[1] = gql_query_new(&schema, TEXT(BOOK_QUERY), &query, &reply);
@@ -61,6 +62,10 @@ static void request(void) {
     CHECK(is_right(statuses[6], GQL_REFUSED, !is_empty(&query)) && kind == GQL_NO_OPERATION);
     statuses[7] = gql_check(TEXT(BOOKS), TEXT("{ nope }"), &reply);
     CHECK(is_right(statuses[7], GQL_REFUSED, true) && is_empty(&reply) == (statuses[7] != GQL_REFUSED));
+    statuses[8] = gql_operation_cost(&query, NOTHING, 0, &wide, &cost, &reply);
+    CHECK(is_right(statuses[8], GQL_ANSWERED, !is_empty(&query)) && is_empty(&reply) && cost == (statuses[8] == 0 ? 4 : 0));
+    statuses[9] = gql_operation_cost(&query, NOTHING, 0, &narrow, &cost, &reply);
+    CHECK(is_right(statuses[9], GQL_TOO_COSTLY, !is_empty(&query)) && is_empty(&reply) == (statuses[9] != GQL_TOO_COSTLY) && cost == 0);
     left = -1;
     gql_free(&schema);
     gql_free(&query);

@@ -1,8 +1,9 @@
-/* One schema, query and data in eight threads, by shares that are made before the threads start: each thread has handles of its own. */
+/* One schema, query and data in eight threads, by shares that are made before the threads start: each thread has handles of its own. And
+ * handles go from one thread to another: a query that one made is executed by the next, whose reply the main thread reads and lets go. */
 #include "check.h"
 #include <pthread.h>
 
-enum { THREADS = 8, TURNS = 300 };
+enum { THREADS = 8, TURNS = 300, PASSES = 50 };
 
 struct work {
     gql_handle schema, query, data;
@@ -27,10 +28,48 @@ static void *run(void *at) {
     return NULL;
 }
 
+/* What threads hand on: under the lock a handle is one thread's at a time. */
+static struct {
+    pthread_mutex_t lock;
+    gql_handle schema, query, data, reply;
+} passed = {PTHREAD_MUTEX_INITIALIZER, GQL_EMPTY, GQL_EMPTY, GQL_EMPTY, GQL_EMPTY};
+
+static void *pass(void *at) {
+    (void)at;
+    for (int turn = 0; turn < PASSES; turn++) {
+        pthread_mutex_lock(&passed.lock);
+        if (is_empty(&passed.schema)) {
+            CHECK(gql_schema_new(TEXT(BOOKS), &passed.schema, &passed.reply) == GQL_ANSWERED);
+        } else if (is_empty(&passed.query)) {
+            CHECK(gql_query_new(&passed.schema, TEXT(BOOK_QUERY), &passed.query, &passed.reply) == GQL_ANSWERED);
+            gql_free(&passed.schema);
+        } else if (is_empty(&passed.data)) {
+            CHECK(gql_data_new(TEXT(BOOK_DATA), &passed.data) == GQL_ANSWERED);
+        } else {
+            CHECK(gql_execute(&passed.query, &passed.data, NOTHING, TEXT(BOOK_TITLE), 0, &passed.reply) == GQL_ANSWERED);
+            gql_free(&passed.query);
+            gql_free(&passed.data);
+        }
+        CHECK(is_empty(&passed.reply) || says(&passed.reply, BOOK_ANSWER));
+        pthread_mutex_unlock(&passed.lock);
+    }
+    return NULL;
+}
+
+/* Runs a function in each thread, with each thread's own part of an array or with nothing. */
+static void in_threads(void *(*run)(void *), struct work *each) {
+    pthread_t threads[THREADS];
+    for (int number = 0; number < THREADS; number++) {
+        CHECK(pthread_create(&threads[number], NULL, run, each == NULL ? NULL : &each[number]) == 0);
+    }
+    for (int number = 0; number < THREADS; number++) {
+        CHECK(pthread_join(threads[number], NULL) == 0);
+    }
+}
+
 int main(void) {
     static struct work each[THREADS];
     gql_handle schema = GQL_EMPTY, query = GQL_EMPTY, data = GQL_EMPTY, reply = GQL_EMPTY;
-    pthread_t threads[THREADS];
     CHECK(gql_schema_new(TEXT(BOOKS), &schema, &reply) == GQL_ANSWERED);
     CHECK(gql_query_new(&schema, TEXT(BOOK_QUERY), &query, &reply) == GQL_ANSWERED);
     CHECK(gql_data_new(TEXT(BOOK_DATA), &data) == GQL_ANSWERED);
@@ -42,12 +81,12 @@ int main(void) {
     gql_free(&schema);
     gql_free(&query);
     gql_free(&data);
-    for (int number = 0; number < THREADS; number++) {
-        CHECK(pthread_create(&threads[number], NULL, run, &each[number]) == 0);
-    }
-    for (int number = 0; number < THREADS; number++) {
-        CHECK(pthread_join(threads[number], NULL) == 0);
-    }
+    in_threads(run, each);
+    in_threads(pass, NULL);
+    gql_free(&passed.schema);
+    gql_free(&passed.query);
+    gql_free(&passed.data);
+    gql_free(&passed.reply);
     puts("threads: ok");
     return 0;
 }

@@ -1,4 +1,5 @@
 pub mod Checks
+pub mod Costs
 pub mod Data
 pub mod Executions
 pub mod Handles

@@ -103,7 +103,7 @@ fn choose_named(alloc: Global, query: &Query, name: &[u8], flags: u32) -> Choice
 fn choose(alloc: Global, query: &Query, name: Option<&str>) -> Choice
     ensures { IsChosenIn query.now (text_of name.entry) result }
 {
-    match query.document().operations_get(alloc, name) {
+    match query.document().as_ref().operations_get(alloc, name) {
         Ok(operation) => Choice::Operation(operation.operation_type),
         Err(Refused::Fault(_)) => Choice::Nothing,
         Err(Refused::Memory) => Choice::NoMemory,

@@ -69,11 +69,11 @@ impl Query {
     }
 
     /// What the text means.
-    pub(crate) fn document(&self) -> &ExecutableDocument
+    pub(crate) fn document(&self) -> &Valid<ExecutableDocument>
         ensures { IsTextsDocument self.now result.now }
     {
         let _schema = self.service.schema();
-        self.document.as_ref()
+        &self.document
     }
 
     /// Answers an operation of the query over data (GraphQL October 2021, sections 6 and 7).

@@ -14,3 +14,6 @@ pub const WRONG_HANDLE: u32 = 8;
 
 /// Bytes are no UTF-8, or, as data, no JSON text of an object.
 pub const UNREAD: u32 = 9;
+
+/// The cost of an operation is above the limit: the reply says so.
+pub const TOO_COSTLY: u32 = 10;
