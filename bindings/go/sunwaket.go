@@ -70,7 +70,7 @@ func told(status C.uint32_t, reply *C.gql_handle) error {
 	switch status {
 	case C.GQL_ANSWERED:
 		return nil
-	case C.GQL_REFUSED:
+	case C.GQL_REFUSED, C.GQL_TOO_COSTLY:
 		return &Refused{take(reply)}
 	case C.GQL_NO_MEMORY:
 		return ErrMemory
@@ -131,4 +131,19 @@ func (q *Query) Execute(data *Data, variables []byte) ([]byte, error) {
 		return nil, err
 	}
 	return take(&reply), nil
+}
+
+// Cost is how many nodes the data of a response to the only operation can have at most, where no list has more than so many items. It is
+// known before anything is executed. What costs more than the limit is Refused.
+func (q *Query) Cost(items, limit uint32) (uint32, error) {
+	var reply C.gql_handle
+	var cost C.uint32_t
+	most := C.gql_limit{items: C.uint32_t(items), nodes: C.uint32_t(limit)}
+	q.lock.Lock()
+	status := C.gql_operation_cost(&q.handle, nil, 0, 0, &most, &cost, &reply)
+	q.lock.Unlock()
+	if err := told(status, &reply); err != nil {
+		return 0, err
+	}
+	return uint32(cost), nil
 }

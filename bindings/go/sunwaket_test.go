@@ -29,6 +29,12 @@ func TestFirstAnswer(t *testing.T) {
 	if _, err := schema.Query("{ nope }"); !errors.As(err, &refused) {
 		t.Fatal(err)
 	}
+	if cost, err := query.Cost(10, 100); err != nil || cost != 4 {
+		t.Fatal(err, cost)
+	}
+	if _, err := query.Cost(10, 3); !errors.As(err, &refused) {
+		t.Fatal(err)
+	}
 	if _, err := NewData([]byte("[]")); err != ErrUnread {
 		t.Fatal(err)
 	}

@@ -35,6 +35,7 @@ static const char *code_of(uint32_t status) {
         case GQL_REFUSED: return "GQL_REFUSED";
         case GQL_NO_MEMORY: return "GQL_NO_MEMORY";
         case GQL_WRONG_HANDLE: return "GQL_WRONG_HANDLE";
+        case GQL_TOO_COSTLY: return "GQL_TOO_COSTLY";
         default: return "GQL_UNREAD";
     }
 }
@@ -106,7 +107,7 @@ static napi_value error_of(napi_env env, uint32_t status, gql_handle *reply) {
     TRY(napi_create_string_utf8(env, name, NAPI_AUTO_LENGTH, &code));
     TRY(napi_create_string_utf8(env, name, NAPI_AUTO_LENGTH, &message));
     TRY(napi_create_error(env, code, message, &error));
-    if (status == GQL_REFUSED && reply != NULL) {
+    if ((status == GQL_REFUSED || status == GQL_TOO_COSTLY) && reply != NULL) {
         told = take(env, reply);
         if (told == NULL) {
             return NULL;
@@ -387,6 +388,32 @@ static napi_value operation_kind(napi_env env, napi_callback_info info) {
     return made;
 }
 
+/* operationCost(query, name, flags, items, nodes): the cost. */
+static napi_value operation_cost(napi_env env, napi_callback_info info) {
+    size_t count = 5;
+    napi_value arguments[5], made;
+    struct bytes name;
+    uint32_t flags, cost = 0;
+    gql_limit limit;
+    gql_handle reply = GQL_EMPTY;
+    TRY(napi_get_cb_info(env, info, &count, arguments, NULL, NULL));
+    struct value *query = unwrap(env, arguments[0]);
+    if (query == NULL || !bytes_of(env, arguments[1], &name)) {
+        return NULL;
+    }
+    TRY(napi_get_value_uint32(env, arguments[2], &flags));
+    TRY(napi_get_value_uint32(env, arguments[3], &limit.items));
+    TRY(napi_get_value_uint32(env, arguments[4], &limit.nodes));
+    pthread_mutex_lock(&query->lock);
+    uint32_t status = gql_operation_cost(&query->handle, name.at, name.length, flags, &limit, &cost, &reply);
+    pthread_mutex_unlock(&query->lock);
+    if (status != GQL_ANSWERED) {
+        return refuse(env, status, &reply);
+    }
+    TRY(napi_create_uint32(env, cost, &made));
+    return made;
+}
+
 /* check(schema, query): the reports; no bytes where nothing is wrong. */
 static napi_value check(napi_env env, napi_callback_info info) {
     size_t count = 2;
@@ -419,6 +446,7 @@ NAPI_MODULE_INIT() {
         {"execute", NULL, execute, NULL, NULL, NULL, napi_enumerable, NULL},
         {"executeAsync", NULL, execute_async, NULL, NULL, NULL, napi_enumerable, NULL},
         {"operationKind", NULL, operation_kind, NULL, NULL, NULL, napi_enumerable, NULL},
+        {"operationCost", NULL, operation_cost, NULL, NULL, NULL, napi_enumerable, NULL},
         {"check", NULL, check, NULL, NULL, NULL, napi_enumerable, NULL},
         {"version", NULL, version, NULL, NULL, NULL, napi_enumerable, NULL},
     };

@@ -42,6 +42,8 @@ export class SchemaRefused extends Refused {}
 export class QueryRefused extends Refused {}
 /** A request has no response: no such operation, a variable that is not coerced, or introspection that goes too deep. */
 export class RequestRefused extends Refused {}
+/** An operation costs more than the limit. */
+export class TooCostly extends RequestRefused {}
 
 declare class Value {
   /** The same value once more, for executions at the same time. It costs no copy. */
@@ -80,6 +82,11 @@ export class Query extends Value {
   executeSync(data?: Data | Json, options?: RequestOptions): Buffer;
   /** The kind of the operation of the name, or of the only one; null where there is none. */
   kind(operationName?: string | null): 'query' | 'mutation' | 'subscription' | null;
+  /**
+   * How many nodes the data of a response can have at most, where no list has more than `items` items: known before anything is
+   * executed. `TooCostly` where it is above `limit` (2^32-1 unless told), `RequestRefused` where there is no such operation.
+   */
+  cost(options: { items: number; limit?: number; operationName?: string | null }): number;
 }
 
 /** The JSON of the response to one request, all its texts at once. */

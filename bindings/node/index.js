@@ -26,12 +26,15 @@ class Refused extends Error {
 class SchemaRefused extends Refused {}
 class QueryRefused extends Refused {}
 class RequestRefused extends Refused {}
+class TooCostly extends RequestRefused {}
 
 // An error of the library as users are told it.
 function toldBy(error, Kind, unread) {
   switch (error.code) {
     case 'GQL_REFUSED':
       return new Kind(error.reply);
+    case 'GQL_TOO_COSTLY':
+      return new TooCostly(error.reply);
     case 'GQL_UNREAD':
       return new TypeError(unread);
     case 'GQL_WRONG_HANDLE':
@@ -89,6 +92,14 @@ class Schema extends Value {
   }
 }
 
+const MOST = 2 ** 32 - 1;
+
+// A number of a limit.
+function limitOf(value, name) {
+  if (!Number.isInteger(value) || value < 0 || value > MOST) throw new RangeError(`${name} is a whole number from 0 to 2^32-1`);
+  return value;
+}
+
 // The five arguments of an execution.
 function asked(query, data, options) {
   const { operationName, variables, introspection } = options;
@@ -123,6 +134,12 @@ class Query extends Value {
     const name = operationName == null ? NOTHING : Buffer.from(operationName);
     return KINDS[attempt(() => library.operationKind(this.held, name, operationName == null ? 0 : NAMED))];
   }
+
+  cost({ items, limit = MOST, operationName }) {
+    const name = operationName == null ? NOTHING : Buffer.from(operationName);
+    const asked = [this.held, name, operationName == null ? 0 : NAMED, limitOf(items, 'items'), limitOf(limit, 'limit')];
+    return attempt(() => library.operationCost(...asked), RequestRefused, 'the name of the operation is no UTF-8');
+  }
 }
 
 async function answer(schema, query, data, options) {
@@ -133,4 +150,4 @@ function check(schema, query) {
   return attempt(() => library.check(bytesOf(schema), bytesOf(query)), Refused, 'a text is no UTF-8').toString();
 }
 
-module.exports = { VERSION, Data, Query, QueryRefused, Refused, RequestRefused, Schema, SchemaRefused, answer, check };
+module.exports = { VERSION, Data, Query, QueryRefused, Refused, RequestRefused, Schema, SchemaRefused, TooCostly, answer, check };

@@ -3,7 +3,7 @@
 
 const assert = require('node:assert');
 const test = require('node:test');
-const { VERSION, Data, Query, QueryRefused, Refused, RequestRefused, Schema, SchemaRefused, answer, check } = require('..');
+const { VERSION, Data, Query, QueryRefused, Refused, RequestRefused, Schema, SchemaRefused, TooCostly, answer, check } = require('..');
 
 const BOOKS = 'type Query { book(title: String!): Book } type Mutation { add: Int } type Book { title: String! year: Int by: [String!] }';
 const QUERY = 'query ($title: String!) { book(title: $title) { title year } }';
@@ -33,6 +33,18 @@ test('operations by name, and their kinds', () => {
   const query = new Schema(BOOKS).query('query A { book(title: "a") { title } } mutation B { add }');
   assert.equal(query.executeSync({ add: 2 }, { operationName: 'B' }).toString(), '{"data":{"add":2}}');
   assert.deepEqual([query.kind('A'), query.kind('B'), query.kind('C'), query.kind()], ['query', 'mutation', null, null]);
+});
+
+test('costs, and limits of them', () => {
+  const query = new Schema('type Query { a: [A] } type A { x: Int }').query('query P { a { x } } query Q { a { x } }');
+  assert.equal(query.cost({ items: 10, operationName: 'P' }), 22);
+  assert.throws(() => query.cost({ items: 10, limit: 21, operationName: 'P' }), (error) => {
+    assert.ok(error instanceof TooCostly && error instanceof RequestRefused);
+    assert.equal(error.message, 'cost above limit');
+    return true;
+  });
+  assert.throws(() => query.cost({ items: 10 }), { name: 'RequestRefused', message: 'document has 2 operations and no name was given' });
+  for (const wrong of [{}, { items: -1 }, { items: 0.5 }, { items: 1, limit: 2 ** 32 }]) assert.throws(() => query.cost(wrong), RangeError);
 });
 
 test('introspection is off unless asked for', () => {

@@ -11,12 +11,12 @@ whatever its arguments; an object with a text member ``__error`` is a failure of
 type. Numbers are whole, from -2**63 to 2**64-1.
 
 What is refused raises :class:`Refused`, which carries the JSON that a client is to be told. ``MemoryError`` is raised when memory runs
-out. Each value has a lock, so that threads may use it; to work at the same time each takes a value of its own by ``share()``, which
-costs little.
+out. Each value has a lock, so any thread may use it, and one thread may make it, another use it and a third close it. To work at the
+same time each thread takes a value of its own by ``share()``, which copies nothing.
 """
 
 from ._api import VERSION, Data, Query, Schema, answer, check
-from ._errors import QueryRefused, Refused, RequestRefused, SchemaRefused
+from ._errors import QueryRefused, Refused, RequestRefused, SchemaRefused, TooCostly
 
 __all__ = [
     "VERSION",
@@ -27,6 +27,7 @@ __all__ = [
     "RequestRefused",
     "Schema",
     "SchemaRefused",
+    "TooCostly",
     "answer",
     "check",
 ]

@@ -5,11 +5,11 @@ from __future__ import annotations
 import ctypes
 import json
 import threading
-from ctypes import byref
+from ctypes import addressof, byref
 from typing import Any, Mapping, Optional, TypeVar, Union
 
 from . import _library as library
-from ._errors import QueryRefused, RequestRefused, SchemaRefused
+from ._errors import QueryRefused, RequestRefused, SchemaRefused, TooCostly
 
 #: The values of variables, and data: an object, or its JSON.
 Json = Union[Mapping[str, Any], str, bytes]
@@ -19,16 +19,21 @@ _number = library.version()
 #: The version of the library.
 VERSION = f"{_number >> 16}.{_number >> 8 & 255}.{_number & 255}"
 
+#: The most that a limit can say.
+MOST = 2**32 - 1
+
 _Self = TypeVar("_Self", bound="_Value")
+
+
+# One encoder for all: `json.dumps` would make one for each call.
+_encode = json.JSONEncoder(ensure_ascii=False, separators=(",", ":")).encode
 
 
 def _bytes_of(value: Json) -> bytes:
     """The JSON of an object."""
     if isinstance(value, bytes):
         return value
-    if isinstance(value, str):
-        return value.encode("utf-8")
-    return json.dumps(value, ensure_ascii=False, separators=(",", ":")).encode("utf-8")
+    return (value if isinstance(value, str) else _encode(value)).encode("utf-8")
 
 
 def _text_of(text: Union[str, bytes]) -> bytes:
@@ -56,10 +61,11 @@ def _refuse(status: int, why: str) -> Exception:
 class _Value:
     """A handle, and the lock that keeps it to one call at a time."""
 
-    __slots__ = ("_handle", "_lock", "__weakref__")
+    __slots__ = ("_at", "_handle", "_lock", "__weakref__")
 
     def __init__(self) -> None:
         self._handle = library.Handle()
+        self._at = addressof(self._handle)
         self._lock = threading.Lock()
 
     def share(self: _Self) -> _Self:
@@ -172,7 +178,7 @@ class Schema(_Value):
 class Query(_Value):
     """A query that :meth:`Schema.query` read and checked."""
 
-    __slots__ = ("_reply", "_room", "_view")
+    __slots__ = ("_reply", "_reply_at", "_room", "_room_at")
 
     # Replies up to so many bytes are copied by one call, into room that the query keeps.
     _ROOM = 4096
@@ -183,7 +189,7 @@ class Query(_Value):
     def _prepare(self) -> None:
         self._reply = library.Handle()
         self._room = ctypes.create_string_buffer(self._ROOM)
-        self._view = memoryview(self._room)
+        self._reply_at, self._room_at = addressof(self._reply), addressof(self._room)
 
     def _copy_into(self, other: _Value) -> None:
         assert isinstance(other, Query)
@@ -215,9 +221,7 @@ class Query(_Value):
         flags = (library.NAMED if operation_name is not None else 0) | (library.INTROSPECTION if introspection else 0)
         with self._lock:
             with root._lock:
-                status = library.execute(
-                    byref(self._handle), byref(root._handle), name, len(name), given, len(given), flags, byref(self._reply)
-                )
+                status = library.execute(self._at, root._at, name, len(name), given, len(given), flags, self._reply_at)
             told = self._told() if status in (library.ANSWERED, library.REFUSED) else b""
         if status == library.REFUSED:
             raise RequestRefused(told)
@@ -227,8 +231,8 @@ class Query(_Value):
 
     def _told(self) -> bytes:
         """The bytes of the reply."""
-        length = library.reply_copy(byref(self._reply), self._room, self._ROOM)
-        return self._view[:length].tobytes() if length <= self._ROOM else _take(self._reply)
+        length = library.reply_copy(self._reply_at, self._room_at, self._ROOM)
+        return self._room[:length] if length <= self._ROOM else _take(self._reply)
 
     def kind(self, operation_name: Optional[str] = None) -> Optional[str]:
         """``"query"``, ``"mutation"`` or ``"subscription"``: the kind of the operation of the name, or of the only one; else None.
@@ -244,6 +248,36 @@ class Query(_Value):
         if status not in (library.ANSWERED, library.REFUSED):
             raise _refuse(status, "the operation's name is no UTF-8")
         return library.KINDS.get(kind.value)
+
+    def cost(self, *, items: int, limit: int = MOST, operation_name: Optional[str] = None) -> int:
+        """How many nodes the data of a response can have at most, where no list has more than ``items`` items: known before anything is
+        executed.
+
+        The data themselves are one node, and so is each value in them. The operation is the one of the name, or the only one.
+        :class:`TooCostly` is raised where the cost is above ``limit``, and :class:`RequestRefused` where there is no such operation.
+        ``items`` and ``limit`` are below 2**32.
+
+        >>> query = Schema("type Query { books: [Book] } type Book { title: String }").query("{ books { title } }")
+        >>> query.cost(items=10)
+        22
+        >>> query.cost(items=100, limit=150)
+        Traceback (most recent call last):
+        sunwaket.TooCostly: cost above limit
+        """
+        if not (0 <= items <= MOST and 0 <= limit <= MOST):
+            raise ValueError("items and limit are from 0 to 2**32-1")
+        name = b"" if operation_name is None else operation_name.encode("utf-8")
+        flags, cost, reply = library.NAMED if operation_name is not None else 0, ctypes.c_uint32(), library.Handle()
+        most = library.Limit(items, limit)
+        with self._lock:
+            status = library.operation_cost(byref(self._handle), name, len(name), flags, byref(most), byref(cost), byref(reply))
+        if status == library.TOO_COSTLY:
+            raise TooCostly(_take(reply))
+        if status == library.REFUSED:
+            raise RequestRefused(_take(reply))
+        if status != library.ANSWERED:
+            raise _refuse(status, "the operation's name is no UTF-8")
+        return cost.value
 
     def close(self) -> None:
         """Lets go of the query."""

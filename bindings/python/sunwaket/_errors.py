@@ -41,6 +41,10 @@ class RequestRefused(Refused):
     """A request has no response: no such operation, a variable that is not coerced, or introspection that goes too deep."""
 
 
+class TooCostly(RequestRefused):
+    """An operation costs more than the limit."""
+
+
 # As users know them.
-for _kind in (Refused, SchemaRefused, QueryRefused, RequestRefused):
+for _kind in (Refused, SchemaRefused, QueryRefused, RequestRefused, TooCostly):
     _kind.__module__ = "sunwaket"

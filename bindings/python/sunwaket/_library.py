@@ -7,7 +7,7 @@ import os
 from ctypes import POINTER, c_char_p, c_size_t, c_uint32, c_void_p
 from typing import Any
 
-ANSWERED, REFUSED, NO_MEMORY, WRONG_HANDLE, UNREAD = 0, 1, 3, 8, 9
+ANSWERED, REFUSED, NO_MEMORY, WRONG_HANDLE, UNREAD, TOO_COSTLY = 0, 1, 3, 8, 9, 10
 NAMED, INTROSPECTION = 1, 2
 KINDS = {1: "query", 2: "mutation", 3: "subscription"}
 
@@ -23,8 +23,16 @@ class Handle(ctypes.Structure):
     _fields_ = [("held", c_void_p)]
 
 
+class Limit(ctypes.Structure):
+    """The most items that a list is taken to have, and the most nodes of a response's data."""
+
+    _fields_ = [("items", c_uint32), ("nodes", c_uint32)]
+
+
 _library = ctypes.CDLL(_find())
-_HANDLE = POINTER(Handle)
+
+# A handle goes out by its address, a number where it is at hand: a pointer object would be made for each call.
+_HANDLE = c_void_p
 
 
 def _declare(name: str, result: Any, *arguments: Any) -> Any:
@@ -41,6 +49,7 @@ query_new = _declare("gql_query_new", c_uint32, _HANDLE, *_TEXT, _HANDLE, _HANDL
 data_new = _declare("gql_data_new", c_uint32, *_TEXT, _HANDLE)
 execute = _declare("gql_execute", c_uint32, _HANDLE, _HANDLE, *_TEXT, *_TEXT, c_uint32, _HANDLE)
 operation_kind = _declare("gql_operation_kind", c_uint32, _HANDLE, *_TEXT, c_uint32, POINTER(c_uint32))
+operation_cost = _declare("gql_operation_cost", c_uint32, _HANDLE, *_TEXT, c_uint32, POINTER(Limit), POINTER(c_uint32), _HANDLE)
 check = _declare("gql_check", c_uint32, *_TEXT, *_TEXT, _HANDLE)
 share = _declare("gql_share", c_uint32, _HANDLE, _HANDLE)
 free = _declare("gql_free", None, _HANDLE)

@@ -1,10 +1,13 @@
 """The mock server by GraphQL over HTTP: each thing that the specification asks of servers, with a request and what is wanted."""
 
+import contextlib
+import io
 import json
 import unittest
 from urllib.parse import quote
 
 from mock_serving import DATA, serving
+from sunwaket.mock.settings import settings_of
 
 NEW, OLD = "application/graphql-response+json", "application/json"
 POST = {"Content-Type": OLD}
@@ -140,6 +143,23 @@ class Rules(unittest.TestCase):
             self.assertEqual(it.ask("{ books { author { name } } }")[0], 200)
             status, response = it.ask("{ books { author { books { id } } } }")
             self.assertEqual((status, response), (400, {"errors": [{"message": "the query is nested deeper than 3"}]}))
+
+    def test_costly_queries_are_refused_before_they_are_executed(self):
+        with serving(DATA, "--cost", "10:22", "--fail", "books=executed") as it:
+            status, response = it.ask("{ books { author { name } } }")
+            self.assertEqual((status, response), (400, {"errors": [{"message": "cost above limit"}]}))
+            self.assertEqual(it.send("POST", "/graphql", POST, post(query="{ books { author { name } } }"))[0], 200)
+            status, response = it.ask("{ books { id } }")
+            self.assertEqual((status, response["errors"][0]["message"]), (200, "resolver error: executed"))
+            self.assertEqual(it.ask("query A { books { author { name } } } query B { count }", operationName="B")[1], ANSWER)
+            status, response = it.ask("query A { count }", operationName="B")
+            self.assertEqual((status, response["errors"][0]["message"]), (400, "operation `B` is not defined"))
+
+    def test_limits_of_costs_are_two_numbers(self):
+        for word in ("10", "10:", ":10", "-1:10", "10:x", "4294967296:1", "1:4294967296"):
+            with self.subTest(word), contextlib.redirect_stderr(io.StringIO()), self.assertRaises(SystemExit):
+                settings_of(["schema.graphql", "--cost", word])
+        self.assertEqual(settings_of(["schema.graphql", "--cost", "0:4294967295"]).cost, (0, 4294967295))
 
     def test_introspection_may_be_off(self):
         with serving(DATA, "--no-introspection") as it:

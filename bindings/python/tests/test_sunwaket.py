@@ -7,7 +7,7 @@ import threading
 import unittest
 
 import sunwaket
-from sunwaket import Data, Query, QueryRefused, Refused, RequestRefused, Schema, SchemaRefused, answer, check
+from sunwaket import Data, Query, QueryRefused, Refused, RequestRefused, Schema, SchemaRefused, TooCostly, answer, check
 from sunwaket import _api
 
 BOOKS = "type Query { book(title: String!): Book } type Mutation { add: Int } type Book { title: String! year: Int by: [String!] }"
@@ -55,6 +55,12 @@ class Answers(unittest.TestCase):
         self.assertEqual((query.kind("A"), query.kind("B"), query.kind("C"), query.kind()), ("query", "mutation", None, None))
         self.assertEqual(self.query.kind(), "query")
 
+    def test_costs(self):
+        query = Schema("type Query { a: [A] } type A { x: Int more: [A] }").query("query P { a { x } } query Q { a { more { x } } }")
+        self.assertEqual([query.cost(items=items, operation_name="P") for items in (0, 1, 10)], [2, 4, 22])
+        self.assertEqual([query.cost(items=items, operation_name="Q") for items in (0, 1, 10)], [2, 6, 222])
+        self.assertEqual(query.cost(items=10, limit=222, operation_name="Q"), 222)
+
     def test_all_at_once(self):
         self.assertEqual(answer(BOOKS, QUERY, EMMA, variables={"title": "Emma"}), ANSWER)
 
@@ -90,9 +96,27 @@ class Refusals(unittest.TestCase):
                 query.execute(EMMA, **arguments)
             self.assertEqual(str(caught.exception), message)
 
+    def test_cost(self):
+        query = Schema("type Query { a: [Int] }").query("query P { a } query Q { a }")
+        with self.assertRaises(TooCostly) as caught:
+            query.cost(items=10, limit=11, operation_name="P")
+        self.assertEqual(caught.exception.json, b'{"errors":[{"message":"cost above limit"}]}')
+        with self.assertRaises(TooCostly):
+            query.cost(items=2**32 - 1, operation_name="P")
+        for name, message in ((None, "document has 2 operations and no name was given"), ("X", "operation `X` is not defined")):
+            with self.assertRaises(RequestRefused) as caught:
+                query.cost(items=10, operation_name=name)
+            self.assertEqual((str(caught.exception), type(caught.exception)), (message, RequestRefused))
+        for wrong in ({"items": -1}, {"items": 2**32}, {"items": 1, "limit": -1}, {"items": 1, "limit": 2**32}):
+            with self.assertRaisesRegex(ValueError, "items and limit are from 0"):
+                query.cost(**wrong)
+        query.close()
+        with self.assertRaisesRegex(ValueError, "closed"):
+            query.cost(items=1, operation_name="P")
+
     def test_all_are_one_kind(self):
         self.assertTrue(issubclass(Refused, ValueError))
-        for kind in (SchemaRefused, QueryRefused, RequestRefused):
+        for kind in (SchemaRefused, QueryRefused, RequestRefused, TooCostly):
             self.assertTrue(issubclass(kind, Refused))
 
     def test_no_text_and_no_data(self):
@@ -150,6 +174,25 @@ class Lives(unittest.TestCase):
         for thread in threads:
             thread.join()
         self.assertEqual(wrong, [])
+
+    def test_values_go_from_thread_to_thread(self):
+        told = []
+
+        def in_thread(work):
+            thread = threading.Thread(target=lambda: told.append(work()))
+            thread.start()
+            thread.join()
+            return told.pop()
+
+        schema = in_thread(lambda: Schema(BOOKS))
+        query = in_thread(lambda: schema.query(QUERY))
+        in_thread(schema.close)
+        data = in_thread(lambda: Data(EMMA))
+        other = in_thread(query.share)
+        in_thread(query.close)
+        self.assertEqual(in_thread(lambda: other.execute(data, variables={"title": "Emma"})), ANSWER)
+        in_thread(data.close)
+        self.assertEqual(other.execute(EMMA, variables={"title": "Emma"}), ANSWER)
 
 
 def load_tests(loader, tests, pattern):

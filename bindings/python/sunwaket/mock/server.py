@@ -170,6 +170,9 @@ class Handler(BaseHTTPRequestHandler):
         operation = document.operation(name)
         if settings.depth is not None and operation and selections.depth(document, operation.selections) > settings.depth:
             raise Fault(refusal_status(kind), f"the query is nested deeper than {settings.depth}")
+        if settings.cost is not None:
+            items, nodes = settings.cost
+            query.cost(items=items, limit=nodes, operation_name=name)
         data = served.data_for(document, name, variables)
         reply = executed(query, data, name, variables, settings.introspection)
         time.sleep(settings.latency / 1000)

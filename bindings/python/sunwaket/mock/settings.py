@@ -15,6 +15,7 @@ class Settings:
     seed: int = 0
     introspection: bool = True
     depth: object = None
+    cost: object = None
     latency: int = 0
     failures: dict = dataclasses.field(default_factory=dict)
     origin: object = None
@@ -30,6 +31,14 @@ def failure(word):
     return field, text
 
 
+def limit(word):
+    """How many items a list is taken to have and how many nodes may be, of a word ITEMS:NODES."""
+    items, colon, nodes = word.partition(":")
+    if not colon or not all(part.isascii() and part.isdigit() and int(part) < 2**32 for part in (items, nodes)):
+        raise argparse.ArgumentTypeError("is ITEMS:NODES, two numbers below 2**32")
+    return int(items), int(nodes)
+
+
 def parser():
     """The parser of the command's words."""
     made = argparse.ArgumentParser(prog="sunwaket.mock", description="Serves a GraphQL schema over plain data, or over data that are made up.")
@@ -40,6 +49,12 @@ def parser():
     made.add_argument("--seed", type=int, default=0, help="a number that changes the data that are made up")
     made.add_argument("--no-introspection", dest="introspection", action="store_false", help="refuse `__schema` and `__type`")
     made.add_argument("--depth", type=int, metavar="N", help="refuse queries whose fields are nested deeper")
+    made.add_argument(
+        "--cost",
+        type=limit,
+        metavar="ITEMS:NODES",
+        help="refuse, before they are executed, queries whose data can have more than NODES nodes where lists have up to ITEMS items",
+    )
     made.add_argument("--latency", type=int, default=0, metavar="MS", help="wait this long before each answer")
     made.add_argument("--fail", type=failure, action="append", default=[], metavar="FIELD=TEXT", help="have each field of this name fail with this text")
     made.add_argument("--cors", dest="origin", metavar="ORIGIN", help="let pages of this origin ask (`*`: of any)")
