@@ -2,13 +2,12 @@
 """Builds the C library and the bindings from what the gate has left, and runs their tests: bindings/build, then
 
 - the calls in C, plain, under valgrind, and with AddressSanitizer; with each allocation refused in turn, alone and with all after it;
-  values that eight threads share; the example;
-- the package for Python: its tests, from its folder and from the wheel;
+  values that eight threads share and handles that go from one to another, also under helgrind; the example;
+- the package for Python: its tests, from its folder and from the wheel; the wheel's mock server, asked one query;
 - the package for Node, and the one for Go;
 - the worked requests of checks/tables/ and examples/ through C and through Python, whose bytes are those of the program.
 
 It says what it skips: all, where no gate has left the libraries; a language or a tool that is not here."""
-import importlib.util
 import json
 import os
 import pathlib
@@ -16,6 +15,8 @@ import shutil
 import subprocess
 import sys
 import tempfile
+import urllib.request
+import zipfile
 
 from shared.trying import ROOT
 
@@ -24,6 +25,7 @@ LACKING = 3
 PATIENCE = 1800
 CC = os.environ.get("CC", "cc")
 STRICT = ["-std=c11", "-O1", "-g", "-Wall", "-Wextra", "-Werror"]
+HELGRIND = ["valgrind", "--quiet", "--tool=helgrind", "--error-exitcode=9"]
 VALGRIND = ["valgrind", "--quiet", "--error-exitcode=9", "--leak-check=full", "--show-leak-kinds=all", "--errors-for-leak-kinds=all"]
 
 passed, failed = [], []
@@ -72,6 +74,8 @@ def run_c(folder):
             print(try_command(name, [program]).stdout.decode(), end="")
             if has_valgrind and name != "refused_memory":
                 try_command(f"{name} under valgrind", [*VALGRIND, program])
+            if has_valgrind and name == "threads":
+                try_command(f"{name} under helgrind", [*HELGRIND, program])
         watched = compile_c(folder, f"{name}_asan", sources, "-fsanitize=address")
         if watched is not None:
             try_command(f"{name} with AddressSanitizer", [watched])
@@ -108,20 +112,63 @@ def expect(name, holds):
 
 
 def run_python(folder):
-    """The tests of the package, from its folder and from the wheel."""
+    """The tests of the package, from its folder and from the wheel, and the wheel's mock server."""
     python = BINDINGS / "python"
     quiet = os.environ | {"PYTHONDONTWRITEBYTECODE": "1"}
     try_command("Python", [sys.executable, "-m", "unittest", "-q", "tests.test_sunwaket"], cwd=python, env=quiet)
     wheels = sorted((BINDINGS / "out").glob("*.whl"))
     expect("one wheel", len(wheels) == 1)
-    site = folder / "site"
-    installed = [sys.executable, "-m", "pip", "install", "--quiet", "--no-index", "--target", site, *wheels]
-    if importlib.util.find_spec("pip") is None:
-        skip("the wheel", "pip is not here")
-    elif try_command("pip install the wheel", installed).returncode == 0:
+    words, alone = installed(folder, wheels[0])
+    if words is not None:
         shutil.copytree(python / "tests", folder / "tests")
-        alone = quiet | {"PYTHONPATH": str(site)}
-        try_command("Python, from the wheel", [sys.executable, "-m", "unittest", "-q", "tests.test_sunwaket"], cwd=folder, env=alone)
+        try_command("Python, from the wheel", [*words, "-m", "unittest", "-q", "tests.test_sunwaket"], cwd=folder, env=alone)
+        run_mock_server(folder, words, alone)
+
+
+def installed(folder, wheel):
+    """A Python, as words of a command, and variables with which it has the wheel's package and nothing else of the repository: the wheel is
+    installed into a fresh virtual environment, and unpacked where Python makes none here. `None` twice where it is not installed."""
+    quiet = {name: value for name, value in os.environ.items() if name != "PYTHONPATH"} | {"PYTHONDONTWRITEBYTECODE": "1"}
+    fresh, unpacked = folder / "fresh", folder / "unpacked"
+    made = subprocess.run([sys.executable, "-m", "venv", fresh], capture_output=True, env=quiet, timeout=PATIENCE, check=False)
+    if made.returncode:
+        skip("the install of the wheel", "Python makes no virtual environment here; the wheel is unpacked")
+        with zipfile.ZipFile(wheel) as held:
+            held.extractall(unpacked)
+        return [sys.executable], quiet | {"PYTHONPATH": str(unpacked)}
+    words = [fresh / "bin" / "python"]
+    pip = [*words, "-m", "pip", "install", "--quiet", "--no-index", "--disable-pip-version-check", wheel]
+    if try_command("pip install the wheel", pip, env=quiet).returncode:
+        return None, None
+    return words, quiet
+
+
+def run_mock_server(folder, words, env):
+    """The mock server of the wheel: it says where it is, answers one query, refuses one that costs too much, and ends."""
+    (folder / "schema.graphql").write_text("type Query { book: Book books: [Book!]! } type Book { title: String }", encoding="utf-8")
+    (folder / "data.json").write_text('{"book":{"title":"Emma"}}', encoding="utf-8")
+    words = [*words, "-m", "sunwaket.mock", "schema.graphql", "data.json", "--port", "0", "--cost", "10:9"]
+    with subprocess.Popen(words, cwd=folder, env=env, text=True, stdout=subprocess.PIPE, stderr=subprocess.DEVNULL) as server:
+        address = server.stdout.readline().strip()
+        try:
+            expect("the answer of the wheel's mock server", asked(address, "{ book { title } }") == {"data": {"book": {"title": "Emma"}}})
+            refusal = {"errors": [{"message": "cost above limit"}]}
+            expect("the refusal of the wheel's mock server", asked(address, "{ books { title } }") == refusal)
+        finally:
+            server.terminate()
+    expect("the end of the wheel's mock server", server.returncode == 0)
+
+
+def asked(address, query):
+    """What a mock server answers to a query; None where there is no server."""
+    body = json.dumps({"query": query}).encode()
+    request = urllib.request.Request(address + "graphql", body, {"Content-Type": "application/json"})
+    try:
+        with urllib.request.urlopen(request, timeout=60) as answer:
+            return json.loads(answer.read())
+    except (OSError, ValueError) as error:
+        print(f"bindings: the mock server at {address!r}: {error}")
+        return None
 
 
 def run_node():
