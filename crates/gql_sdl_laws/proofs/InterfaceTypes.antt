@@ -1,0 +1,89 @@
+-- Definitions of interface types.
+use Rattle.std.proofs.Common.{◌≡◌, ℕ, true, false, List, [], ◌∷◌, ◌++◌, map, Option, Some, None, refl, sym, ap, ◌∙◌, append-nil}
+use Rattle.std.specs.Prelude.{codes, slice_get}
+use Rattle.gql_source.specs.declared.file_id.FileId.{FileId}
+use Rattle.gql_grammar.specs.declared.word.Word.TheVariants.{InterfaceWord}
+use Rattle.gql_grammar.specs.declared.symbol.Symbol.{Symbol}
+use Rattle.gql_grammar.specs.declared.symbol.Symbol.TheVariants.{Optional, Eager}
+use Rattle.gql_grammar.specs.declared.rule.Rule.TheVariants as rule
+use Rattle.gql_grammar.specs.declared.syntax_kind.SyntaxKind.TheVariants as kind
+use Rattle.gql_grammar.specs.Sentence.{here, there, is_brace_next}
+use Rattle.gql_cst.specs.Forest.{Forest}
+use Rattle.gql_ast.specs.Documents.{choice_of}
+use Rattle.gql_ast.specs.TypeText.{type_text}
+use Rattle.gql_ast.specs.declared.definition.Definition.TheVariants as definition
+use Rattle.gql_ast_base.specs.Directives.{directives}
+use Rattle.gql_ast_base.specs.Kinds.{is_kind}
+use Rattle.gql_ast_base.specs.Literals.{description}
+use Rattle.gql_ast_base.specs.Names.{Named}
+use Rattle.gql_ast_base.specs.Parts.{gather, inside, location, nth_name}
+use Rattle.gql_ast_laws.proofs.Blind.{tree}
+use Rattle.gql_print_laws.specs.Said.{Text, Said, over, token, space, text_of, words_of, forest_at}
+use Rattle.gql_print_laws.specs.Written.{Ends}
+use Rattle.gql_sdl.specs.declared.shown.ShownType.{ShownType}
+use Rattle.gql_sdl.specs.declared.shown.TypeKind.{TypeKind}
+use Rattle.gql_sdl.specs.declared.shown.TypeKind.TheVariants.{Scalar, Object, Interface, Union, Enum, InputObject}
+use Rattle.gql_sdl.specs.Forms.{described}
+use Rattle.gql_sdl_laws.specs.Meant.{says, use_says, name_text}
+use Rattle.gql_sdl_laws.specs.Printable.{Each, IsField, IsInput, IsEnumValue, IsReference}
+use Rattle.gql_sdl_laws.proofs.Definition.{definition_of_node, head_said, head_text, head_description, head_inside, head_from, head_name, head_fits, head_apart}
+use Rattle.gql_sdl_laws.proofs.Grammar.{FitsTo, no_symbol, skip}
+use Rattle.gql_sdl_laws.proofs.Parts.{inner, inside_own, inside_other, description_said, description_is}
+use Rattle.gql_sdl_laws.proofs.Printed.{Printed, each_printed}
+use Rattle.gql_sdl_laws.proofs.Reading.{From, After, after_over}
+use Rattle.gql_sdl_laws.proofs.References.{IsName, references}
+use Rattle.gql_sdl_laws.proofs.Standing.{inside_said, names_said, Stands, name_at, Means}
+use Rattle.gql_sdl_laws.proofs.TypeParts.{head_way, kind_text, kind_told, PrintedKind, told_type, same_head, same_parts}
+use Rattle.gql_ast_definitions.specs.declared.type_definition.InterfaceTypeDefinition.{InterfaceTypeDefinition}
+use Rattle.gql_ast_definitions.specs.Definitions.{interfaces, interface_of}
+use Rattle.gql_ast_definitions.specs.Fields.{fields}
+use Rattle.gql_sdl_laws.proofs.Choices.{is_interface}
+use Rattle.gql_sdl_laws.proofs.FieldBodies.{fielded_way, fielded_said, fielded_text, fielded_name, fielded_from, fielded_fits, fielded_apart, fielded_says}
+
+module _ (x : ShownType) (n : IsName x.name.text) (hi : Each IsReference x.interfaces) (hf : Each IsField x.fields) where
+  abbrev said : Said
+  said = fielded_said (codes "interface") x hi hf
+
+  module _ (text : Text) (file : FileId) where
+    type_is : (row : Forest) (name : Named) → nth_name text file 1 row ≡ Some name
+        → interface_of text file (tree kind.InterfaceTypeDefinition 0 0 row) ≡ Some (record {
+          description = description text row;
+          name = name;
+          implements_interfaces = interfaces text file row;
+          directives = directives text file row;
+          fields = fields text file row;
+          location = location file (tree kind.InterfaceTypeDefinition 0 0 row);
+        })
+    unfolding interface_of is_kind
+    type_is row name e = rw e refl
+
+    said_means : Means text (choice_of text file) says kind.InterfaceTypeDefinition said (kind_told Interface x)
+    said_means m r =
+        let row = forest_at m said in
+        let a = name_at text file m said r 1 x.name.text (fielded_name (codes "interface") x hi hf refl n) in
+        let it : InterfaceTypeDefinition = record {
+          description = description text row;
+          name = a.found;
+          implements_interfaces = interfaces text file row;
+          directives = directives text file row;
+          fields = fields text file row;
+          location = location file (tree kind.InterfaceTypeDefinition 0 0 row);
+        } in
+        record {
+          found = definition.InterfaceTypeDefinition it;
+          is = is_interface text file row it (type_is row a.found a.is);
+          same = fielded_says (codes "interface") x hi hf text file m r Interface a.found.text a.same;
+        }
+
+  pub printed_interface : PrintedKind Interface x
+  printed_interface =
+      definition_of_node rule.InterfaceTypeDefinition kind.InterfaceTypeDefinition said (kind_text Interface x) (kind_told Interface x) refl refl (there (there (there (there (there (there here))))))
+      (record {
+        text = fielded_text (codes "interface") x hi hf;
+        from = fielded_from (codes "interface") x hi hf refl n;
+        way = fielded_way InterfaceWord;
+        one = here;
+        fits = fielded_fits (codes "interface") x hi hf InterfaceWord refl n;
+        apart = fielded_apart (codes "interface") x hi hf refl;
+        means = said_means;
+      })

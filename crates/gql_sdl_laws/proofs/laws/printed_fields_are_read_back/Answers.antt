@@ -1,0 +1,9 @@
+-- Fields.
+use Rattle.std.proofs.Common.{refl}
+use Rattle.gql_sdl_laws.specs.Forms.{field_form}
+use Rattle.gql_sdl_laws.proofs.Fields.{printed_field}
+use Rattle.gql_sdl_laws.proofs.ReadBack.{read_back}
+use Rattle.gql_sdl_laws.proofs.laws.printed_fields_are_read_back.Goals as goal
+
+pub returns : goal.returns
+returns c = λ file it h. read_back field_form refl file it (printed_field it h)

@@ -1,0 +1,5 @@
+pub mod Plain
+pub mod Meant
+pub mod Told
+pub mod Printable
+pub mod Forms
