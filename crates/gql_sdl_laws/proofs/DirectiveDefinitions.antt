@@ -41,7 +41,7 @@ use Rattle.gql_sdl_laws.proofs.Choices.{is_directive}
 use Rattle.gql_sdl_laws.proofs.Definition.{PrintedDefinition, definition_of_node, head_apart}
 use Rattle.gql_sdl_laws.proofs.Grammar.{FitsTo, one_token, one_group, ignored, skip, take}
 use Rattle.gql_sdl_laws.proofs.Inputs.{printed_input, arguments_said, argued_said, argued_text, argued_after, argued_fits, arguments_are}
-use Rattle.gql_sdl_laws.proofs.Locations.{on_said, on_text, on_after, on_way, on_fits, locations_in, on_told, located}
+use Rattle.gql_sdl_laws.proofs.Locations.{on_said, on_text, on_after, on_way, on_fits, on_inside, locations_in, on_told, located}
 use Rattle.gql_sdl_laws.proofs.Parts.{inner, close_said, close_own, close_other, close_names, described_said, description_said, described_text, described_from, described_fits, inside_described, own_description, names_described, description_is}
 use Rattle.gql_sdl_laws.proofs.Printed.{Printed, each_printed}
 use Rattle.gql_sdl_laws.proofs.Reading.{After, From, at_sign, mark_from_from, name_from, blank_after}
@@ -135,13 +135,14 @@ module _ (d : Option Text) (name : Text) (n : IsName name) (xs : List ShownInput
   said_description : inside_said kind.Description said ≡ inner (description_said d)
   unfolding is_kind
   said_description =
-      own_description d named_said (close_other kind.Description kind.ArgumentsDefinition (arguments_said xs given) tail refl ∙ repeated_inside kind.Description b (on_said l ls))
+      own_description d named_said (close_other kind.Description kind.ArgumentsDefinition (arguments_said xs given) tail refl
+      ∙ repeated_inside kind.Description b (on_said l ls) ∙ on_inside kind.Description l ls)
 
   said_arguments : inside_said kind.ArgumentsDefinition said ≡ inner (arguments_said xs given)
   unfolding is_kind
   said_arguments =
       inside_described kind.ArgumentsDefinition d named_said refl
-      ∙ close_own kind.ArgumentsDefinition (arguments_said xs given) tail (repeated_inside kind.ArgumentsDefinition b (on_said l ls))
+      ∙ close_own kind.ArgumentsDefinition (arguments_said xs given) tail (repeated_inside kind.ArgumentsDefinition b (on_said l ls) ∙ on_inside kind.ArgumentsDefinition l ls)
 
   names : names_said said ≡ codes "directive" ∷ name ∷ names_said tail
   names = names_described d named_said ∙ own ∙ ap (λ m. codes "directive" ∷ name ∷ m) (close_names kind.ArgumentsDefinition (arguments_said xs given) tail) where

@@ -28,7 +28,7 @@ use Rattle.gql_sdl.specs.Definitions.{locations_text}
 use Rattle.gql_sdl.specs.Pieces.{pieces}
 use Rattle.gql_sdl_laws.proofs.Grammar.{FitsTo, no_symbol, one_token, one_group, ignored, skip, stop, again}
 use Rattle.gql_sdl_laws.proofs.Reading.{After, after_over, bar, mark_from, name_from, blank_after}
-use Rattle.gql_sdl_laws.proofs.Standing.{Stands, past_token, past_space, past_node, leaf_tree, word_in, word_stands}
+use Rattle.gql_sdl_laws.proofs.Standing.{inside_said, Stands, past_token, past_space, past_node, leaf_tree, word_in, word_stands}
 
 -- ---- their names
 
@@ -94,6 +94,14 @@ on_way = Token (Exactly OnWord) ∷ Optional rule.BarSign ∷ Token (Exactly Loc
 
 pub on_fits : (l : DirectiveLocation) (ls : List DirectiveLocation) {vs : List Word} → FitsTo on_way (on_said l ls) vs
 on_fits l ls = ignored (one_token refl (skip (ignored (one_token (is_location l).location (bars_fit ls)))))
+
+bars_inside : (known : SyntaxKind) (ls : List DirectiveLocation) → inside_said known (bars ls) ≡ over
+bars_inside known [] = refl
+bars_inside known (l ∷ ls) = bars_inside known ls
+
+-- no node stands in it
+pub on_inside : (known : SyntaxKind) (l : DirectiveLocation) (ls : List DirectiveLocation) → inside_said known (on_said l ls) ≡ over
+on_inside known l ls = bars_inside known ls
 
 -- ---- what the tokens tell
 

@@ -89,7 +89,7 @@ is_operation Subscription = record { named = refl; operation = refl; told = refl
 abbrev itself : OperationType → OperationType
 itself o = o
 
-module _ (text : Text) (file : FileId) where
+module _ (text : Text) where
   operation_is : (row : Forest) (t : Text) (o : OperationType) → nth_text text 0 row ≡ Some t → operation_word t ≡ Some o → operation_type_of text (tree kind.OperationType 0 0 row) ≡ Some o
   unfolding operation_type_of is_kind
   operation_is row t o e f = ap (λ w. option_and_then operation_word w) e ∙ f
@@ -107,6 +107,7 @@ module _ (text : Text) (file : FileId) where
         same = refl;
       }
 
+module _ (text : Text) (file : FileId) where
   root_is : (row : Forest) (o : OperationType) (name : Named) → first (operation_type_of text) row ≡ Some o → nth_name text file 0 (inside kind.NamedType row) ≡ Some name
       → root_operation_of text file (tree kind.RootOperationTypeDefinition 0 0 row) ≡ Some (o, name)
   unfolding root_operation_of operation_type_in named_type_in is_kind
@@ -129,8 +130,8 @@ module _ (root : Root) (n : IsName root.1) where
       ∙ ap (λ t. operation_text root.0 ++ (codes ": " ++ t)) (append-nil (root.1 ++ []) ∙ append-nil root.1)
 
   root_from : {rest : Text} → Ends rest → From root_said rest
-  root_from e =
-      let more = mark_after colon (blank_after (node_from refl (name_from n (after_over e)) tt)) in
+  root_from {rest = rest} e =
+      let more : After behind_operation rest = mark_after colon (blank_after (node_from refl (name_from n (after_over e)) tt)) in
       node_from refl (name_from (is_operation root.0).named (after_over more.ends)) more.lexes
 
   abbrev root_way : List Symbol
