@@ -143,8 +143,8 @@ module _ (x : ShownField) (h : IsField x) where
       let row = forest_at n field_said in
       let a = name_at text file n field_said r 0 x.name.text said_name in
       let t = first_of text (type_of text file) unplaced kind.TypeReference row (unplaced x.ty)
-          (gathered text (type_of text file) unplaced kind.TypeReference (only_type text file) refl field_said n r (unplaced x.ty ∷ [])
-          (subst (λ is. AllMean text (type_of text file) unplaced kind.TypeReference is (unplaced x.ty ∷ [])) (sym said_types) ((printed_type x.ty h.typed).means text file, tt))) in
+      (gathered text (type_of text file) unplaced kind.TypeReference (only_type text file) refl field_said n r (unplaced x.ty ∷ [])
+      (subst (λ is. AllMean text (type_of text file) unplaced kind.TypeReference is (unplaced x.ty ∷ [])) (sym said_types) ((printed_type x.ty h.typed).means text file, tt))) in
       record {
         found = record {
           description = description text row;

@@ -85,7 +85,7 @@ module _ (text : Text) (file : FileId) where
       let l = literal_in h.value in
       let s = token (codes "=") (space (codes " ") (under kind.Value (content_said l) over)) in
       let v = first_of text (value_of text file) literal_in kind.Value (forest_at n s) l
-          (gathered text (value_of text file) literal_in kind.Value (only_value text file) refl s n r (l ∷ []) (value_means text file l h.constant, tt)) in
+      (gathered text (value_of text file) literal_in kind.Value (only_value text file) refl s n r (l ∷ []) (value_means text file l h.constant, tt)) in
       first_value (forest_at n s) v.found v.is t (written_alike v.found h.value v.same ∙ sym h.is)
 
   default_is : (o : Option Text) (h : IsDefault o) (s : Said) (n : ℕ) → Stands text n s → inside_said kind.DefaultValue s ≡ inner (default_said o h)
@@ -199,8 +199,8 @@ module _ (x : ShownInput) (h : IsInput x) where
       let row = forest_at n input_said in
       let a = name_at text file n input_said r 0 x.name.text said_name in
       let t = first_of text (type_of text file) unplaced kind.TypeReference row (unplaced x.ty)
-          (gathered text (type_of text file) unplaced kind.TypeReference (only_type text file) refl input_said n r (unplaced x.ty ∷ [])
-          (subst (λ is. AllMean text (type_of text file) unplaced kind.TypeReference is (unplaced x.ty ∷ [])) (sym said_types) ((printed_type x.ty h.typed).means text file, tt))) in
+      (gathered text (type_of text file) unplaced kind.TypeReference (only_type text file) refl input_said n r (unplaced x.ty ∷ [])
+      (subst (λ is. AllMean text (type_of text file) unplaced kind.TypeReference is (unplaced x.ty ∷ [])) (sym said_types) ((printed_type x.ty h.typed).means text file, tt))) in
       record {
         found = record {
           description = description text row;

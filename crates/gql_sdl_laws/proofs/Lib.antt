@@ -1,3 +1,4 @@
+mod Blind
 mod Reading
 mod Grammar
 mod Standing

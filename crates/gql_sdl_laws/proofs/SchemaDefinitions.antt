@@ -40,7 +40,7 @@ use Rattle.gql_sdl_laws.specs.Forms.{Form}
 use Rattle.gql_sdl_laws.specs.Meant.{says, use_says, root_says}
 use Rattle.gql_sdl_laws.specs.Plain as plain
 use Rattle.gql_sdl_laws.specs.Plain.{Use, Plain}
-use Rattle.gql_sdl_laws.specs.Printable.{Each, IsRoot}
+use Rattle.gql_sdl_laws.specs.Printable.{Each, IsRoot, AreRoots}
 use Rattle.gql_sdl_laws.specs.Told.{root_told, roots_told}
 use Rattle.gql_sdl_laws.proofs.Blocks.{block_way}
 use Rattle.gql_sdl_laws.proofs.Choices.{is_schema}
@@ -315,5 +315,5 @@ module _ (d : Option Text) (query : Text) (q : IsName query) (mutation subscript
         means = said_means;
       })
 
-pub printed_schema_definition : (x : ShownSchema) → is_name x.query.text ≡ true → IsRoot x.mutation → IsRoot x.subscription → PrintedDefinition (roots_text x) (roots_told x)
-printed_schema_definition x q m s = printed_roots x.description x.query.text q x.mutation x.subscription m s
+pub printed_schema_definition : (x : ShownSchema) → AreRoots x → PrintedDefinition (roots_text x) (roots_told x)
+printed_schema_definition x h = printed_roots x.description x.query.text h.query x.mutation x.subscription h.mutation h.subscription

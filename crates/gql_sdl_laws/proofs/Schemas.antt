@@ -47,7 +47,7 @@ module _ (it : ShownSchema) (h : IsSchema it) where
 
   are : Each IsLine (first ∷ directives)
   are = (
-    printed_schema_definition it h.query h.mutation h.subscription,
+    printed_schema_definition it h.roots,
     are_lines hides_directive directive_text directive_told IsDirective printed_directive it.directives h.directives types
         (are_lines is_built_in type_definition_text named_type_told IsType printed_named_type it.types h.types [] tt),
   )

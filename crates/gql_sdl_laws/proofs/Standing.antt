@@ -125,9 +125,9 @@ module _ (text : Text) where
       record { place = w.place; is = ap children_of (later k kind.Ignored n (n + length t) nothing (forest_at (n + length t) s) (ignored_apart k p)) ∙ w.is; stands = w.stands }
   within k p (under j i s) n r =
       both (is_kind j k) refl (within k p s (n + length (text_of i)) (past_node n j i s r)) where
-    both : (b : Bool) → is_kind j k ≡ b → Within (n + length (text_of i)) k s (inside_said k s) → Within n k (under j i s) (if b then i else inside_said k s)
-    both true e w = record { place = n; is = ap children_of (here k j 0 0 (forest_at n i) (forest_at (n + length (text_of i)) s) e); stands = down n j i s r }
-    both false e w = record { place = w.place; is = ap children_of (later k j 0 0 (forest_at n i) (forest_at (n + length (text_of i)) s) e) ∙ w.is; stands = w.stands }
+        both : (b : Bool) → is_kind j k ≡ b → Within (n + length (text_of i)) k s (inside_said k s) → Within n k (under j i s) (if b then i else inside_said k s)
+        both true e w = record { place = n; is = ap children_of (here k j 0 0 (forest_at n i) (forest_at (n + length (text_of i)) s) e); stands = down n j i s r }
+        both false e w = record { place = w.place; is = ap children_of (later k j 0 0 (forest_at n i) (forest_at (n + length (text_of i)) s) e) ∙ w.is; stands = w.stands }
 
   -- ---- names
 
@@ -214,20 +214,20 @@ module _ (text : Text) where
   stands_behind over n at r = record { place = n; is = refl; stands = r }
   stands_behind (token t s) n at r =
       both (is_name t) refl (at == 0) refl (stands_behind s (n + length t) (at - 1) (past_token n t s r)) (stands_behind s (n + length t) at (past_token n t s r)) where
-    rest : Forest
-    rest = forest_at (n + length t) s
+        rest : Forest
+        rest = forest_at (n + length t) s
 
-    step : (b c : Bool) → is_name t ≡ b → (at == 0) ≡ c
-        → after_word text at (forest_at n (token t s)) ≡ (if b then (if c then forest_at (n + length t) s else after_word text (at - 1) (forest_at (n + length t) s)) else after_word text at (forest_at (n + length t) s))
-    step true true e f = let w = word_stands n t s r in rw w (rw (e, f) refl)
-    step true false e f = let w = word_stands n t s r in rw w (rw (e, f) refl)
-    step false c e f = let w = word_stands n t s r in rw w (rw e refl)
+        step : (b c : Bool) → is_name t ≡ b → (at == 0) ≡ c
+            → after_word text at (forest_at n (token t s)) ≡ (if b then (if c then forest_at (n + length t) s else after_word text (at - 1) (forest_at (n + length t) s)) else after_word text at (forest_at (n + length t) s))
+        step true true e f = let w = word_stands n t s r in rw w (rw (e, f) refl)
+        step true false e f = let w = word_stands n t s r in rw w (rw (e, f) refl)
+        step false c e f = let w = word_stands n t s r in rw w (rw e refl)
 
-    both : (b : Bool) → is_name t ≡ b → (c : Bool) → (at == 0) ≡ c → Behind (at - 1) (n + length t) s (after_said (at - 1) s) → Behind at (n + length t) s (after_said at s)
-        → Behind at n (token t s) (if b then (if c then s else after_said (at - 1) s) else after_said at s)
-    both true e true f one other = record { place = n + length t; is = step true true e f; stands = past_token n t s r }
-    both true e false f one other = record { place = one.place; is = step true false e f ∙ one.is; stands = one.stands }
-    both false e c f one other = record { place = other.place; is = step false c e f ∙ other.is; stands = other.stands }
+        both : (b : Bool) → is_name t ≡ b → (c : Bool) → (at == 0) ≡ c → Behind (at - 1) (n + length t) s (after_said (at - 1) s) → Behind at (n + length t) s (after_said at s)
+            → Behind at n (token t s) (if b then (if c then s else after_said (at - 1) s) else after_said at s)
+        both true e true f one other = record { place = n + length t; is = step true true e f; stands = past_token n t s r }
+        both true e false f one other = record { place = one.place; is = step true false e f ∙ one.is; stands = one.stands }
+        both false e c f one other = record { place = other.place; is = step false c e f ∙ other.is; stands = other.stands }
   stands_behind (space t s) n at r =
       let b = stands_behind s (n + length t) at (past_space n t s r) in
       record { place = b.place; is = passed (tree kind.Ignored n (n + length t) nothing) at (forest_at (n + length t) s) (no_word n (n + length t)) ∙ b.is; stands = b.stands }
@@ -278,17 +278,17 @@ module _ {T V : Type 0} (text : Text) (f : Plain → Option T) (says : T → V) 
       (gathered o p s (n + length t) (past_space text n t s r) vs h)
   gathered o p (under j i s) n r vs h =
       both (is_kind j k) refl vs h (gathered o p s (n + length (text_of i)) (past_node text n j i s r)) where
-    at : ℕ
-    at = n + length (text_of i)
+        at : ℕ
+        at = n + length (text_of i)
 
-    both : (b : Bool) → is_kind j k ≡ b → (vs : List V) → AllMean (if b then i ∷ nodes_said k s else nodes_said k s) vs
-        → ((ws : List V) → AllMean (nodes_said k s) ws → map says (gather f (forest_at (n + length (text_of i)) s)) ≡ ws)
-        → map says (gather f (forest_at n (under j i s))) ≡ vs
-    both true e [] h more = absurd h
-    both true e (v ∷ vs) h more =
-        found_first (tree j 0 0 (forest_at n i)) v vs (gather f (forest_at (n + length (text_of i)) s))
-        (subst (λ l. Found f says (tree l 0 0 (forest_at n i)) v) (sym (kind_is j k e)) (h.0 n (down text n j i s r))) (more vs h.1)
-    both false e vs h more = none_first (tree j 0 0 (forest_at n i)) vs (gather f (forest_at (n + length (text_of i)) s)) (o (tree j 0 0 (forest_at n i)) e) (more vs h)
+        both : (b : Bool) → is_kind j k ≡ b → (vs : List V) → AllMean (if b then i ∷ nodes_said k s else nodes_said k s) vs
+            → ((ws : List V) → AllMean (nodes_said k s) ws → map says (gather f (forest_at (n + length (text_of i)) s)) ≡ ws)
+            → map says (gather f (forest_at n (under j i s))) ≡ vs
+        both true e [] h more = absurd h
+        both true e (v ∷ vs) h more =
+            found_first (tree j 0 0 (forest_at n i)) v vs (gather f (forest_at (n + length (text_of i)) s))
+            (subst (λ l. Found f says (tree l 0 0 (forest_at n i)) v) (sym (kind_is j k e)) (h.0 n (down text n j i s r))) (more vs h.1)
+        both false e vs h more = none_first (tree j 0 0 (forest_at n i)) vs (gather f (forest_at (n + length (text_of i)) s)) (o (tree j 0 0 (forest_at n i)) e) (more vs h)
 
   -- the nodes within the first node of another kind
   pub inside_gathered : Only → part_of k ≡ node → (outer : SyntaxKind) → part_of outer ≡ node → (s : Said) (n : ℕ) → Stands text n s → (vs : List V)

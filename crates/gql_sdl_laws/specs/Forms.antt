@@ -36,13 +36,18 @@ pub record Form (X T V : Type 0) : Type 0 where
   pub says : T → V
   pub told : X → V
 
--- what is written is a sentence of the form's rule, and stands for something that says what was shown
-pub record IsReadBack {X T V : Type 0} (form : Form X T V) (file : FileId) (it : X) : Type 0 where
+-- the text is a sentence of the form's rule, and stands for this
+pub record IsMeant {X T V : Type 0} (form : Form X T V) (text : Text) (file : FileId) (meant : T) : Type 0 where
   pub children : Forest
-  pub tree : IsTreeOf form.rule (form.written it) children
-  pub found : T
-  pub means : form.meant (form.written it) file (record { kind = form.kind; start = 0; end = 0; children = children }) ≡ Some found
-  pub same : form.says found ≡ form.told it
+  pub tree : IsTreeOf form.rule text children
+  pub means : form.meant text file (record { kind = form.kind; start = 0; end = 0; children = children }) ≡ Some meant
+
+-- what is written stands for one thing, and no other, which says what was shown
+pub record IsReadBack {X T V : Type 0} (form : Form X T V) (file : FileId) (it : X) : Type 0 where
+  pub read : T
+  pub is : IsMeant form (form.written it) file read
+  pub alone : (other : T) → IsMeant form (form.written it) file other → other ≡ read
+  pub same : form.says read ≡ form.told it
 
 -- an argument, or a field of an input object
 abbrev pub input_form : Form ShownInput InputValueDefinition Input

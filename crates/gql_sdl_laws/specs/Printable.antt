@@ -90,9 +90,12 @@ IsDirectiveLine it = Unless (is_directive_name it.name.text) (IsDirective it)
 abbrev pub IsTypeLine : ShownType → Type 0
 IsTypeLine it = Unless (is_built_in it) (IsType it)
 
-pub record IsSchema (it : ShownSchema) : Type 0 where
+pub record AreRoots (it : ShownSchema) : Type 0 where
   pub query : is_name it.query.text ≡ true
   pub mutation : IsRoot it.mutation
   pub subscription : IsRoot it.subscription
+
+pub record IsSchema (it : ShownSchema) : Type 0 where
+  pub roots : AreRoots it
   pub directives : Each IsDirectiveLine it.directives
   pub types : Each IsTypeLine it.types

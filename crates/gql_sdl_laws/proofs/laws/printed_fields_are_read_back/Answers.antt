@@ -1,9 +1,12 @@
 -- Fields.
 use Rattle.std.proofs.Common.{refl}
 use Rattle.gql_sdl_laws.specs.Forms.{field_form}
+use Rattle.gql_sdl_laws.proofs.Blind.{field-blind}
 use Rattle.gql_sdl_laws.proofs.Fields.{printed_field}
 use Rattle.gql_sdl_laws.proofs.ReadBack.{read_back}
 use Rattle.gql_sdl_laws.proofs.laws.printed_fields_are_read_back.Goals as goal
 
 pub returns : goal.returns
-returns c = λ file it h. read_back field_form refl file it (printed_field it h)
+returns c =
+    let law = c.texts_have_one_tree.ensures in
+    λ file it h. read_back law.tree law.ends field_form refl refl file (λ text. field-blind text file) it (printed_field it h)

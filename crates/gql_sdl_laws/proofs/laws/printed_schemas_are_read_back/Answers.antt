@@ -1,5 +1,5 @@
 -- Whole schemas.
-use Rattle.std.proofs.Common.{map, ap, sym, ◌∙◌}
+use Rattle.std.proofs.Common.{map, ap, ◌∙◌}
 use Rattle.gql_sdl.specs.Schemas.{schema_text}
 use Rattle.gql_sdl_laws.specs.Meant.{says}
 use Rattle.gql_sdl_laws.proofs.Schemas.{printed_schema}
