@@ -29,3 +29,4 @@ mod ReadBack
 mod SchemaDefinitions
 mod Lines
 mod Schemas
+mod SmallSchema

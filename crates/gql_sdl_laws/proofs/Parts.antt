@@ -45,10 +45,6 @@ pub nodes_other : (known k : SyntaxKind) (o : Option Said) (s : Said) → is_kin
 nodes_other known k None s e = refl
 nodes_other known k (Some i) s e = rw e refl
 
-pub names_part : (k : SyntaxKind) (o : Option Said) (s : Said) → names_said (part_said k o s) ≡ names_said s
-names_part k None s = refl
-names_part k (Some i) s = refl
-
 -- ---- a node right behind a name
 
 abbrev pub close_said : SyntaxKind → Option Said → Said → Said

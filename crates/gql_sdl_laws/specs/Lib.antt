@@ -3,3 +3,4 @@ pub mod Meant
 pub mod Told
 pub mod Printable
 pub mod Forms
+pub mod Examples
