@@ -21,7 +21,7 @@ use Rattle.gql_print_laws.specs.Written.{Ends}
 abbrev pub at_most : ℕ → ℕ → Type 0
 at_most n m = n ≤ m
 
-less_or : (n m : ℕ) → (n < m) ⊎ (m ≤ n)
+pub less_or : (n m : ℕ) → (n < m) ⊎ (m ≤ n)
 less_or n m = by_test (nat_le m n) refl where
   by_test : (t : Bool) → nat_le m n ≡ t → (n < m) ⊎ (m ≤ n)
   by_test true e = inr (grind (arith, nat_tests, e))
@@ -36,12 +36,12 @@ slice_out : (t rest : Text) → slice_index (t ++ rest) (length t) ≡ slice_ind
 slice_out [] rest = refl
 slice_out (x ∷ t) rest = slice_out t rest
 
-slice_past : (i : ℕ) (t : Text) → length t ≤ i → slice_index t i ≡ 0
+pub slice_past : (i : ℕ) (t : Text) → length t ≤ i → slice_index t i ≡ 0
 slice_past i [] h = refl
 slice_past zero (x ∷ t) h = absurd (omega arith)
 slice_past (suc i) (x ∷ t) h = slice_past i t (omega arith)
 
-drop_front : (n : ℕ) (t rest : Text) → n ≤ length t → drop n (t ++ rest) ≡ drop n t ++ rest
+pub drop_front : (n : ℕ) (t rest : Text) → n ≤ length t → drop n (t ++ rest) ≡ drop n t ++ rest
 drop_front zero t rest h = refl
 drop_front (suc n) [] rest h = absurd (omega arith)
 drop_front (suc n) (x ∷ t) rest h = drop_front n t rest (omega arith)
@@ -52,7 +52,7 @@ drop_past zero (x ∷ t) h = absurd (omega arith)
 drop_past (suc n) [] h = refl
 drop_past (suc n) (x ∷ t) h = drop_past n t (omega arith)
 
-drop_long : (n : ℕ) (t : Text) → n ≤ length t → n + length (drop n t) ≡ length t
+pub drop_long : (n : ℕ) (t : Text) → n ≤ length t → n + length (drop n t) ≡ length t
 drop_long zero t h = omega arith
 drop_long (suc n) [] h = absurd (omega arith)
 drop_long (suc n) (x ∷ t) h = let e = drop_long n t (omega arith) in omega (arith, e)
@@ -160,7 +160,7 @@ pub exponent_is : (t : Text) (f : ℕ) → exponent_end t f ≡ (if is_exponent 
 unfolding exponent_end
 exponent_is t f = refl
 
-start_is : (t : Text) (f : ℕ) → exponent_start t f ≡ (if is_sign (slice_index t (f + 1)) then f + 2 else f + 1)
+pub start_is : (t : Text) (f : ℕ) → exponent_start t f ≡ (if is_sign (slice_index t (f + 1)) then f + 2 else f + 1)
 unfolding exponent_start
 start_is t f = refl
 

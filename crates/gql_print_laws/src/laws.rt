@@ -30,3 +30,9 @@ pub fn printed_values_are_read_back()
 {
     texts_have_one_value();
 }
+
+/// What a text stands for as a constant value is constant: no variable stands in it, its names are names, and each of its numbers is a
+/// token by itself (section 2.9 of GraphQL October 2021).
+pub fn read_values_are_constant()
+    ensures { (text : List ℕ) (file : FileId) (read : ValueKind) → IsValueOf text file read → IsConstant (literal_of read) }
+{}
