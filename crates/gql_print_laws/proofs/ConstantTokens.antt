@@ -1,5 +1,5 @@
 -- What a token of a text stands for is constant.
-use Rattle.std.proofs.Common.{◌≡◌, ℕ, zero, suc, ◌+◌, ◌-◌, ◌<◌, ◌≤◌, Bool, true, false, List, [], ◌∷◌, ◌++◌, length, take, drop, Option, Some, None, refl, sym, ap, ◌∙◌, subst, inl, inr, arith, length-drop}
+use Rattle.std.proofs.Common.{◌≡◌, ℕ, zero, suc, ◌-◌, ◌<◌, ◌≤◌, Bool, true, false, List, [], ◌∷◌, ◌++◌, length, take, drop, Some, None, refl, sym, ap, ◌∙◌, subst, inl, inr, arith, length-drop}
 use Rattle.std.specs.Prelude.{◌==◌, ◌||◌, ◌&&◌, nat_le, slice_index, slice_range, if◌then◌else◌}
 use Rattle.std.proofs.lemmas.Bool.Decides.{nat_tests}
 use Rattle.gql_grammar.specs.declared.syntax_kind.SyntaxKind.TheVariants as kind
@@ -7,12 +7,12 @@ use Rattle.gql_lexer.specs.Class.{is_digit, is_name_start, class_of}
 use Rattle.gql_lexer.specs.Lexical.{IsToken}
 use Rattle.gql_lexer.specs.declared.token.TokenKind.{TokenKind}
 use Rattle.gql_lexer.specs.declared.token.TokenKind.TheVariants as token
-use Rattle.gql_cst.specs.Forest.{Forest, Plain}
+use Rattle.gql_cst.specs.Forest.{Forest}
 use Rattle.gql_cst.specs.Leaves.{word, part_of_token, Leaf, IsLeaf, Tiles}
 use Rattle.gql_ast_base.specs.Kinds.{is_kind}
 use Rattle.gql_ast_base.specs.Literals.{opens_string, string_text, opens_number}
 use Rattle.gql_ast_base.specs.Parts.{piece, is_boundary, token_text}
-use Rattle.gql_ast_base.specs.Values.{number_kind, literal}
+use Rattle.gql_ast_base.specs.Values.{literal}
 use Rattle.gql_ast_base.specs.declared.value.ValueKind.{ValueKind, Int, Float, String}
 use Rattle.gql_ast_laws.proofs.Blind.{tree}
 use Rattle.gql_print_laws.specs.Literal.{literal_of}

@@ -3,7 +3,6 @@ use Rattle.std.proofs.Common.{◌≡◌, ℕ, zero, suc, ◌++◌, Bool, true, f
 use Rattle.std.specs.Prelude.{not, ◌&&◌, option_and_then, slice_get, slice_range}
 use Rattle.std.specs.Option.{option_map}
 use Rattle.gql_source.specs.declared.file_id.FileId.{FileId}
-use Rattle.gql_grammar.specs.declared.rule.Rule.TheVariants.{ConstValue}
 use Rattle.gql_grammar.specs.declared.symbol.Terminal.TheVariants.{NameButLiteral}
 use Rattle.gql_grammar.specs.declared.syntax_kind.SyntaxKind.{SyntaxKind}
 use Rattle.gql_grammar.specs.declared.syntax_kind.SyntaxKind.TheVariants as kind
@@ -28,7 +27,7 @@ use Rattle.gql_ast_laws.proofs.Named.{nth_name-is}
 use Rattle.gql_ast_laws.proofs.Shown.{AreSpelled, below-of, rest-of, tops-shown, tiled-spelled}
 use Rattle.gql_ast_laws.proofs.TokenKinds.{word_is_token, no_token}
 use Rattle.gql_ast_laws.proofs.Tops.{tops}
-use Rattle.gql_print_laws.specs.Literal.{Literal, literal_of, literal_in, literals_of, pairs_of}
+use Rattle.gql_print_laws.specs.Literal.{literal_of, literal_in, literals_of, pairs_of}
 use Rattle.gql_print_laws.specs.ReadBack.{IsValueOf}
 use Rattle.gql_print_laws.specs.Written as written
 use Rattle.gql_print_laws.specs.Written.{IsConstant}
@@ -83,14 +82,14 @@ module _ (text : Text) (file : FileId) where
   at_named (tree_then k start end children rest) n y h =
       let t : Plain = record { kind = k; start = start; end = end; children = children } in
       by_text (name_text text t) refl n h (λ m g. at_named rest m y g) where
-    by_text : (o : Option Text) → name_text text (record { kind = k; start = start; end = end; children = children }) ≡ o → (n : ℕ)
-        → slice_get (option_to_list o ++ gather (name_text text) rest) n ≡ Some y
-        → ((m : ℕ) → slice_get (gather (name_text text) rest) m ≡ Some y → is_name y ≡ true) → is_name y ≡ true
-    by_text None e n h more = more n h
-    by_text (Some x) e zero h more =
-        let same : x ≡ y = cc in
-        text_named (record { kind = k; start = start; end = end; children = children }) y (e ∙ ap (λ z. Some z) same)
-    by_text (Some x) e (suc n) h more = more n h
+        by_text : (o : Option Text) → name_text text (record { kind = k; start = start; end = end; children = children }) ≡ o → (n : ℕ)
+            → slice_get (option_to_list o ++ gather (name_text text) rest) n ≡ Some y
+            → ((m : ℕ) → slice_get (gather (name_text text) rest) m ≡ Some y → is_name y ≡ true) → is_name y ≡ true
+        by_text None e n h more = more n h
+        by_text (Some x) e zero h more =
+            let same : x ≡ y = cc in
+            text_named (record { kind = k; start = start; end = end; children = children }) y (e ∙ ap (λ z. Some z) same)
+        by_text (Some x) e (suc n) h more = more n h
 
   get_map : (xs : List Named) (n : ℕ) (x : Named) → slice_get xs n ≡ Some x → slice_get (map (λ (m : Named). m.text) xs) n ≡ Some x.text
   get_map [] n x h = absurd (cc)
@@ -172,9 +171,9 @@ module _ (text : Text) (file : FileId) where
       (if-any IsConstantKind (is_kind k kind.BooleanValue) (boolean_content text children) _ (map-always IsConstantKind Boolean _ boolean_constant)
       (if-any IsConstantKind (is_kind k kind.NullValue) (Some Null) _ (subst IsConstant (sym literal-Null) tt)
       (by_enum (is_kind k kind.EnumValue) refl)))) where
-    by_enum : (b : Bool) → is_kind k kind.EnumValue ≡ b → IfAny IsConstantKind (if b then option_map Enum (nth_name text file 0 children) else None)
-    by_enum true e = enum_constant children s (enum e)
-    by_enum false e = tt
+        by_enum : (b : Bool) → is_kind k kind.EnumValue ≡ b → IfAny IsConstantKind (if b then option_map Enum (nth_name text file 0 children) else None)
+        by_enum true e = enum_constant children s (enum e)
+        by_enum false e = tt
 
   content_constant : (k : SyntaxKind) (start end : ℕ) (children : Forest) → IfAny IsConstantKind (simple_content text file (tree k start end children)) → AreConstant children
       → IfAny IsConstantKind (content_of text file (tree k start end children))
@@ -251,5 +250,5 @@ pub value_is_constant : (text : Text) (file : FileId) (meant : ValueKind) → Is
 value_is_constant text file meant v =
     let f = v.children in
     let all = row_constant text file f (sentence_constant (shown text f) v.tree.sentence) (tiled-spelled text 0 (leaves f) (length text) v.tree.tiles)
-        (tiled_constant text 0 (leaves f) (length text) v.tree.tiles) in
+    (tiled_constant text 0 (leaves f) (length text) v.tree.tiles) in
     head_each (contents text file f) meant all.of_contents v.means

@@ -1,12 +1,12 @@
 -- Which word a number is, and which value it stands for.
-use Rattle.std.proofs.Common.{◌≡◌, ℕ, zero, suc, ◌+◌, ◌<◌, ◌≤◌, Bool, true, false, [], ◌∷◌, ◌++◌, length, drop, Some, refl, sym, ap, ◌∙◌, subst, inl, inr, ◌⊎◌, arith}
-use Rattle.std.specs.Prelude.{◌==◌, ◌||◌, ◌&&◌, not, nat_le, slice_index, if◌then◌else◌}
+use Rattle.std.proofs.Common.{◌≡◌, ℕ, zero, suc, ◌+◌, ◌<◌, Bool, true, false, [], ◌∷◌, ◌++◌, length, Some, refl, sym, ap, ◌∙◌, subst, inl, inr, ◌⊎◌, arith}
+use Rattle.std.specs.Prelude.{◌==◌, ◌||◌, slice_index, if◌then◌else◌}
 use Rattle.std.specs.List.{prefix_len, list_any}
 use Rattle.std.proofs.lemmas.Bool.{eqb-true}
 use Rattle.std.proofs.lemmas.Bool.Decides.{nat_tests}
-use Rattle.gql_lexer.specs.Class.{is_digit, is_name_start, is_name_continue, is_blank, is_punctuator, class_of}
-use Rattle.gql_lexer.specs.Lex.{sign_end, whole_end, fraction_end, exponent_start, exponent_end, is_exponent, is_sign, goes_on}
-use Rattle.gql_lexer.specs.Lexical.{IsToken, IsNumber, fraction_of, number_end, lacks_whole, lacks_exponent}
+use Rattle.gql_lexer.specs.Class.{is_digit, is_blank, class_of}
+use Rattle.gql_lexer.specs.Lex.{sign_end, whole_end, exponent_start, is_exponent}
+use Rattle.gql_lexer.specs.Lexical.{IsToken, fraction_of, number_end}
 use Rattle.gql_lexer.specs.declared.token.TokenKind.TheVariants.{IntValue, FloatValue}
 use Rattle.gql_grammar.specs.declared.word.Word.TheVariants.{IntLiteral, FloatLiteral}
 use Rattle.gql_cst.specs.Words.{has_byte, word_of}
@@ -14,7 +14,6 @@ use Rattle.gql_ast_base.specs.Literals.{has_part}
 use Rattle.gql_ast_base.specs.Values.{literal}
 use Rattle.gql_ast_base.specs.declared.value.ValueKind.TheVariants.{Int, Float}
 use Rattle.gql_print_laws.specs.Said.{Text}
-use Rattle.gql_print_laws.specs.Written.{Ends}
 use Rattle.gql_print_laws.proofs.Numbers.{at_most, slice_in, digits, first_of_number, number_low, number_blank, number_quote, whole_at, same_eq, whole_is, fraction_is, exponent_is, number_some}
 
 -- ---- its bytes

@@ -1,18 +1,13 @@
 -- A number that is one token by itself is one wherever something ends it.
-use Rattle.std.proofs.Common.{◌≡◌, ℕ, zero, suc, ◌+◌, ◌<◌, ◌≤◌, Bool, true, false, [], ◌∷◌, ◌++◌, length, drop, Some, refl, sym, ap, ◌∙◌, subst, inl, inr, ◌⊎◌, arith}
+use Rattle.std.proofs.Common.{◌≡◌, ℕ, zero, suc, ◌+◌, ◌<◌, ◌≤◌, Bool, true, false, [], ◌∷◌, ◌++◌, length, drop, refl, sym, ap, ◌∙◌, subst, inl, inr, ◌⊎◌, arith}
 use Rattle.std.specs.Prelude.{◌==◌, ◌||◌, ◌&&◌, not, nat_le, slice_index, if◌then◌else◌}
-use Rattle.std.specs.List.{prefix_len, list_any}
+use Rattle.std.specs.List.{prefix_len}
 use Rattle.std.proofs.lemmas.Bool.{eqb-true}
 use Rattle.std.proofs.lemmas.Bool.Decides.{nat_tests}
 use Rattle.gql_lexer.specs.Class.{is_digit, is_name_start, is_name_continue, is_blank, is_punctuator, class_of}
 use Rattle.gql_lexer.specs.Lex.{sign_end, whole_end, fraction_end, exponent_start, exponent_end, is_exponent, is_sign, goes_on}
 use Rattle.gql_lexer.specs.Lexical.{IsToken, IsNumber, fraction_of, number_end, lacks_whole, lacks_exponent}
 use Rattle.gql_lexer.specs.declared.token.TokenKind.TheVariants.{IntValue, FloatValue}
-use Rattle.gql_grammar.specs.declared.word.Word.TheVariants.{IntLiteral, FloatLiteral}
-use Rattle.gql_cst.specs.Words.{has_byte, word_of}
-use Rattle.gql_ast_base.specs.Literals.{has_part}
-use Rattle.gql_ast_base.specs.Values.{literal}
-use Rattle.gql_ast_base.specs.declared.value.ValueKind.TheVariants.{Int, Float}
 use Rattle.gql_print_laws.specs.Said.{Text}
 use Rattle.gql_print_laws.specs.Written.{Ends}
 

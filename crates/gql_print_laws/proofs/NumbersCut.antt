@@ -5,7 +5,7 @@ use Rattle.std.specs.List.{prefix_len}
 use Rattle.std.proofs.lemmas.Bool.Decides.{nat_tests}
 use Rattle.gql_lexer.specs.Class.{is_digit, class_of}
 use Rattle.gql_lexer.specs.Lex.{sign_end, whole_end, fraction_end, exponent_start, exponent_end, is_exponent, is_sign, goes_on}
-use Rattle.gql_lexer.specs.Lexical.{IsToken, IsNumber, fraction_of, number_end, lacks_whole, lacks_exponent}
+use Rattle.gql_lexer.specs.Lexical.{IsToken, IsNumber, fraction_of, number_end, lacks_exponent}
 use Rattle.gql_lexer.specs.declared.token.TokenKind.TheVariants.{IntValue, FloatValue}
 use Rattle.gql_print_laws.specs.Said.{Text}
 use Rattle.gql_print_laws.proofs.Numbers.{at_most, less_or, slice_in, slice_past, drop_front, drop_long, digits, whole_at, whole_is, fraction_is, exponent_is, start_is, same_eq}
@@ -48,9 +48,6 @@ exponent_further u f = subst (λ n. at_most f n) (sym (exponent_is u f)) (by_tes
   by_test : (b : Bool) → at_most f (if b then digits u (exponent_start u f) else f)
   by_test true = let a = start_further u f in omega (arith, a)
   by_test false = omega arith
-
-not_same : (n m : ℕ) → (n == m) ≡ false → n ≤ m → n < m
-not_same n m h le = grind (arith, nat_tests, h, le)
 
 other_way : (n m : ℕ) → (n == m) ≡ false → m ≤ n → m < n
 other_way n m h le = grind (arith, nat_tests, h, le)
@@ -96,9 +93,9 @@ module _ (t rest : Text) where
     unfolding whole_at
     whole_at_cut s h le =
         ap (λ b. if b == 0x30 then s + 1 else digits t s) (sym (slice_in s t rest h)) ∙ by_test (slice_index at s == 0x30) le where
-      by_test : (b : Bool) → at_most (if b then s + 1 else digits at s) (length t) → (if b then s + 1 else digits t s) ≡ (if b then s + 1 else digits at s)
-      by_test true k = refl
-      by_test false k = digits_cut s (omega (arith, h)) k
+          by_test : (b : Bool) → at_most (if b then s + 1 else digits at s) (length t) → (if b then s + 1 else digits t s) ≡ (if b then s + 1 else digits at s)
+          by_test true k = refl
+          by_test false k = digits_cut s (omega (arith, h)) k
 
     whole_cut : whole_end t ≡ w
     whole_cut =
@@ -153,29 +150,29 @@ module _ (t rest : Text) where
         let long : length t ≡ digits at (exponent_start at f) = number.ends ∙ is in
         let a = start_further at f in
         by_case long a (less_or (f + 1) (length t)) where
-      started : f + 1 < length t → exponent_start t f ≡ exponent_start at f
-      started h = start_is t f ∙ ap (λ b. if is_sign b then f + 2 else f + 1) (sym (slice_in (f + 1) t rest h)) ∙ sym (start_is at f)
+          started : f + 1 < length t → exponent_start t f ≡ exponent_start at f
+          started h = start_is t f ∙ ap (λ b. if is_sign b then f + 2 else f + 1) (sym (slice_in (f + 1) t rest h)) ∙ sym (start_is at f)
 
-      -- it would be the last byte, and have no digits
-      last : length t ≡ digits at (exponent_start at f) → length t ≤ f + 1 → f + 1 ≤ exponent_start at f → ⊥
-      last long h a =
-          let start : length t ≡ exponent_start at f = omega (arith, long, h, a) in
-          let other : (number_end at == f) ≡ false = let n = number.ends in grind (arith, nat_tests, n, a, start) in
-          let same : (number_end at == exponent_start at f) ≡ true = same_eq (number_end at) (exponent_start at f) (sym number.ends ∙ start) in
-          let lacks : lacks_exponent at ≡ true = rw (other, same) refl in
-          let wrong : true ≡ false = sym lacks ∙ number.exponent in
-          absurd (cc)
+          -- it would be the last byte, and have no digits
+          last : length t ≡ digits at (exponent_start at f) → length t ≤ f + 1 → f + 1 ≤ exponent_start at f → ⊥
+          last long h a =
+              let start : length t ≡ exponent_start at f = omega (arith, long, h, a) in
+              let other : (number_end at == f) ≡ false = let n = number.ends in grind (arith, nat_tests, n, a, start) in
+              let same : (number_end at == exponent_start at f) ≡ true = same_eq (number_end at) (exponent_start at f) (sym number.ends ∙ start) in
+              let lacks : lacks_exponent at ≡ true = rw (other, same) refl in
+              let wrong : true ≡ false = sym lacks ∙ number.exponent in
+              absurd (cc)
 
-      by_case : length t ≡ digits at (exponent_start at f) → f + 1 ≤ exponent_start at f → (f + 1 < length t) ⊎ (length t ≤ f + 1) → Exponent
-      by_case long a (inl h) =
-          let start = started h in
-          let here : is_exponent (slice_index t f) ≡ true = ap is_exponent (sym (slice_in f t rest (omega (arith, h)))) ∙ e in
-          record {
-            end = exponent_is t f ∙ ap (λ b. if b then digits t (exponent_start t f) else f) here ∙ ap (λ n. digits t n) start
-                ∙ digits_cut (exponent_start at f) (omega (arith, long)) (omega (arith, long)) ∙ sym long;
-            lacks = ap (λ n. not (length t == f) && length t == n) start ∙ ap (λ n. not (n == f) && n == exponent_start at f) number.ends ∙ number.exponent;
-          }
-      by_case long a (inr h) = absurd (last long h a)
+          by_case : length t ≡ digits at (exponent_start at f) → f + 1 ≤ exponent_start at f → (f + 1 < length t) ⊎ (length t ≤ f + 1) → Exponent
+          by_case long a (inl h) =
+              let start = started h in
+              let here : is_exponent (slice_index t f) ≡ true = ap is_exponent (sym (slice_in f t rest (omega (arith, h)))) ∙ e in
+              record {
+                end = exponent_is t f ∙ ap (λ b. if b then digits t (exponent_start t f) else f) here ∙ ap (λ n. digits t n) start
+                    ∙ digits_cut (exponent_start at f) (omega (arith, long)) (omega (arith, long)) ∙ sym long;
+                lacks = ap (λ n. not (length t == f) && length t == n) start ∙ ap (λ n. not (n == f) && n == exponent_start at f) number.ends ∙ number.exponent;
+              }
+          by_case long a (inr h) = absurd (last long h a)
 
     exponent_cut : (b : Bool) → is_exponent (slice_index at f) ≡ b → Exponent
     exponent_cut true e = some_exponent e

@@ -1,20 +1,16 @@
 -- What is written of a constant literal is a value by the grammar, with tokens one behind the other, and stands for the literal.
-use Rattle.std.proofs.Common.{◌≡◌, ◌+◌, [], ◌++◌, length, Some, refl, sym, subst, arith, append-nil}
+use Rattle.std.proofs.Common.{◌≡◌, ◌+◌, [], ◌++◌, length, refl, sym, subst, arith, append-nil}
 use Rattle.gql_source.specs.declared.file_id.FileId.{FileId}
 use Rattle.gql_grammar.specs.declared.rule.Rule.TheVariants as rule
 use Rattle.gql_grammar.specs.declared.syntax_kind.SyntaxKind.TheVariants as kind
 use Rattle.gql_grammar.specs.Sentence.{Fits, done, tree}
-use Rattle.gql_cst.specs.Forest.{Forest}
 use Rattle.gql_cst.specs.Leaves.{leaves, Tiles}
 use Rattle.gql_cst.specs.Sentences.{shown}
-use Rattle.gql_cst.specs.TreeOf.{IsTreeOf}
-use Rattle.gql_ast_base.specs.Parts.{head}
-use Rattle.gql_ast_base.specs.Values.{contents}
 use Rattle.gql_ast_base.specs.declared.value.ValueKind.{ValueKind}
 use Rattle.gql_print_laws.specs.Literal.{Literal, literal_of}
 use Rattle.gql_print_laws.specs.Said.{Text, text_of, forest_at, row_of, words_of}
 use Rattle.gql_print_laws.specs.Written.{content_said, Ends, IsConstant}
-use Rattle.gql_print_laws.specs.ReadBack.{IsValueOf, StandsFor}
+use Rattle.gql_print_laws.specs.ReadBack.{StandsFor}
 use Rattle.gql_print_laws.proofs.Rest.{Rest}
 use Rattle.gql_print_laws.proofs.Laid.{laid, shown_is, words_are}
 use Rattle.gql_print_laws.proofs.Lexed.{lexes}

@@ -1,5 +1,5 @@
 -- A text's trees give one value.
-use Rattle.std.proofs.Common.{◌≡◌, List, Some, refl, ◌∙◌, sym, ap}
+use Rattle.std.proofs.Common.{◌≡◌, List, Some, refl, ◌∙◌, sym}
 use Rattle.std.specs.Prelude.{ℕ}
 use Rattle.gql_source.specs.declared.file_id.FileId.{FileId}
 use Rattle.gql_grammar.specs.declared.rule.Rule.TheVariants.{ConstValue}
