@@ -1,5 +1,5 @@
 -- References to types.
-use Rattle.std.proofs.Common.{◌≡◌, ℕ, ◌+◌, true, false, List, [], ◌∷◌, ◌++◌, length, Some, None, refl, sym, ap, ◌∙◌, subst, rules, append_assoc, append-nil}
+use Rattle.std.proofs.Common.{◌≡◌, ℕ, ◌+◌, true, List, [], ◌∷◌, ◌++◌, length, Some, None, refl, sym, ap, ◌∙◌, subst, rules, append_assoc, append-nil}
 use Rattle.std.specs.Prelude.{codes, slice_get}
 use Rattle.gql_source.specs.declared.file_id.FileId.{FileId}
 use Rattle.gql_grammar.specs.declared.word.Word.{Word}
@@ -27,7 +27,7 @@ use Rattle.gql_print_laws.specs.Written.{Ends}
 use Rattle.gql_print_laws.proofs.Named.{name_is_name}
 use Rattle.gql_sdl_laws.specs.Forms.{Form}
 use Rattle.gql_sdl_laws.proofs.Grammar.{FitsTo, no_symbol, one_token, one_node, one_group}
-use Rattle.gql_sdl_laws.proofs.Reading.{After, From, after_over, bang, bracket_open, bracket_close, mark_after, mark_from_from, name_from, node_from, node_after}
+use Rattle.gql_sdl_laws.proofs.Reading.{From, after_over, bang, bracket_open, bracket_close, mark_after, mark_from_from, name_from, node_from}
 use Rattle.gql_sdl_laws.proofs.Standing.{Only, Stands, past_token, down, names_said, name_at}
 use Rattle.gql_sdl_laws.proofs.Printed.{Printed}
 
