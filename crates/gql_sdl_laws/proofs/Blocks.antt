@@ -1,5 +1,5 @@
 -- Things of one form in braces.
-use Rattle.std.proofs.Common.{◌≡◌, ℕ, false, List, [], ◌∷◌, ◌++◌, map, Option, Some, None, refl, sym, ap, subst}
+use Rattle.std.proofs.Common.{◌≡◌, ℕ, false, List, [], ◌∷◌, ◌++◌, map, Option, Some, None, refl, sym, ap, subst, arith}
 use Rattle.std.specs.Prelude.{codes}
 use Rattle.gql_source.specs.declared.file_id.FileId.{FileId}
 use Rattle.gql_grammar.specs.declared.word.Word.{Word}
@@ -10,6 +10,7 @@ use Rattle.gql_grammar.specs.declared.symbol.Terminal.TheVariants.{Exactly}
 use Rattle.gql_grammar.specs.declared.rule.Rule.{Rule}
 use Rattle.gql_grammar.specs.declared.syntax_kind.SyntaxKind.{SyntaxKind}
 use Rattle.gql_grammar.specs.Grammar.{declared}
+use Rattle.gql_grammar.specs.Row.{level}
 use Rattle.gql_grammar.specs.Rule.{kind_of}
 use Rattle.gql_grammar.specs.Sentence.{IsOneOf, is_brace_next}
 use Rattle.gql_cst.specs.Leaves.{node, part_of}
@@ -18,9 +19,10 @@ use Rattle.gql_print_laws.specs.Said.{Text, Said, over, token, space, text_of, w
 use Rattle.gql_sdl.specs.Pieces.{block}
 use Rattle.gql_sdl_laws.specs.Forms.{Form}
 use Rattle.gql_sdl_laws.specs.Printable.{Each}
+use Rattle.gql_sdl_laws.proofs.Depths.{IsShallow}
 use Rattle.gql_sdl_laws.proofs.Grammar.{FitsTo, no_symbol, one_token, one_node, ignored, leave, enter}
 use Rattle.gql_sdl_laws.proofs.Parts.{part_said, inner}
-use Rattle.gql_sdl_laws.proofs.Printed.{Printed, blanks, blanks_text, blanks_after, one_fits, blanks_fit, blanks_say, AllSay}
+use Rattle.gql_sdl_laws.proofs.Printed.{Printed, blanks, blanks_text, blanks_after, one_fits, blanks_fit, blanks_say, AllSay, blanks_shallow}
 use Rattle.gql_sdl_laws.proofs.Reading.{After, after_over, brace_open, brace_close, mark_from, node_from, blank_after}
 use Rattle.gql_sdl_laws.proofs.Standing.{inside_said, nodes_said, Stands, Only, inside_gathered}
 
@@ -47,6 +49,10 @@ module _ {X T V : Type 0} (form : Form X T V) where
     block_after p q [] h a = a
     block_after p q (x ∷ xs) h a =
         blank_after (node_from p (mark_from brace_open (blanks_after form q (x ∷ xs) h (blank_after (mark_from brace_close (after_over a.ends))))) a.lexes)
+
+    pub block_shallow : level form.kind ≡ 0 → level k ≡ 0 → (xs : List X) (h : Each (Printed form) xs) (s : Said) → IsShallow s → IsShallow (block_said xs h s)
+    block_shallow l m [] h s a = a
+    block_shallow l m (x ∷ xs) h s a = let b = blanks_shallow form l (x ∷ xs) h close (omega arith) in omega (arith, m, a, b)
 
     pub block_fits : (r : Rule) → kind_of r ≡ Some k → kind_of form.rule ≡ Some form.kind → IsOneOf (block_way form.rule) (declared r)
         → {ss : List Symbol} (xs : List X) (h : Each (Printed form) xs) {s : Said} {vs : List Word} → is_brace_next (words_of s ++ vs) ≡ false → FitsTo ss s vs

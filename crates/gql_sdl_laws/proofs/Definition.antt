@@ -1,5 +1,5 @@
 -- Definitions, as they are said; and what stands at their heads.
-use Rattle.std.proofs.Common.{◌≡◌, true, false, List, [], ◌∷◌, ◌++◌, Option, Some, None, refl, sym, ap, ◌∙◌, subst, append-nil}
+use Rattle.std.proofs.Common.{◌≡◌, ℕ, true, false, List, [], ◌∷◌, ◌++◌, Option, Some, None, refl, sym, ap, ◌∙◌, subst, append-nil, arith}
 use Rattle.std.specs.Prelude.{codes, slice_get}
 use Rattle.gql_source.specs.declared.file_id.FileId.{FileId}
 use Rattle.gql_grammar.specs.declared.word.Word.{Word}
@@ -12,25 +12,30 @@ use Rattle.gql_grammar.specs.declared.rule.Rule.TheVariants as rule
 use Rattle.gql_grammar.specs.declared.syntax_kind.SyntaxKind.{SyntaxKind}
 use Rattle.gql_grammar.specs.declared.syntax_kind.SyntaxKind.TheVariants as kind
 use Rattle.gql_grammar.specs.Grammar.{declared}
+use Rattle.gql_grammar.specs.Row.{level}
 use Rattle.gql_grammar.specs.Rule.{kind_of}
 use Rattle.gql_grammar.specs.Sentence.{IsOneOf, is_brace_next}
 use Rattle.gql_grammar.specs.Word.{is_same}
 use Rattle.gql_cst.specs.Leaves.{node, part_of}
 use Rattle.gql_cst.specs.Words.{word_of}
 use Rattle.gql_ast.specs.Documents.{choice_of, definition_of}
+use Rattle.gql_ast.specs.declared.definition.Definition.{Definition}
 use Rattle.gql_ast_base.specs.Kinds.{is_kind}
 use Rattle.gql_ast_base.specs.Names.{is_name}
+use Rattle.gql_ast_laws.proofs.Blind.{tree}
 use Rattle.gql_print_laws.specs.Said.{Text, Said, over, token, space, under, text_of, words_of, forest_at}
 use Rattle.gql_print_laws.specs.Written.{Ends}
 use Rattle.gql_print_laws.proofs.Named.{name_is_name}
 use Rattle.gql_sdl.specs.Forms.{described}
+use Rattle.gql_sdl_laws.specs.Forms.{Form}
 use Rattle.gql_sdl_laws.specs.Meant.{says}
 use Rattle.gql_sdl_laws.specs.Plain.{Plain}
+use Rattle.gql_sdl_laws.proofs.Depths.{IsShallow}
 use Rattle.gql_sdl_laws.proofs.Choices.{defined}
 use Rattle.gql_sdl_laws.proofs.Grammar.{FitsTo, no_symbol, one_token, one_node, ignored}
-use Rattle.gql_sdl_laws.proofs.Parts.{inner, described_said, description_said, described_text, described_from, described_fits, inside_described, own_description, names_described}
+use Rattle.gql_sdl_laws.proofs.Parts.{inner, described_said, description_said, described_text, described_from, described_fits, inside_described, own_description, names_described, nodes_described, described_shallow}
 use Rattle.gql_sdl_laws.proofs.Reading.{After, From, name_from, node_from, blank_after}
-use Rattle.gql_sdl_laws.proofs.Standing.{inside_said, names_said, down, Means}
+use Rattle.gql_sdl_laws.proofs.Standing.{inside_said, nodes_said, names_said, Stands, down, Found, Means}
 
 -- how a definition is said: it is what is written, token by token, fits the rule where no `{` follows, does not begin with one,
 -- and means what is told
@@ -41,6 +46,7 @@ pub record PrintedDefinition (written : Text) (told : Plain) : Type 0 where
   pub way : List Symbol
   pub one : IsOneOf way (declared rule.Definition)
   pub fits : {vs : List Word} → is_brace_next vs ≡ false → FitsTo way said vs
+  pub shallow : IsShallow said
   pub apart : (vs : List Word) → is_brace_next (words_of said ++ vs) ≡ false
   pub means : (text : Text) (file : FileId) → Means text (definition_of text file) says kind.Definition said told
 
@@ -52,17 +58,19 @@ module _ (r : Rule) (k : SyntaxKind) (i : Said) (written : Text) (told : Plain) 
     pub way : List Symbol
     pub one : IsOneOf way (declared r)
     pub fits : {vs : List Word} → is_brace_next vs ≡ false → FitsTo way i vs
+    pub shallow : IsShallow i
     pub apart : (vs : List Word) → is_brace_next (words_of i ++ vs) ≡ false
     pub means : (text : Text) (file : FileId) → Means text (choice_of text file) says k i told
 
-  pub definition_of_node : kind_of r ≡ Some k → part_of k ≡ node → IsOneOf (One r ∷ []) (declared rule.Definition) → Under → PrintedDefinition written told
-  definition_of_node e p o u = record {
+  pub definition_of_node : kind_of r ≡ Some k → part_of k ≡ node → level k ≡ 0 → IsOneOf (One r ∷ []) (declared rule.Definition) → Under → PrintedDefinition written told
+  definition_of_node e p l o u = record {
     said = under k i over;
     text = append-nil (text_of i) ∙ u.text;
     from = λ a. node_from p (u.from a) tt;
     way = One r ∷ [];
     one = o;
     fits = λ b. one_node r u.way e u.one (u.fits b) no_symbol;
+    shallow = let a = u.shallow in omega (arith, l, a);
     apart = λ vs. subst (λ ws. is_brace_next (ws ++ vs) ≡ false) (sym (append-nil (words_of i))) (u.apart vs);
     means = λ text file n st.
         let m = u.means text file n (down text n k i over st) in
@@ -86,6 +94,9 @@ module _ (d : Option Text) (word name : Text) (body : Said) where
 
   pub head_inside : (known : SyntaxKind) → is_kind kind.Description known ≡ false → inside_said known head_said ≡ inside_said known body
   head_inside known e = inside_described known d named_said e
+
+  pub head_shallow : IsShallow body → IsShallow head_said
+  head_shallow h = described_shallow d named_said h
 
   pub head_from : is_name word ≡ true → is_name name ≡ true → {rest : Text} → After body rest → From head_said rest
   head_from w n a = described_from d (name_from w (blank_after (name_from n a)))

@@ -16,33 +16,34 @@ use Rattle.gql_ast.specs.Documents.{choice_of}
 use Rattle.gql_ast.specs.declared.definition.Definition.TheVariants as definition
 use Rattle.gql_ast_base.specs.Kinds.{is_kind}
 use Rattle.gql_ast_base.specs.Literals.{description}
-use Rattle.gql_ast_base.specs.Names.{Named}
+use Rattle.gql_ast_base.specs.Names.{Named, is_name}
 use Rattle.gql_ast_base.specs.Parts.{gather, is_word, location, nth_name, nth_text}
 use Rattle.gql_ast_definitions.specs.Fields.{argument_definitions}
 use Rattle.gql_ast_definitions.specs.Schemas.{location_word, directive_location_of, directive_locations, directive_definition_of}
 use Rattle.gql_ast_definitions.specs.declared.schema_definition.DirectiveDefinition.{DirectiveDefinition}
 use Rattle.gql_ast_definitions.specs.declared.schema_definition.DirectiveLocation.{DirectiveLocation}
 use Rattle.gql_ast_laws.proofs.Blind.{tree}
-use Rattle.gql_print_laws.specs.Said.{Text, Said, token, space, text_of, forest_at}
+use Rattle.gql_print_laws.specs.Said.{Text, Said, over, token, space, under, text_of, forest_at}
 use Rattle.gql_print_laws.specs.Written.{Ends}
 use Rattle.gql_print_laws.proofs.Named.{name_is_name}
-use Rattle.gql_sdl.specs.Definitions.{directive_text, locations_text}
+use Rattle.gql_sdl.specs.Definitions.{directive_head, directive_text, locations_text}
 use Rattle.gql_sdl.specs.Forms.{described, arguments_text}
 use Rattle.gql_sdl.specs.Pieces.{between_if}
 use Rattle.gql_sdl.specs.declared.shown.ShownDirective.{ShownDirective}
 use Rattle.gql_sdl.specs.declared.shown.ShownInput.{ShownInput}
 use Rattle.gql_sdl_laws.specs.Forms.{input_form}
-use Rattle.gql_sdl_laws.specs.Meant.{says}
+use Rattle.gql_sdl_laws.specs.Meant.{says, input_says}
 use Rattle.gql_sdl_laws.specs.Plain as plain
 use Rattle.gql_sdl_laws.specs.Plain.{Input, Plain}
 use Rattle.gql_sdl_laws.specs.Printable.{Each, IsInput, IsDirective}
 use Rattle.gql_sdl_laws.specs.Told.{input_told, directive_told}
+use Rattle.gql_sdl_laws.proofs.Depths.{IsShallow}
 use Rattle.gql_sdl_laws.proofs.Choices.{is_directive}
 use Rattle.gql_sdl_laws.proofs.Definition.{PrintedDefinition, definition_of_node, head_apart}
 use Rattle.gql_sdl_laws.proofs.Grammar.{FitsTo, one_token, one_group, ignored, skip, take}
-use Rattle.gql_sdl_laws.proofs.Inputs.{printed_input, arguments_said, argued_said, argued_text, argued_after, argued_fits, arguments_are}
-use Rattle.gql_sdl_laws.proofs.Locations.{on_said, on_text, on_after, on_way, on_fits, on_inside, locations_in, on_told, located}
-use Rattle.gql_sdl_laws.proofs.Parts.{inner, close_said, close_own, close_other, close_names, described_said, description_said, described_text, described_from, described_fits, inside_described, own_description, names_described, description_is}
+use Rattle.gql_sdl_laws.proofs.Inputs.{printed_input, arguments_said, argued_said, argued_text, argued_after, argued_fits, arguments_are, argued_shallow}
+use Rattle.gql_sdl_laws.proofs.Locations.{on_said, on_text, on_after, on_way, on_fits, on_inside, locations_in, on_told, located, on_shallow}
+use Rattle.gql_sdl_laws.proofs.Parts.{inner, close_said, close_own, close_other, close_names, described_said, description_said, described_text, described_from, described_fits, inside_described, own_description, names_described, description_is, described_shallow}
 use Rattle.gql_sdl_laws.proofs.Printed.{Printed, each_printed}
 use Rattle.gql_sdl_laws.proofs.Reading.{After, From, at_sign, mark_from_from, name_from, blank_after}
 use Rattle.gql_sdl_laws.proofs.References.{IsName}
@@ -57,6 +58,10 @@ repeated_said false s = s
 repeated_text : (b : Bool) (s : Said) → text_of (repeated_said b s) ≡ between_if (codes " repeatable") b ++ text_of s
 repeated_text true s = refl
 repeated_text false s = refl
+
+repeated_shallow : (b : Bool) (s : Said) → IsShallow s → IsShallow (repeated_said b s)
+repeated_shallow true s h = h
+repeated_shallow false s h = h
 
 repeated_after : (b : Bool) {s : Said} {rest : Text} → After s rest → After (repeated_said b s) rest
 repeated_after true a = blank_after (name_from refl a)
@@ -203,13 +208,14 @@ module _ (d : Option Text) (name : Text) (n : IsName name) (xs : List ShownInput
   printed_located =
       definition_of_node rule.DirectiveDefinition kind.DirectiveDefinition said
       ((described d ++ (codes "directive @" ++ name)) ++ (arguments_text xs ++ (between_if (codes " repeatable") b ++ locations_text (l ∷ ls))))
-      (told_directive d name (map input_told xs) b (l ∷ ls)) refl refl (there (there (there here)))
+      (told_directive d name (map input_told xs) b (l ∷ ls)) refl refl refl (there (there (there here)))
       (record {
         text = said_text;
         from = said_from;
         way = directive_way;
         one = here;
         fits = λ e. said_fits;
+        shallow = described_shallow d named_said (argued_shallow xs given tail (repeated_shallow b (on_said l ls) (on_shallow l ls)));
         apart = head_apart d (codes "directive") (space (codes " ") (token (codes "@") (token name argued))) refl;
         means = said_means;
       })

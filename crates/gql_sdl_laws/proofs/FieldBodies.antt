@@ -1,5 +1,5 @@
 -- The interfaces and the fields of a type, behind a keyword and its name.
-use Rattle.std.proofs.Common.{◌≡◌, ℕ, true, false, List, [], ◌∷◌, ◌++◌, map, Some, None, refl, ap, ◌∙◌, append-nil}
+use Rattle.std.proofs.Common.{◌≡◌, ℕ, true, false, List, [], ◌∷◌, ◌++◌, map, Option, Some, None, refl, sym, ap, ◌∙◌, append-nil, arith}
 use Rattle.std.specs.Prelude.{codes, slice_get}
 use Rattle.gql_source.specs.declared.file_id.FileId.{FileId}
 use Rattle.gql_grammar.specs.declared.word.Word.TheVariants.{BraceOpen}
@@ -7,26 +7,34 @@ use Rattle.gql_grammar.specs.declared.symbol.Symbol.{Symbol}
 use Rattle.gql_grammar.specs.declared.symbol.Symbol.TheVariants.{Optional, Eager}
 use Rattle.gql_grammar.specs.declared.rule.Rule.TheVariants as rule
 use Rattle.gql_grammar.specs.declared.syntax_kind.SyntaxKind.TheVariants as kind
-use Rattle.gql_grammar.specs.Sentence.{here, is_brace_next}
+use Rattle.gql_grammar.specs.Sentence.{here, there, is_brace_next}
+use Rattle.gql_cst.specs.Forest.{Forest}
+use Rattle.gql_ast.specs.Documents.{choice_of}
 use Rattle.gql_ast.specs.TypeText.{type_text}
+use Rattle.gql_ast.specs.declared.definition.Definition.TheVariants as definition
 use Rattle.gql_ast_base.specs.Directives.{directives}
 use Rattle.gql_ast_base.specs.Kinds.{is_kind}
 use Rattle.gql_ast_base.specs.Literals.{description}
+use Rattle.gql_ast_base.specs.Names.{Named}
+use Rattle.gql_ast_base.specs.Parts.{gather, inside, location, nth_name}
+use Rattle.gql_ast_laws.proofs.Blind.{tree}
 use Rattle.gql_print_laws.specs.Said.{Text, Said, over, token, space, text_of, words_of, forest_at}
 use Rattle.gql_print_laws.specs.Written.{Ends}
 use Rattle.gql_sdl.specs.declared.shown.ShownType.{ShownType}
 use Rattle.gql_sdl.specs.declared.shown.TypeKind.{TypeKind}
+use Rattle.gql_sdl.specs.declared.shown.TypeKind.TheVariants.{Scalar, Object, Interface, Union, Enum, InputObject}
 use Rattle.gql_sdl.specs.Forms.{described}
-use Rattle.gql_sdl_laws.specs.Meant.{use_says, name_text}
-use Rattle.gql_sdl_laws.specs.Printable.{Each, IsField, IsReference}
-use Rattle.gql_sdl_laws.proofs.Definition.{head_said, head_text, head_description, head_inside, head_from, head_name, head_fits, head_apart}
+use Rattle.gql_sdl_laws.specs.Meant.{says, use_says, name_text}
+use Rattle.gql_sdl_laws.specs.Printable.{Each, IsField, IsInput, IsEnumValue, IsReference}
+use Rattle.gql_sdl_laws.proofs.Depths.{IsShallow}
+use Rattle.gql_sdl_laws.proofs.Definition.{definition_of_node, head_said, head_text, head_description, head_inside, head_from, head_name, head_fits, head_apart, head_shallow}
 use Rattle.gql_sdl_laws.proofs.Grammar.{FitsTo, no_symbol, skip}
 use Rattle.gql_sdl_laws.proofs.Parts.{inner, inside_own, inside_other, description_said, description_is}
 use Rattle.gql_sdl_laws.proofs.Printed.{Printed, each_printed}
-use Rattle.gql_sdl_laws.proofs.Reading.{From, after_over}
+use Rattle.gql_sdl_laws.proofs.Reading.{From, After, after_over}
 use Rattle.gql_sdl_laws.proofs.References.{IsName, references}
-use Rattle.gql_sdl_laws.proofs.Standing.{inside_said, names_said, Stands}
-use Rattle.gql_sdl_laws.proofs.TypeParts.{head_way, told_type, same_head, same_parts}
+use Rattle.gql_sdl_laws.proofs.Standing.{inside_said, names_said, Stands, name_at, Means}
+use Rattle.gql_sdl_laws.proofs.TypeParts.{head_way, kind_text, kind_told, PrintedKind, told_type, same_head, same_parts}
 use Rattle.gql_grammar.specs.declared.word.Word.{Word}
 use Rattle.gql_grammar.specs.Word.{is_same}
 use Rattle.gql_cst.specs.Words.{word_of}
@@ -39,9 +47,9 @@ use Rattle.gql_sdl.specs.Pieces.{block}
 use Rattle.gql_sdl_laws.specs.Forms.{field_form}
 use Rattle.gql_sdl_laws.specs.Meant.{field_says}
 use Rattle.gql_sdl_laws.specs.Told.{field_told}
-use Rattle.gql_sdl_laws.proofs.Blocks.{in_braces, block_said, block_text, block_after, block_fits, block_is}
+use Rattle.gql_sdl_laws.proofs.Blocks.{in_braces, block_said, block_text, block_after, block_fits, block_is, block_shallow}
 use Rattle.gql_sdl_laws.proofs.Fields.{printed_field, only_field}
-use Rattle.gql_sdl_laws.proofs.References.{interfaces_said, implemented_said, implemented_text, implemented_after, implemented_fits, interfaces_are}
+use Rattle.gql_sdl_laws.proofs.References.{interfaces_said, implemented_said, implemented_text, implemented_after, implemented_shallow, implemented_fits, interfaces_are}
 use Rattle.gql_sdl_laws.proofs.Uses.{uses_are}
 
 abbrev pub fielded_way : Word → List Symbol
@@ -82,6 +90,11 @@ module _ (word : Text) (x : ShownType) (hi : Each IsReference x.interfaces) (hf 
   fielded_fits w e n b =
       head_fits x.description word x.name.text body w e n
       (implemented_fits names (references x.interfaces hi) (skip (block_fits field_form kind.FieldsDefinition rule.FieldsDefinition refl refl here x.fields given b no_symbol)))
+
+  pub fielded_shallow : IsShallow fielded_said
+  fielded_shallow =
+      head_shallow x.description word x.name.text body
+      (implemented_shallow names fields_said (block_shallow field_form kind.FieldsDefinition refl refl x.fields given over (omega arith)))
 
   pub fielded_apart : is_same BraceOpen (word_of word) ≡ false → (vs : List Word) → is_brace_next (words_of fielded_said ++ vs) ≡ false
   fielded_apart e vs = head_apart x.description word (space (codes " ") (token x.name.text body)) e vs

@@ -1,5 +1,5 @@
 -- Fields of object types and interface types.
-use Rattle.std.proofs.Common.{◌≡◌, List, [], ◌∷◌, ◌++◌, Option, Some, refl, sym, ap, ◌∙◌, subst, append-nil}
+use Rattle.std.proofs.Common.{◌≡◌, ℕ, true, false, List, [], ◌∷◌, ◌++◌, map, Option, Some, None, refl, sym, ap, ◌∙◌, subst, append-nil, arith}
 use Rattle.std.specs.Prelude.{codes, slice_get}
 use Rattle.gql_source.specs.declared.file_id.FileId.{FileId}
 use Rattle.gql_grammar.specs.declared.word.Word.{Word}
@@ -25,21 +25,22 @@ use Rattle.gql_ast_laws.proofs.Blind.{tree}
 use Rattle.gql_print_laws.specs.Said.{Text, Said, over, token, space, under, text_of, forest_at}
 use Rattle.gql_print_laws.specs.Written.{Ends}
 use Rattle.gql_print_laws.proofs.Named.{name_is_name}
-use Rattle.gql_sdl.specs.Forms.{described, arguments_text, field_text}
+use Rattle.gql_sdl.specs.Forms.{described, arguments_text, deprecated, field_text}
 use Rattle.gql_sdl.specs.declared.shown.ShownField.{ShownField}
 use Rattle.gql_sdl_laws.specs.Forms.{input_form, field_form}
-use Rattle.gql_sdl_laws.specs.Meant.{field_says}
+use Rattle.gql_sdl_laws.specs.Meant.{input_says, field_says, use_says}
 use Rattle.gql_sdl_laws.specs.Plain.{Input, Field, Use}
 use Rattle.gql_sdl_laws.specs.Printable.{Each, IsInput, IsField}
 use Rattle.gql_sdl_laws.specs.Told.{field_told}
+use Rattle.gql_sdl_laws.proofs.Depths.{IsShallow}
 use Rattle.gql_sdl_laws.proofs.Grammar.{FitsTo, no_symbol, one_token, one_node, ignored}
-use Rattle.gql_sdl_laws.proofs.Inputs.{printed_input, arguments_said, argued_said, argued_text, argued_after, argued_fits, arguments_are}
-use Rattle.gql_sdl_laws.proofs.Parts.{inner, named_first, inside_own, inside_other, nodes_other, close_own, close_other, close_nodes, described_said, description_said, described_text, described_from, described_fits, inside_described, own_description, nodes_described, names_described, description_is}
+use Rattle.gql_sdl_laws.proofs.Inputs.{printed_input, arguments_said, argued_said, argued_text, argued_after, argued_fits, arguments_are, argued_shallow}
+use Rattle.gql_sdl_laws.proofs.Parts.{inner, named_first, inside_own, inside_other, nodes_other, close_own, close_other, close_nodes, described_said, description_said, described_text, described_from, described_fits, inside_described, own_description, nodes_described, names_described, description_is, described_shallow}
 use Rattle.gql_sdl_laws.proofs.Printed.{Printed, each_printed}
 use Rattle.gql_sdl_laws.proofs.Reading.{From, after_over, colon, mark_after, name_from, node_from, blank_after}
-use Rattle.gql_sdl_laws.proofs.Standing.{inside_said, nodes_said, names_said, name_at, Only, Means, AllMean, gathered, first_of}
+use Rattle.gql_sdl_laws.proofs.Standing.{inside_said, nodes_said, names_said, Stands, name_at, Only, Means, AllMean, gathered, first_of}
 use Rattle.gql_sdl_laws.proofs.Types.{printed_type, only_type}
-use Rattle.gql_sdl_laws.proofs.Uses.{noted_said, noted_text, noted_after, noted_fits, notes_said, notes_text, uses_are, deprecation_note, deprecated_text, deprecated_told}
+use Rattle.gql_sdl_laws.proofs.Uses.{noted_said, noted_text, noted_after, noted_fits, notes_said, notes_text, uses_are, deprecation_note, deprecated_text, deprecated_told, noted_shallow}
 
 abbrev field_way : List Symbol
 field_way =
@@ -79,7 +80,7 @@ module _ (x : ShownField) (h : IsField x) where
   tail = noted_said (deprecation_note x.deprecation) over
 
   abbrev typed_said : Said
-  typed_said = token (codes ":") (space (codes " ") (under kind.TypeReference (printed_type x.ty h.typed).said tail))
+  typed_said = token (codes ":") (space (codes " ") (under kind.TypeReference (printed_type x.ty h.typed h.shallow).said tail))
 
   abbrev named_said : Said
   named_said = token x.name.text (argued_said x.arguments given typed_said)
@@ -91,21 +92,27 @@ module _ (x : ShownField) (h : IsField x) where
   said_text =
       described_text x.description named_said
       ∙ ap (λ t. described x.description ++ (x.name.text ++ t)) (argued_text x.arguments given typed_said)
-      ∙ ap (λ t. described x.description ++ (x.name.text ++ (arguments_text x.arguments ++ (codes ": " ++ (t ++ text_of tail))))) (printed_type x.ty h.typed).text
+      ∙ ap (λ t. described x.description ++ (x.name.text ++ (arguments_text x.arguments ++ (codes ": " ++ (t ++ text_of tail))))) (printed_type x.ty h.typed h.shallow).text
       ∙ ap (λ t. described x.description ++ (x.name.text ++ (arguments_text x.arguments ++ (codes ": " ++ (type_text x.ty ++ t)))))
       (noted_text (deprecation_note x.deprecation) over ∙ append-nil (notes_text (deprecation_note x.deprecation)) ∙ deprecated_text x.deprecation)
 
   said_from : {rest : Text} → Ends rest → From field_said rest
   said_from e =
       let more = noted_after (deprecation_note x.deprecation) (after_over e) in
-      let ty = printed_type x.ty h.typed in
+      let ty = printed_type x.ty h.typed h.shallow in
       described_from x.description (name_from h.named (argued_after x.arguments given (mark_after colon (blank_after (node_from refl (ty.from more.ends) more.lexes)))))
 
   said_fits : {vs : List Word} → FitsTo field_way field_said vs
   said_fits =
-      let t = printed_type x.ty h.typed in
+      let t = printed_type x.ty h.typed h.shallow in
       described_fits x.description (one_token (name_is_name x.name.text h.named) (argued_fits x.arguments given (one_token refl (ignored
       (one_node rule.TypeReference t.way refl t.one t.fits (noted_fits (deprecation_note x.deprecation) no_symbol))))))
+
+  said_shallow : IsShallow field_said
+  said_shallow =
+      let t = (printed_type x.ty h.typed h.shallow).shallow in
+      let a = noted_shallow (deprecation_note x.deprecation) over (omega arith) in
+      described_shallow x.description named_said (argued_shallow x.arguments given typed_said (omega (arith, t, a)))
 
   said_name : slice_get (names_said field_said) 0 ≡ Some x.name.text
   said_name = ap (λ l. slice_get l 0) (names_described x.description named_said) ∙ named_first x.name.text (argued_said x.arguments given typed_said) h.named
@@ -131,12 +138,12 @@ module _ (x : ShownField) (h : IsField x) where
       ∙ close_other kind.Directives kind.ArgumentsDefinition (arguments_said x.arguments given) typed_said refl
       ∙ inside_own kind.Directives (notes_said (deprecation_note x.deprecation)) over refl
 
-  said_types : nodes_said kind.TypeReference field_said ≡ (printed_type x.ty h.typed).said ∷ []
+  said_types : nodes_said kind.TypeReference field_said ≡ (printed_type x.ty h.typed h.shallow).said ∷ []
   unfolding is_kind
   said_types =
       nodes_described kind.TypeReference x.description named_said refl
       ∙ close_nodes kind.TypeReference kind.ArgumentsDefinition (arguments_said x.arguments given) typed_said refl
-      ∙ ap (λ l. (printed_type x.ty h.typed).said ∷ l) (nodes_other kind.TypeReference kind.Directives (notes_said (deprecation_note x.deprecation)) over refl)
+      ∙ ap (λ l. (printed_type x.ty h.typed h.shallow).said ∷ l) (nodes_other kind.TypeReference kind.Directives (notes_said (deprecation_note x.deprecation)) over refl)
 
   said_means : (text : Text) (file : FileId) → Means text (field_of text file) field_says kind.FieldDefinition field_said (field_told x)
   said_means text file n r =
@@ -144,7 +151,7 @@ module _ (x : ShownField) (h : IsField x) where
       let a = name_at text file n field_said r 0 x.name.text said_name in
       let t = first_of text (type_of text file) unplaced kind.TypeReference row (unplaced x.ty)
       (gathered text (type_of text file) unplaced kind.TypeReference (only_type text file) refl field_said n r (unplaced x.ty ∷ [])
-      (subst (λ is. AllMean text (type_of text file) unplaced kind.TypeReference is (unplaced x.ty ∷ [])) (sym said_types) ((printed_type x.ty h.typed).means text file, tt))) in
+      (subst (λ is. AllMean text (type_of text file) unplaced kind.TypeReference is (unplaced x.ty ∷ [])) (sym said_types) ((printed_type x.ty h.typed h.shallow).means text file, tt))) in
       record {
         found = record {
           description = description text row;
@@ -168,5 +175,6 @@ printed_field x h = record {
   way = field_way;
   one = here;
   fits = said_fits x h;
+  shallow = said_shallow x h;
   means = said_means x h;
 }

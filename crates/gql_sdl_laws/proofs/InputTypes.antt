@@ -1,37 +1,40 @@
 -- Definitions of input object types.
-use Rattle.std.proofs.Common.{◌≡◌, ℕ, true, false, List, [], ◌∷◌, ◌++◌, map, Option, Some, None, refl, ap, ◌∙◌, append-nil}
-use Rattle.std.specs.Prelude.{codes}
+use Rattle.std.proofs.Common.{◌≡◌, ℕ, true, false, List, [], ◌∷◌, ◌++◌, map, Option, Some, None, refl, sym, ap, ◌∙◌, append-nil, arith}
+use Rattle.std.specs.Prelude.{codes, slice_get}
 use Rattle.gql_source.specs.declared.file_id.FileId.{FileId}
 use Rattle.gql_grammar.specs.declared.word.Word.{Word}
 use Rattle.gql_grammar.specs.declared.word.Word.TheVariants.{InputWord}
+use Rattle.gql_grammar.specs.declared.symbol.Symbol.{Symbol}
 use Rattle.gql_grammar.specs.declared.symbol.Symbol.TheVariants.{Optional, Eager}
 use Rattle.gql_grammar.specs.declared.rule.Rule.TheVariants as rule
 use Rattle.gql_grammar.specs.declared.syntax_kind.SyntaxKind.TheVariants as kind
 use Rattle.gql_grammar.specs.Sentence.{here, there, is_brace_next}
 use Rattle.gql_cst.specs.Forest.{Forest}
 use Rattle.gql_ast.specs.Documents.{choice_of}
+use Rattle.gql_ast.specs.TypeText.{type_text}
 use Rattle.gql_ast.specs.declared.definition.Definition.TheVariants as definition
 use Rattle.gql_ast_base.specs.Directives.{directives}
 use Rattle.gql_ast_base.specs.Kinds.{is_kind}
 use Rattle.gql_ast_base.specs.Literals.{description}
 use Rattle.gql_ast_base.specs.Names.{Named}
-use Rattle.gql_ast_base.specs.Parts.{location, nth_name}
+use Rattle.gql_ast_base.specs.Parts.{gather, inside, location, nth_name}
 use Rattle.gql_ast_laws.proofs.Blind.{tree}
-use Rattle.gql_print_laws.specs.Said.{Text, Said, over, token, space, text_of, forest_at}
+use Rattle.gql_print_laws.specs.Said.{Text, Said, over, token, space, text_of, words_of, forest_at}
 use Rattle.gql_print_laws.specs.Written.{Ends}
 use Rattle.gql_sdl.specs.declared.shown.ShownType.{ShownType}
-use Rattle.gql_sdl.specs.declared.shown.TypeKind.TheVariants.{InputObject}
+use Rattle.gql_sdl.specs.declared.shown.TypeKind.{TypeKind}
+use Rattle.gql_sdl.specs.declared.shown.TypeKind.TheVariants.{Scalar, Object, Interface, Union, Enum, InputObject}
 use Rattle.gql_sdl.specs.Forms.{described}
-use Rattle.gql_sdl_laws.specs.Meant.{says}
-use Rattle.gql_sdl_laws.specs.Printable.{Each, IsInput}
-use Rattle.gql_sdl_laws.proofs.Definition.{definition_of_node, head_said, head_text, head_description, head_inside, head_from, head_name, head_fits, head_apart}
-use Rattle.gql_sdl_laws.proofs.Grammar.{FitsTo, no_symbol}
+use Rattle.gql_sdl_laws.specs.Meant.{says, use_says, name_text}
+use Rattle.gql_sdl_laws.specs.Printable.{Each, IsField, IsInput, IsEnumValue, IsReference}
+use Rattle.gql_sdl_laws.proofs.Definition.{definition_of_node, head_said, head_text, head_description, head_inside, head_from, head_name, head_fits, head_apart, head_shallow}
+use Rattle.gql_sdl_laws.proofs.Grammar.{FitsTo, no_symbol, skip}
 use Rattle.gql_sdl_laws.proofs.Parts.{inner, inside_own, inside_other, description_said, description_is}
 use Rattle.gql_sdl_laws.proofs.Printed.{Printed, each_printed}
-use Rattle.gql_sdl_laws.proofs.Reading.{From, after_over}
-use Rattle.gql_sdl_laws.proofs.References.{IsName}
-use Rattle.gql_sdl_laws.proofs.Standing.{inside_said, Stands, name_at, Means}
-use Rattle.gql_sdl_laws.proofs.TypeParts.{head_way, kind_text, kind_told, PrintedKind, same_head, same_parts}
+use Rattle.gql_sdl_laws.proofs.Reading.{From, After, after_over}
+use Rattle.gql_sdl_laws.proofs.References.{IsName, references}
+use Rattle.gql_sdl_laws.proofs.Standing.{inside_said, names_said, Stands, name_at, Means}
+use Rattle.gql_sdl_laws.proofs.TypeParts.{head_way, kind_text, kind_told, PrintedKind, told_type, same_head, same_parts}
 use Rattle.gql_ast_definitions.specs.declared.type_definition.InputObjectTypeDefinition.{InputObjectTypeDefinition}
 use Rattle.std.specs.Prelude.{Bool}
 use Rattle.gql_ast_definitions.specs.Definitions.{input_object_of}
@@ -41,10 +44,10 @@ use Rattle.gql_sdl.specs.Pieces.{between_if, block}
 use Rattle.gql_sdl_laws.specs.Forms.{input_form}
 use Rattle.gql_sdl_laws.specs.Meant.{input_says}
 use Rattle.gql_sdl_laws.specs.Told.{input_told, one_of_uses}
-use Rattle.gql_sdl_laws.proofs.Blocks.{in_braces, block_said, block_text, block_after, block_fits, block_is}
+use Rattle.gql_sdl_laws.proofs.Blocks.{in_braces, block_said, block_text, block_after, block_fits, block_is, block_shallow}
 use Rattle.gql_sdl_laws.proofs.Inputs.{printed_input, only_input}
 use Rattle.gql_sdl_laws.proofs.Choices.{is_input_object}
-use Rattle.gql_sdl_laws.proofs.Uses.{Note, one_of, noted_said, noted_text, noted_after, noted_fits, notes_said, notes_text, notes_told, uses_are}
+use Rattle.gql_sdl_laws.proofs.Uses.{Note, one_of, noted_said, noted_text, noted_after, noted_fits, notes_said, notes_text, notes_told, uses_are, noted_shallow}
 
 abbrev one_of_note : Bool → Option Note
 one_of_note true = Some one_of
@@ -139,13 +142,14 @@ module _ (x : ShownType) (n : IsName x.name.text) (h : Each IsInput x.input_fiel
 
   pub printed_input_object : PrintedKind InputObject x
   printed_input_object =
-      definition_of_node rule.InputObjectTypeDefinition kind.InputObjectTypeDefinition said (kind_text InputObject x) (kind_told InputObject x) refl refl (there (there (there (there (there (there (there (there (there here)))))))))
+      definition_of_node rule.InputObjectTypeDefinition kind.InputObjectTypeDefinition said (kind_text InputObject x) (kind_told InputObject x) refl refl refl (there (there (there (there (there (there (there (there (there here)))))))))
       (record {
         text = said_text;
         from = said_from;
         way = head_way InputWord (Optional rule.ConstDirectives ∷ Eager rule.InputFieldsDefinition ∷ []);
         one = here;
         fits = said_fits;
+        shallow = head_shallow x.description (codes "input") x.name.text body (noted_shallow (one_of_note x.is_one_of) inputs_said (block_shallow input_form kind.InputFieldsDefinition refl refl x.input_fields given over (omega arith)));
         apart = head_apart x.description (codes "input") (space (codes " ") (token x.name.text body)) refl;
         means = said_means;
       })

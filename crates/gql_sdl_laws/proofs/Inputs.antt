@@ -1,5 +1,5 @@
 -- Arguments, and fields of input objects.
-use Rattle.std.proofs.Common.{◌≡◌, ℕ, true, List, [], ◌∷◌, ◌++◌, map, Option, Some, None, refl, sym, ap, ◌∙◌, subst, append-nil}
+use Rattle.std.proofs.Common.{◌≡◌, ℕ, true, false, List, [], ◌∷◌, ◌++◌, map, Option, Some, None, refl, sym, ap, ◌∙◌, subst, append_assoc, append-nil, arith}
 use Rattle.std.specs.Prelude.{codes, slice_get}
 use Rattle.std.specs.Option.{option_map}
 use Rattle.gql_source.specs.declared.file_id.FileId.{FileId}
@@ -17,8 +17,8 @@ use Rattle.gql_ast.specs.ValueText.{value_text}
 use Rattle.gql_ast_base.specs.Directives.{directives}
 use Rattle.gql_ast_base.specs.Kinds.{is_kind}
 use Rattle.gql_ast_base.specs.Literals.{description}
-use Rattle.gql_ast_base.specs.Names.{Named}
-use Rattle.gql_ast_base.specs.Parts.{first, location, nth_name}
+use Rattle.gql_ast_base.specs.Names.{Named, is_name}
+use Rattle.gql_ast_base.specs.Parts.{first, gather, inside, location, nth_name}
 use Rattle.gql_ast_base.specs.Types.{type_of}
 use Rattle.gql_ast_base.specs.Values.{value_of, default_value}
 use Rattle.gql_ast_base.specs.declared.type_ref.TypeRef.{TypeRef}
@@ -26,9 +26,9 @@ use Rattle.gql_ast_base.specs.declared.value.Value.{Value}
 use Rattle.gql_ast_definitions.specs.Fields.{input_value_of, argument_definitions}
 use Rattle.gql_ast_laws.specs.Printed.{unplaced}
 use Rattle.gql_ast_laws.proofs.Blind.{tree}
-use Rattle.gql_print_laws.specs.Literal.{literal_in}
+use Rattle.gql_print_laws.specs.Literal.{Literal, literal_in}
 use Rattle.gql_print_laws.specs.Said.{Text, Said, over, token, space, under, text_of, forest_at}
-use Rattle.gql_print_laws.specs.Written.{content_said, Ends}
+use Rattle.gql_print_laws.specs.Written.{content_said, Ends, IsConstant}
 use Rattle.gql_print_laws.proofs.Fitting.{fits_value}
 use Rattle.gql_print_laws.proofs.Named.{name_is_name}
 use Rattle.gql_print_laws.proofs.Texts.{text_is_written}
@@ -36,17 +36,18 @@ use Rattle.gql_sdl.specs.Forms.{described, default_text, deprecated, input_text,
 use Rattle.gql_sdl.specs.Pieces.{pieces}
 use Rattle.gql_sdl.specs.declared.shown.ShownInput.{ShownInput}
 use Rattle.gql_sdl_laws.specs.Forms.{input_form}
-use Rattle.gql_sdl_laws.specs.Meant.{input_says}
+use Rattle.gql_sdl_laws.specs.Meant.{input_says, use_says}
 use Rattle.gql_sdl_laws.specs.Plain.{Input, Use}
-use Rattle.gql_sdl_laws.specs.Printable.{Each, IsDefault, IsInput}
+use Rattle.gql_sdl_laws.specs.Printable.{Each, IsConstantText, IsDefault, IsInput}
 use Rattle.gql_sdl_laws.specs.Told.{input_told}
+use Rattle.gql_sdl_laws.proofs.Depths.{IsShallow, value_depth}
 use Rattle.gql_sdl_laws.proofs.Grammar.{FitsTo, no_symbol, one_token, one_node, ignored, skip, take}
-use Rattle.gql_sdl_laws.proofs.Parts.{part_said, close_said, inner, named_first, inside_own, inside_other, nodes_other, described_said, description_said, described_text, described_from, described_fits, inside_described, own_description, nodes_described, names_described, description_is}
-use Rattle.gql_sdl_laws.proofs.Printed.{Printed, one_said, one_text, commas, commas_text, commas_after, one_fits, commas_fit, one_says, commas_say}
-use Rattle.gql_sdl_laws.proofs.Reading.{After, From, after_over, equals, paren_open, paren_close, colon, mark_after, mark_after_from, mark_from, name_from, node_from, node_after, blank_after, value_from}
+use Rattle.gql_sdl_laws.proofs.Parts.{part_said, close_said, inner, named_first, inside_own, inside_other, nodes_other, described_said, description_said, described_text, described_from, described_fits, inside_described, own_description, nodes_described, names_described, description_is, described_shallow}
+use Rattle.gql_sdl_laws.proofs.Printed.{Printed, one_said, one_text, commas, commas_text, commas_after, one_fits, commas_fit, one_says, commas_say, one_shallow, commas_shallow}
+use Rattle.gql_sdl_laws.proofs.Reading.{After, From, after_over, equals, paren_open, paren_close, colon, mark_after, mark_after_from, mark_from, mark_from_from, name_from, node_from, node_after, blank_after, value_from}
 use Rattle.gql_sdl_laws.proofs.Standing.{inside_said, nodes_said, names_said, Stands, Within, within, name_at, Only, Means, AllMean, gathered, inside_gathered, first_of}
 use Rattle.gql_sdl_laws.proofs.Types.{printed_type, only_type}
-use Rattle.gql_sdl_laws.proofs.Uses.{noted_said, noted_text, noted_after, noted_fits, notes_said, notes_text, uses_are, deprecation_note, deprecated_text, deprecated_told}
+use Rattle.gql_sdl_laws.proofs.Uses.{noted_said, noted_text, noted_after, noted_fits, notes_said, notes_text, notes_told, uses_are, deprecation_note, deprecated_text, deprecated_told, noted_shallow}
 use Rattle.gql_sdl_laws.proofs.Values.{value_means, only_value, written_alike}
 
 -- ---- defaults
@@ -63,6 +64,10 @@ defaulted_text : (o : Option Text) (h : IsDefault o) (s : Said) → text_of (def
 defaulted_text None h s = refl
 defaulted_text (Some t) h s =
     ap (λ l. codes " = " ++ (l ++ text_of s)) (append-nil (text_of (content_said (literal_in h.value))) ∙ sym (text_is_written h.value.kind) ∙ sym h.is)
+
+defaulted_shallow : (o : Option Text) (h : IsDefault o) (s : Said) → IsShallow s → IsShallow (defaulted_said o h s)
+defaulted_shallow None h s a = a
+defaulted_shallow (Some t) h s a = let b = value_depth (literal_in h.value) in let c = h.shallow in omega (arith, a, b, c)
 
 defaulted_after : (o : Option Text) (h : IsDefault o) {s : Said} {rest : Text} → After s rest → After (defaulted_said o h s) rest
 defaulted_after None h a = a
@@ -132,7 +137,7 @@ module _ (x : ShownInput) (h : IsInput x) where
   tail = defaulted_said x.default_value h.constant (noted_said (deprecation_note x.deprecation) over)
 
   abbrev behind_name : Said
-  behind_name = token (codes ":") (space (codes " ") (under kind.TypeReference (printed_type x.ty h.typed).said tail))
+  behind_name = token (codes ":") (space (codes " ") (under kind.TypeReference (printed_type x.ty h.typed h.shallow).said tail))
 
   abbrev input_said : Said
   input_said = described_said x.description (token x.name.text behind_name)
@@ -145,19 +150,25 @@ module _ (x : ShownInput) (h : IsInput x) where
   said_text : text_of input_said ≡ input_text x
   said_text =
       described_text x.description (token x.name.text behind_name)
-      ∙ ap (λ t. described x.description ++ (x.name.text ++ (codes ": " ++ (t ++ text_of tail)))) (printed_type x.ty h.typed).text
+      ∙ ap (λ t. described x.description ++ (x.name.text ++ (codes ": " ++ (t ++ text_of tail)))) (printed_type x.ty h.typed h.shallow).text
       ∙ ap (λ t. described x.description ++ (x.name.text ++ (codes ": " ++ (type_text x.ty ++ t)))) tail_text
 
   said_from : {rest : Text} → Ends rest → From input_said rest
   said_from e =
       let more = defaulted_after x.default_value h.constant (noted_after (deprecation_note x.deprecation) (after_over e)) in
-      described_from x.description (name_from h.named (mark_after colon (blank_after (node_from refl ((printed_type x.ty h.typed).from more.ends) more.lexes))))
+      described_from x.description (name_from h.named (mark_after colon (blank_after (node_from refl ((printed_type x.ty h.typed h.shallow).from more.ends) more.lexes))))
 
   said_fits : {vs : List Word} → FitsTo input_way input_said vs
   said_fits =
-      let t = printed_type x.ty h.typed in
+      let t = printed_type x.ty h.typed h.shallow in
       described_fits x.description (one_token (name_is_name x.name.text h.named) (one_token refl (ignored (one_node rule.TypeReference t.way refl t.one t.fits
       (defaulted_fits x.default_value h.constant (noted_fits (deprecation_note x.deprecation) no_symbol))))))
+
+  said_shallow : IsShallow input_said
+  said_shallow =
+      let t = (printed_type x.ty h.typed h.shallow).shallow in
+      let a = defaulted_shallow x.default_value h.constant (noted_said (deprecation_note x.deprecation) over) (noted_shallow (deprecation_note x.deprecation) over (omega arith)) in
+      described_shallow x.description (token x.name.text behind_name) (omega (arith, t, a))
 
   said_name : slice_get (names_said input_said) 0 ≡ Some x.name.text
   said_name = ap (λ l. slice_get l 0) (names_described x.description (token x.name.text behind_name)) ∙ named_first x.name.text behind_name h.named
@@ -186,11 +197,11 @@ module _ (x : ShownInput) (h : IsInput x) where
       ∙ inside_other kind.Directives kind.DefaultValue (default_said x.default_value h.constant) (noted_said (deprecation_note x.deprecation) over) refl
       ∙ inside_own kind.Directives (notes_said (deprecation_note x.deprecation)) over refl
 
-  said_types : nodes_said kind.TypeReference input_said ≡ (printed_type x.ty h.typed).said ∷ []
+  said_types : nodes_said kind.TypeReference input_said ≡ (printed_type x.ty h.typed h.shallow).said ∷ []
   unfolding is_kind
   said_types =
       nodes_described kind.TypeReference x.description (token x.name.text behind_name) refl
-      ∙ ap (λ l. (printed_type x.ty h.typed).said ∷ l)
+      ∙ ap (λ l. (printed_type x.ty h.typed h.shallow).said ∷ l)
       (nodes_other kind.TypeReference kind.DefaultValue (default_said x.default_value h.constant) (noted_said (deprecation_note x.deprecation) over) refl
       ∙ nodes_other kind.TypeReference kind.Directives (notes_said (deprecation_note x.deprecation)) over refl)
 
@@ -200,7 +211,7 @@ module _ (x : ShownInput) (h : IsInput x) where
       let a = name_at text file n input_said r 0 x.name.text said_name in
       let t = first_of text (type_of text file) unplaced kind.TypeReference row (unplaced x.ty)
       (gathered text (type_of text file) unplaced kind.TypeReference (only_type text file) refl input_said n r (unplaced x.ty ∷ [])
-      (subst (λ is. AllMean text (type_of text file) unplaced kind.TypeReference is (unplaced x.ty ∷ [])) (sym said_types) ((printed_type x.ty h.typed).means text file, tt))) in
+      (subst (λ is. AllMean text (type_of text file) unplaced kind.TypeReference is (unplaced x.ty ∷ [])) (sym said_types) ((printed_type x.ty h.typed h.shallow).means text file, tt))) in
       record {
         found = record {
           description = description text row;
@@ -224,6 +235,7 @@ printed_input x h = record {
   way = input_way;
   one = here;
   fits = said_fits x h;
+  shallow = said_shallow x h;
   means = said_means x h;
 }
 
@@ -242,6 +254,13 @@ argued_text (x ∷ xs) h s =
     let close = token (codes ")") over in
     ap (λ t. (codes "(" ++ t) ++ text_of s)
     (one_text input_form x h.0 (commas input_form xs h.1 close) (pieces (codes ", ") true (map input_text xs)) (codes ")") (commas_text input_form xs h.1 close))
+
+pub argued_shallow : (xs : List ShownInput) (h : Each (Printed input_form) xs) (s : Said) → IsShallow s → IsShallow (argued_said xs h s)
+argued_shallow [] h s a = a
+argued_shallow (x ∷ xs) h s a =
+    let close = token (codes ")") over in
+    let b = one_shallow input_form refl x h.0 (commas input_form xs h.1 close) (commas_shallow input_form refl xs h.1 close (omega arith)) in
+    omega (arith, a, b)
 
 pub argued_after : (xs : List ShownInput) (h : Each (Printed input_form) xs) {s : Said} {rest : Text} → After s rest → After (argued_said xs h s) rest
 argued_after [] h a = a

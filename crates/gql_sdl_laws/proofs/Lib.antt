@@ -3,6 +3,7 @@ mod Reading
 mod Grammar
 mod Standing
 mod Values
+mod Depths
 mod Printed
 mod Types
 mod Parts

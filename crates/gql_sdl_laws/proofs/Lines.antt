@@ -1,8 +1,10 @@
 -- Definitions, each in a line of its own.
-use Rattle.std.proofs.Common.{◌≡◌, Bool, true, false, List, [], ◌∷◌, ◌++◌, map, refl, sym, ap, ◌∙◌, subst, append_assoc}
+use Rattle.std.proofs.Common.{◌≡◌, ℕ, Bool, true, false, List, [], ◌∷◌, ◌++◌, map, refl, sym, ap, ◌∙◌, subst, append_assoc, arith}
 use Rattle.std.specs.Prelude.{codes}
 use Rattle.std.specs.List.{flat_map}
 use Rattle.gql_source.specs.declared.file_id.FileId.{FileId}
+use Rattle.gql_grammar.specs.declared.word.Word.{Word}
+use Rattle.gql_grammar.specs.declared.symbol.Symbol.{Symbol}
 use Rattle.gql_grammar.specs.declared.symbol.Symbol.TheVariants.{One, Repeated}
 use Rattle.gql_grammar.specs.declared.rule.Rule.TheVariants as rule
 use Rattle.gql_grammar.specs.declared.syntax_kind.SyntaxKind.TheVariants as kind
@@ -15,9 +17,10 @@ use Rattle.gql_sdl_laws.specs.Meant.{says}
 use Rattle.gql_sdl_laws.specs.Plain.{Plain}
 use Rattle.gql_sdl_laws.specs.Printable.{Each, Unless}
 use Rattle.gql_sdl_laws.specs.Told.{unless}
+use Rattle.gql_sdl_laws.proofs.Depths.{IsShallow}
 use Rattle.gql_sdl_laws.proofs.Definition.{PrintedDefinition}
 use Rattle.gql_sdl_laws.proofs.Grammar.{FitsTo, no_symbol, one_node, ignored, stop, again}
-use Rattle.gql_sdl_laws.proofs.Reading.{From, nothing_begins, node_from, line_after}
+use Rattle.gql_sdl_laws.proofs.Reading.{After, From, nothing_begins, node_from, line_after}
 use Rattle.gql_sdl_laws.proofs.Standing.{nodes_said, Only, AllMean}
 
 -- a definition: its text, and what it tells
@@ -47,6 +50,10 @@ lines_text (l ∷ ls) h =
 pub lines_from : (ls : List Line) (h : Each IsLine ls) → From (lines_said ls h) []
 lines_from [] h = record { begins = nothing_begins; lexes = tt }
 lines_from (l ∷ ls) h = let more = line_after (lines_from ls h.1) in node_from refl (h.0.from more.ends) more.lexes
+
+pub lines_shallow : (ls : List Line) (h : Each IsLine ls) → IsShallow (lines_said ls h)
+lines_shallow [] h = omega arith
+lines_shallow (l ∷ ls) h = let a = h.0.shallow in let b = lines_shallow ls h.1 in omega (arith, a, b)
 
 lines_apart : (ls : List Line) (h : Each IsLine ls) → is_brace_next (words_of (lines_said ls h) ++ []) ≡ false
 lines_apart [] h = refl

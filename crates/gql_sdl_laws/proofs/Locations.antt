@@ -1,5 +1,5 @@
 -- Where a directive may stand.
-use Rattle.std.proofs.Common.{◌≡◌, ℕ, ◌+◌, true, List, [], ◌∷◌, ◌++◌, length, map, option_to_list, Option, Some, None, refl, ap, ◌∙◌}
+use Rattle.std.proofs.Common.{◌≡◌, ℕ, ◌+◌, ◌<◌, true, false, if◌then◌else◌, List, [], ◌∷◌, ◌++◌, length, map, option_to_list, Option, Some, None, refl, sym, ap, ◌∙◌, subst, arith}
 use Rattle.std.specs.Prelude.{codes, option_and_then}
 use Rattle.gql_grammar.specs.declared.word.Word.{Word}
 use Rattle.gql_grammar.specs.declared.word.Word.TheVariants.{Bar, OnWord, LocationWord}
@@ -11,7 +11,7 @@ use Rattle.gql_grammar.specs.declared.syntax_kind.SyntaxKind.{SyntaxKind}
 use Rattle.gql_grammar.specs.declared.syntax_kind.SyntaxKind.TheVariants as kind
 use Rattle.gql_grammar.specs.Sentence.{here}
 use Rattle.gql_grammar.specs.Word.{is_same}
-use Rattle.gql_cst.specs.Forest.{Plain, nothing}
+use Rattle.gql_cst.specs.Forest.{Forest, Plain, nothing}
 use Rattle.gql_cst.specs.Words.{word_of}
 use Rattle.gql_ast_base.specs.Kinds.{is_kind}
 use Rattle.gql_ast_base.specs.Names.{is_name}
@@ -26,6 +26,7 @@ use Rattle.gql_print_laws.specs.Said.{Text, Said, over, token, space, under, tex
 use Rattle.gql_print_laws.specs.Written.{Ends}
 use Rattle.gql_sdl.specs.Definitions.{locations_text}
 use Rattle.gql_sdl.specs.Pieces.{pieces}
+use Rattle.gql_sdl_laws.proofs.Depths.{depth_said, IsShallow}
 use Rattle.gql_sdl_laws.proofs.Grammar.{FitsTo, no_symbol, one_token, one_group, ignored, skip, stop, again}
 use Rattle.gql_sdl_laws.proofs.Reading.{After, after_over, bar, mark_from, name_from, blank_after}
 use Rattle.gql_sdl_laws.proofs.Standing.{inside_said, Stands, past_token, past_space, past_node, leaf_tree, word_in, word_stands}
@@ -79,6 +80,13 @@ on_text l ls = ap (λ t. codes " on " ++ (location_name l ++ t)) (bars_text ls)
 bars_after : (ls : List DirectiveLocation) {rest : Text} → Ends rest → After (bars ls) rest
 bars_after [] e = after_over e
 bars_after (l ∷ ls) e = blank_after (mark_from bar (blank_after (name_from (is_location l).named (bars_after ls e))))
+
+bars_depth : (ls : List DirectiveLocation) → depth_said (bars ls) ≡ 0
+bars_depth [] = refl
+bars_depth (l ∷ ls) = bars_depth ls
+
+pub on_shallow : (l : DirectiveLocation) (ls : List DirectiveLocation) → IsShallow (on_said l ls)
+on_shallow l ls = let a = bars_depth ls in omega (arith, a)
 
 pub on_after : (l : DirectiveLocation) (ls : List DirectiveLocation) {rest : Text} → Ends rest → After (on_said l ls) rest
 on_after l ls e = blank_after (name_from refl (blank_after (name_from (is_location l).named (bars_after ls e))))

@@ -1,6 +1,7 @@
 -- Parts that stand or do not: a description before something, or a node behind a space.
-use Rattle.std.proofs.Common.{◌≡◌, ℕ, true, false, List, ◌∷◌, ◌++◌, ◌+◌, length, Option, Some, None, refl, sym, ap, ◌∙◌, subst, append_assoc, append-nil}
+use Rattle.std.proofs.Common.{◌≡◌, ℕ, true, false, List, [], ◌∷◌, ◌++◌, ◌+◌, length, if◌then◌else◌, Option, Some, None, refl, sym, ap, ◌∙◌, subst, append_assoc, append-nil, arith}
 use Rattle.std.specs.Prelude.{codes, slice_get}
+use Rattle.gql_source.specs.declared.file_id.FileId.{FileId}
 use Rattle.gql_grammar.specs.declared.word.Word.{Word}
 use Rattle.gql_grammar.specs.declared.symbol.Symbol.{Symbol}
 use Rattle.gql_grammar.specs.declared.symbol.Symbol.TheVariants.{Optional}
@@ -8,9 +9,9 @@ use Rattle.gql_grammar.specs.declared.rule.Rule.TheVariants as rule
 use Rattle.gql_grammar.specs.declared.syntax_kind.SyntaxKind.{SyntaxKind}
 use Rattle.gql_grammar.specs.declared.syntax_kind.SyntaxKind.TheVariants as kind
 use Rattle.gql_grammar.specs.Sentence.{here}
-use Rattle.gql_cst.specs.Forest.{nothing, tree_then}
+use Rattle.gql_cst.specs.Forest.{Forest, Plain, nothing, tree_then}
 use Rattle.gql_ast_base.specs.Kinds.{is_kind}
-use Rattle.gql_ast_base.specs.Literals.{string_of, description}
+use Rattle.gql_ast_base.specs.Literals.{string_of, string_text as string_value, description}
 use Rattle.gql_ast_base.specs.Names.{is_name}
 use Rattle.gql_ast_base.specs.Parts.{first, token_text}
 use Rattle.gql_ast_laws.proofs.TokenKinds.{same_kind}
@@ -18,6 +19,7 @@ use Rattle.gql_print_laws.specs.Said.{Text, Said, over, token, space, under, tex
 use Rattle.gql_print_laws.proofs.Strings.{string_stands}
 use Rattle.gql_sdl.specs.Forms.{string_text, described}
 use Rattle.jb_print.specs.Quoted.{quoted}
+use Rattle.gql_sdl_laws.proofs.Depths.{IsShallow}
 use Rattle.gql_sdl_laws.proofs.Grammar.{FitsTo, no_symbol, one_token, one_node, ignored, skip, take}
 use Rattle.gql_sdl_laws.proofs.Reading.{From, string_from, blank_after, node_from}
 use Rattle.gql_sdl_laws.proofs.Standing.{inside_said, nodes_said, names_said, Stands, Within, within, leaf_tree, token_stands}
@@ -92,6 +94,10 @@ described_from (Some t) f = let b = blank_after f in node_from refl (string_from
 pub described_fits : {ss : List Symbol} (d : Option Text) {s : Said} {vs : List Word} → FitsTo ss s vs → FitsTo (Optional rule.Description ∷ ss) (described_said d s) vs
 described_fits None f = skip f
 described_fits (Some t) f = take (one_node rule.Description _ refl here (one_token refl no_symbol) (ignored f))
+
+pub described_shallow : (d : Option Text) (s : Said) → IsShallow s → IsShallow (described_said d s)
+described_shallow None s h = h
+described_shallow (Some t) s h = omega (arith, h)
 
 pub inside_described : (known : SyntaxKind) (d : Option Text) (s : Said) → is_kind kind.Description known ≡ false → inside_said known (described_said d s) ≡ inside_said known s
 inside_described known None s e = refl

@@ -1,20 +1,22 @@
 -- Things of a form, as they are said; and several of them.
-use Rattle.std.proofs.Common.{◌≡◌, true, List, [], ◌∷◌, ◌++◌, map, if◌then◌else◌, Some, refl, sym, ap, ◌∙◌, subst, append_assoc}
+use Rattle.std.proofs.Common.{◌≡◌, ℕ, true, List, [], ◌∷◌, ◌++◌, map, if◌then◌else◌, Some, refl, sym, ap, ◌∙◌, subst, append_assoc, arith}
 use Rattle.std.specs.Prelude.{codes}
 use Rattle.gql_source.specs.declared.file_id.FileId.{FileId}
 use Rattle.gql_grammar.specs.declared.word.Word.{Word}
 use Rattle.gql_grammar.specs.declared.symbol.Symbol.{Symbol}
 use Rattle.gql_grammar.specs.declared.symbol.Symbol.TheVariants.{One, Repeated}
 use Rattle.gql_grammar.specs.Grammar.{declared}
+use Rattle.gql_grammar.specs.Row.{level}
 use Rattle.gql_grammar.specs.Rule.{kind_of}
 use Rattle.gql_grammar.specs.Sentence.{IsOneOf}
 use Rattle.gql_cst.specs.Leaves.{node, part_of}
 use Rattle.gql_ast_laws.proofs.TokenKinds.{same_kind}
-use Rattle.gql_print_laws.specs.Said.{Text, Said, space, under, text_of}
+use Rattle.gql_print_laws.specs.Said.{Text, Said, space, under, text_of, words_of}
 use Rattle.gql_print_laws.specs.Written.{Ends}
 use Rattle.gql_sdl.specs.Pieces.{pieces, spaced}
 use Rattle.gql_sdl_laws.specs.Forms.{Form}
 use Rattle.gql_sdl_laws.specs.Printable.{Each}
+use Rattle.gql_sdl_laws.proofs.Depths.{IsShallow}
 use Rattle.gql_sdl_laws.proofs.Grammar.{FitsTo, ignored, one_node, stop, again}
 use Rattle.gql_sdl_laws.proofs.Reading.{After, From, node_from, blank_after, comma_after}
 use Rattle.gql_sdl_laws.proofs.Standing.{nodes_said, Means, AllMean}
@@ -27,6 +29,7 @@ pub record Printed {X T V : Type 0} (form : Form X T V) (it : X) : Type 0 where
   pub way : List Symbol
   pub one : IsOneOf way (declared form.rule)
   pub fits : {vs : List Word} → FitsTo way said vs
+  pub shallow : IsShallow said
   pub means : (text : Text) (file : FileId) → Means text (form.meant text file) form.says form.kind said (form.told it)
 
 pub each_printed : {X T V : Type 0} (form : Form X T V) (P : X → Type 0) → ((x : X) → P x → Printed form x) → (xs : List X) → Each P xs → Each (Printed form) xs
@@ -81,6 +84,18 @@ module _ {X T V : Type 0} (form : Form X T V) where
     pub blanks_fit : {ss : List Symbol} (xs : List X) (h : Each (Printed form) xs) {s : Said} {vs : List Word} → FitsTo ss s vs → FitsTo (Repeated form.rule ∷ ss) (blanks xs h s) vs
     blanks_fit [] h f = stop f
     blanks_fit (x ∷ xs) h f = again (ignored (one_fits x h.0 (blanks_fit xs h.1 f)))
+
+  module _ (l : level form.kind ≡ 0) where
+    pub one_shallow : (x : X) (p : Printed form x) (s : Said) → IsShallow s → IsShallow (one_said x p s)
+    one_shallow x p s h = let a = p.shallow in omega (arith, l, a, h)
+
+    pub commas_shallow : (xs : List X) (h : Each (Printed form) xs) (s : Said) → IsShallow s → IsShallow (commas xs h s)
+    commas_shallow [] h s a = a
+    commas_shallow (x ∷ xs) h s a = one_shallow x h.0 (commas xs h.1 s) (commas_shallow xs h.1 s a)
+
+    pub blanks_shallow : (xs : List X) (h : Each (Printed form) xs) (s : Said) → IsShallow s → IsShallow (blanks xs h s)
+    blanks_shallow [] h s a = a
+    blanks_shallow (x ∷ xs) h s a = one_shallow x h.0 (blanks xs h.1 s) (blanks_shallow xs h.1 s a)
 
   module _ (text : Text) (file : FileId) where
     abbrev pub AllSay : List Said → List V → Type 0

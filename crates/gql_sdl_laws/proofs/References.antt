@@ -1,5 +1,5 @@
 -- Names of types with a mark between them: interfaces and members.
-use Rattle.std.proofs.Common.{◌≡◌, ℕ, true, List, [], ◌∷◌, ◌++◌, map, Option, Some, None, refl, sym, ap, ◌∙◌, subst, append_assoc, append-nil}
+use Rattle.std.proofs.Common.{◌≡◌, ℕ, true, false, List, [], ◌∷◌, ◌++◌, map, Option, Some, None, refl, sym, ap, ◌∙◌, subst, append_assoc, append-nil, arith}
 use Rattle.std.specs.Prelude.{codes}
 use Rattle.gql_source.specs.declared.file_id.FileId.{FileId}
 use Rattle.gql_grammar.specs.declared.word.Word.{Word}
@@ -30,6 +30,7 @@ use Rattle.gql_sdl.specs.Forms.{implements_text, members_text}
 use Rattle.gql_sdl.specs.Pieces.{pieces}
 use Rattle.gql_sdl_laws.specs.Meant.{name_text}
 use Rattle.gql_sdl_laws.specs.Printable.{Each, IsReference}
+use Rattle.gql_sdl_laws.proofs.Depths.{IsShallow}
 use Rattle.gql_sdl_laws.proofs.Grammar.{FitsTo, no_symbol, one_token, one_node, one_group, ignored, skip, take, stop, again}
 use Rattle.gql_sdl_laws.proofs.Parts.{part_said, inner, named_first}
 use Rattle.gql_sdl_laws.proofs.Reading.{After, From, after_over, IsMark, ampersand, bar, equals, mark_from, name_from, node_from, blank_after}
@@ -63,6 +64,10 @@ name_reads n a = node_from refl (name_from n (after_over a.ends)) a.lexes
 signs_after : {b : ℕ} → IsMark b → (ts : List Text) → Each IsName ts → {s : Said} {rest : Text} → After s rest → After (signs b ts s) rest
 signs_after m [] h a = a
 signs_after m (t ∷ ts) h a = blank_after (mark_from m (blank_after (name_reads h.0 (signs_after m ts h.1 a))))
+
+signs_shallow : (b : ℕ) (ts : List Text) (s : Said) → IsShallow s → IsShallow (signs b ts s)
+signs_shallow b [] s h = h
+signs_shallow b (t ∷ ts) s h = let a = signs_shallow b ts s h in omega (arith, a)
 
 name_fits : {ss : List Symbol} {t : Text} {s : Said} {vs : List Word} → IsName t → FitsTo ss s vs → FitsTo (One rule.NamedType ∷ ss) (name_said t s) vs
 name_fits {t = t} n f = one_node rule.NamedType _ refl here (one_token (name_is_name t n) no_symbol) f
@@ -117,6 +122,10 @@ implemented_after [] h a = a
 implemented_after (t ∷ ts) h a =
     blank_after (node_from refl (name_from refl (blank_after (name_reads h.0 (signs_after ampersand ts h.1 (after_over a.ends))))) a.lexes)
 
+pub implemented_shallow : (ts : List Text) (s : Said) → IsShallow s → IsShallow (implemented_said ts s)
+implemented_shallow [] s h = h
+implemented_shallow (t ∷ ts) s h = let a = signs_shallow 38 ts over (omega arith) in omega (arith, a, h)
+
 pub implemented_fits : {ss : List Symbol} (ts : List Text) → Each IsName ts → {s : Said} {vs : List Word} → FitsTo ss s vs
     → FitsTo (Optional rule.ImplementsInterfaces ∷ ss) (implemented_said ts s) vs
 implemented_fits [] h f = skip f
@@ -145,6 +154,10 @@ pub membered_after : (ts : List Text) → Each IsName ts → {s : Said} {rest : 
 membered_after [] h a = a
 membered_after (t ∷ ts) h a =
     blank_after (node_from refl (mark_from equals (blank_after (name_reads h.0 (signs_after bar ts h.1 (after_over a.ends))))) a.lexes)
+
+pub membered_shallow : (ts : List Text) (s : Said) → IsShallow s → IsShallow (membered_said ts s)
+membered_shallow [] s h = h
+membered_shallow (t ∷ ts) s h = let a = signs_shallow 124 ts over (omega arith) in omega (arith, a, h)
 
 pub membered_fits : {ss : List Symbol} (ts : List Text) → Each IsName ts → {s : Said} {vs : List Word} → FitsTo ss s vs
     → FitsTo (Optional rule.UnionMemberTypes ∷ ss) (membered_said ts s) vs

@@ -1,41 +1,46 @@
 -- Definitions of scalar types.
-use Rattle.std.proofs.Common.{◌≡◌, false, List, [], ◌∷◌, ◌++◌, Option, Some, None, refl, ap, ◌∙◌, append-nil}
-use Rattle.std.specs.Prelude.{codes}
+use Rattle.std.proofs.Common.{◌≡◌, ℕ, true, false, List, [], ◌∷◌, ◌++◌, map, Option, Some, None, refl, sym, ap, ◌∙◌, append-nil, arith}
+use Rattle.std.specs.Prelude.{codes, slice_get}
 use Rattle.gql_source.specs.declared.file_id.FileId.{FileId}
 use Rattle.gql_grammar.specs.declared.word.Word.{Word}
 use Rattle.gql_grammar.specs.declared.word.Word.TheVariants.{ScalarWord}
-use Rattle.gql_grammar.specs.declared.symbol.Symbol.TheVariants.{Optional}
+use Rattle.gql_grammar.specs.declared.symbol.Symbol.{Symbol}
+use Rattle.gql_grammar.specs.declared.symbol.Symbol.TheVariants.{Optional, Eager}
 use Rattle.gql_grammar.specs.declared.rule.Rule.TheVariants as rule
 use Rattle.gql_grammar.specs.declared.syntax_kind.SyntaxKind.TheVariants as kind
 use Rattle.gql_grammar.specs.Sentence.{here, there, is_brace_next}
 use Rattle.gql_cst.specs.Forest.{Forest}
 use Rattle.gql_ast.specs.Documents.{choice_of}
+use Rattle.gql_ast.specs.TypeText.{type_text}
 use Rattle.gql_ast.specs.declared.definition.Definition.TheVariants as definition
 use Rattle.gql_ast_base.specs.Directives.{directives}
 use Rattle.gql_ast_base.specs.Kinds.{is_kind}
 use Rattle.gql_ast_base.specs.Literals.{description}
 use Rattle.gql_ast_base.specs.Names.{Named}
-use Rattle.gql_ast_base.specs.Parts.{location, nth_name}
+use Rattle.gql_ast_base.specs.Parts.{gather, inside, location, nth_name}
 use Rattle.gql_ast_laws.proofs.Blind.{tree}
-use Rattle.gql_print_laws.specs.Said.{Text, Said, over, token, space, text_of, forest_at}
+use Rattle.gql_print_laws.specs.Said.{Text, Said, over, token, space, text_of, words_of, forest_at}
 use Rattle.gql_print_laws.specs.Written.{Ends}
 use Rattle.gql_sdl.specs.declared.shown.ShownType.{ShownType}
-use Rattle.gql_sdl.specs.declared.shown.TypeKind.TheVariants.{Scalar}
+use Rattle.gql_sdl.specs.declared.shown.TypeKind.{TypeKind}
+use Rattle.gql_sdl.specs.declared.shown.TypeKind.TheVariants.{Scalar, Object, Interface, Union, Enum, InputObject}
 use Rattle.gql_sdl.specs.Forms.{described}
-use Rattle.gql_sdl_laws.specs.Meant.{says}
-use Rattle.gql_sdl_laws.proofs.Definition.{definition_of_node, head_said, head_text, head_description, head_inside, head_from, head_name, head_fits, head_apart}
-use Rattle.gql_sdl_laws.proofs.Grammar.{FitsTo, no_symbol}
+use Rattle.gql_sdl_laws.specs.Meant.{says, use_says, name_text}
+use Rattle.gql_sdl_laws.specs.Printable.{Each, IsField, IsInput, IsEnumValue, IsReference}
+use Rattle.gql_sdl_laws.proofs.Definition.{definition_of_node, head_said, head_text, head_description, head_inside, head_from, head_name, head_fits, head_apart, head_shallow}
+use Rattle.gql_sdl_laws.proofs.Grammar.{FitsTo, no_symbol, skip}
 use Rattle.gql_sdl_laws.proofs.Parts.{inner, inside_own, inside_other, description_said, description_is}
-use Rattle.gql_sdl_laws.proofs.Reading.{From, after_over}
-use Rattle.gql_sdl_laws.proofs.References.{IsName}
-use Rattle.gql_sdl_laws.proofs.Standing.{inside_said, name_at, Means}
-use Rattle.gql_sdl_laws.proofs.TypeParts.{head_way, kind_text, kind_told, PrintedKind, same_head}
+use Rattle.gql_sdl_laws.proofs.Printed.{Printed, each_printed}
+use Rattle.gql_sdl_laws.proofs.Reading.{From, After, after_over}
+use Rattle.gql_sdl_laws.proofs.References.{IsName, references}
+use Rattle.gql_sdl_laws.proofs.Standing.{inside_said, names_said, Stands, name_at, Means}
+use Rattle.gql_sdl_laws.proofs.TypeParts.{head_way, kind_text, kind_told, PrintedKind, told_type, same_head, same_parts}
 use Rattle.gql_ast_definitions.specs.declared.type_definition.ScalarTypeDefinition.{ScalarTypeDefinition}
 use Rattle.gql_ast_definitions.specs.Definitions.{scalar_of}
 use Rattle.gql_sdl.specs.Definitions.{specified_by}
 use Rattle.gql_sdl_laws.specs.Told.{url_uses}
 use Rattle.gql_sdl_laws.proofs.Choices.{is_scalar}
-use Rattle.gql_sdl_laws.proofs.Uses.{Note, url, noted_said, noted_text, noted_after, noted_fits, notes_said, notes_text, notes_told, uses_are}
+use Rattle.gql_sdl_laws.proofs.Uses.{Note, url, noted_said, noted_text, noted_after, noted_fits, notes_said, notes_text, notes_told, uses_are, noted_shallow}
 
 abbrev url_note : Option Text → Option Note
 url_note None = None
@@ -106,13 +111,14 @@ module _ (x : ShownType) (n : IsName x.name.text) where
 
   pub printed_scalar : PrintedKind Scalar x
   printed_scalar =
-      definition_of_node rule.ScalarTypeDefinition kind.ScalarTypeDefinition said (kind_text Scalar x) (kind_told Scalar x) refl refl (there (there (there (there here))))
+      definition_of_node rule.ScalarTypeDefinition kind.ScalarTypeDefinition said (kind_text Scalar x) (kind_told Scalar x) refl refl refl (there (there (there (there here))))
       (record {
         text = said_text;
         from = said_from;
         way = head_way ScalarWord (Optional rule.ConstDirectives ∷ []);
         one = here;
         fits = said_fits;
+        shallow = head_shallow x.description (codes "scalar") x.name.text body (noted_shallow (url_note x.specified_by_url) over (omega arith));
         apart = head_apart x.description (codes "scalar") (space (codes " ") (token x.name.text body)) refl;
         means = said_means;
       })

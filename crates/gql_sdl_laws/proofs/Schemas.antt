@@ -1,5 +1,5 @@
 -- Whole schemas.
-use Rattle.std.proofs.Common.{◌≡◌, Bool, List, [], ◌∷◌, ◌++◌, map, refl, ap, ◌∙◌, subst, append-nil}
+use Rattle.std.proofs.Common.{◌≡◌, Bool, List, [], ◌∷◌, ◌++◌, map, refl, sym, ap, ◌∙◌, subst, append-nil, ◌≤◌}
 use Rattle.std.specs.List.{flat_map}
 use Rattle.gql_source.specs.declared.file_id.FileId.{FileId}
 use Rattle.gql_grammar.specs.declared.rule.Rule.TheVariants as rule
@@ -7,7 +7,7 @@ use Rattle.gql_grammar.specs.declared.syntax_kind.SyntaxKind.TheVariants as kind
 use Rattle.gql_grammar.specs.Sentence.{here}
 use Rattle.gql_ast.specs.Documents.{definition_of}
 use Rattle.gql_ast_base.specs.Parts.{gather}
-use Rattle.gql_print_laws.specs.Said.{text_of, forest_at}
+use Rattle.gql_print_laws.specs.Said.{Text, text_of, forest_at}
 use Rattle.gql_sdl.specs.Definitions.{type_definition_text, directive_text}
 use Rattle.gql_sdl.specs.Schemas.{is_directive_name, is_built_in, line, line_unless, directive_line, type_line, roots_text, schema_text}
 use Rattle.gql_sdl.specs.declared.shown.ShownDirective.{ShownDirective}
@@ -17,8 +17,10 @@ use Rattle.gql_sdl_laws.specs.Forms.{SaysSchema}
 use Rattle.gql_sdl_laws.specs.Meant.{says}
 use Rattle.gql_sdl_laws.specs.Printable.{Each, IsDirective, IsType, IsSchema}
 use Rattle.gql_sdl_laws.specs.Told.{directive_told, named_type_told, directive_line_told, type_line_told, roots_told, schema_told}
+use Rattle.gql_sdl_laws.specs.Depth.{most_levels}
+use Rattle.gql_sdl_laws.proofs.Depths.{nesting_is}
 use Rattle.gql_sdl_laws.proofs.DirectiveDefinitions.{printed_directive}
-use Rattle.gql_sdl_laws.proofs.Lines.{Line, IsLine, line_told, lines_said, lines_text, lines_from, document_fits, only_definition, lines_say, lines_of, lines_of_text, lines_of_told, are_lines}
+use Rattle.gql_sdl_laws.proofs.Lines.{Line, IsLine, line_text, line_told, lines_said, lines_text, lines_from, document_fits, only_definition, lines_say, lines_of, lines_of_text, lines_of_told, are_lines, lines_shallow}
 use Rattle.gql_sdl_laws.proofs.ReadBack.{stands_alone, tree_of}
 use Rattle.gql_sdl_laws.proofs.SchemaDefinitions.{printed_schema_definition}
 use Rattle.gql_sdl_laws.proofs.Standing.{gathered}
@@ -80,6 +82,7 @@ module _ (it : ShownSchema) (h : IsSchema it) where
           tree = tree_of rule.Document kind.Document s _ refl here (document_fits first directives are) reads;
           means = refl;
         };
+        nested = subst (λ n. n ≤ most_levels) (sym (nesting_is s 0 [] reads)) (lines_shallow (first ∷ directives) are);
         same = gathered text (definition_of text file) says kind.Definition (only_definition text file) refl s 0 (stands_alone s reads) (map line_told (first ∷ directives))
             (lines_say text file (first ∷ directives) are) ∙ told_is;
       })

@@ -1,5 +1,5 @@
 -- References to types.
-use Rattle.std.proofs.Common.{◌≡◌, ℕ, ◌+◌, true, List, [], ◌∷◌, ◌++◌, length, Some, None, refl, sym, ap, ◌∙◌, subst, rules, append_assoc, append-nil}
+use Rattle.std.proofs.Common.{◌≡◌, ℕ, ◌+◌, true, false, List, [], ◌∷◌, ◌++◌, length, Some, None, refl, sym, ap, ◌∙◌, subst, rules, append_assoc, append-nil, suc, ◌≤◌, arith}
 use Rattle.std.specs.Prelude.{codes, slice_get}
 use Rattle.gql_source.specs.declared.file_id.FileId.{FileId}
 use Rattle.gql_grammar.specs.declared.word.Word.{Word}
@@ -25,9 +25,11 @@ use Rattle.gql_ast_laws.proofs.Levels.{unplaced-Named, unplaced-NonNullNamed, un
 use Rattle.gql_print_laws.specs.Said.{Text, Said, over, token, under, text_of, forest_at}
 use Rattle.gql_print_laws.specs.Written.{Ends}
 use Rattle.gql_print_laws.proofs.Named.{name_is_name}
+use Rattle.gql_sdl_laws.specs.Depth.{most_levels, type_depth}
 use Rattle.gql_sdl_laws.specs.Forms.{Form}
+use Rattle.gql_sdl_laws.proofs.Depths.{depth_said}
 use Rattle.gql_sdl_laws.proofs.Grammar.{FitsTo, no_symbol, one_token, one_node, one_group}
-use Rattle.gql_sdl_laws.proofs.Reading.{From, after_over, bang, bracket_open, bracket_close, mark_after, mark_from_from, name_from, node_from}
+use Rattle.gql_sdl_laws.proofs.Reading.{After, From, after_over, bang, bracket_open, bracket_close, mark_after, mark_from_from, name_from, node_from, node_after}
 use Rattle.gql_sdl_laws.proofs.Standing.{Only, Stands, past_token, down, names_said, name_at}
 use Rattle.gql_sdl_laws.proofs.Printed.{Printed}
 
@@ -65,6 +67,12 @@ non_null-Named name = search (rules, the_lemmas)
 
 non_null-List : (item : TypeRef) → non_null (ListOf item) ≡ NonNullList item
 non_null-List item = search (rules, the_lemmas)
+
+depth-List : (item : TypeRef) → type_depth (ListOf item) ≡ suc (type_depth item)
+depth-List item = search (rules, the_lemmas)
+
+depth-NonNullList : (item : TypeRef) → type_depth (NonNullList item) ≡ suc (type_depth item)
+depth-NonNullList item = search (rules, the_lemmas)
 
 -- ---- what the trees stand for
 
@@ -105,6 +113,7 @@ record TypeSaid (ty : TypeRef) : Type 0 where
   way : List Symbol
   one : IsOneOf way (declared rule.TypeReference)
   fits : {vs : List Word} → FitsTo way said vs
+  depth : depth_said said ≤ type_depth ty
   means : (text : Text) (file : FileId) (n : ℕ) → Stands text n said → Refers text file (forest_at n said) ty
 
 abbrev Says : TypeRef → Type 0
@@ -129,6 +138,7 @@ says-Named name h =
       way = One rule.NamedType ∷ [];
       one = here;
       fits = one_node rule.NamedType _ refl here (one_token (name_is_name name.text n) no_symbol) no_symbol;
+      depth = omega arith;
       means = λ text file m r.
           let inner = down text m kind.NamedType (token name.text over) over r in
           let a = named_refers text file m name.text n inner nothing in
@@ -149,6 +159,7 @@ says-NonNullNamed name h =
       fits = one_node rule.NonNullType _ refl here
           (one_group rule.TypeCore (One rule.NamedType ∷ []) refl here
           (one_node rule.NamedType _ refl here (one_token (name_is_name name.text n) no_symbol) (one_token refl no_symbol))) no_symbol;
+      depth = omega arith;
       means = λ text file m r.
           let i = down text m kind.NonNullType inner over r in
           let t = down text m kind.NamedType named (token (codes "!") over) i in
@@ -173,6 +184,7 @@ says-List item back h =
       way = One rule.ListType ∷ [];
       one = there here;
       fits = one_node rule.ListType _ refl here (one_token refl (one_node rule.TypeReference i.way refl i.one i.fits (one_token refl no_symbol))) no_symbol;
+      depth = let a = i.depth in let b = depth-List item in omega (arith, a, b);
       means = λ text file m r.
           let a = down text m kind.ListType inner over r in
           let b = past_token text m (codes "[") reference a in
@@ -207,6 +219,7 @@ says-NonNullList item back h =
           (one_group rule.TypeCore (One rule.ListType ∷ []) refl (there here)
           (one_node rule.ListType _ refl here (one_token refl (one_node rule.TypeReference i.way refl i.one i.fits (one_token refl no_symbol)))
           (one_token refl no_symbol))) no_symbol;
+      depth = let a = i.depth in let b = depth-NonNullList item in omega (arith, a, b);
       means = λ text file m r.
           let a = down text m kind.NonNullType inner over r in
           let b = past_token text m (codes "[") reference (down text m kind.ListType list end a) in
@@ -255,8 +268,8 @@ pub only_type : (text : Text) (file : FileId) → Only text (type_of text file) 
 unfolding type_step
 only_type text file t h = rw h refl
 
-pub printed_type : (ty : TypeRef) → has_names ty ≡ true → Printed type_form ty
-printed_type ty h =
+pub printed_type : (ty : TypeRef) → has_names ty ≡ true → type_depth ty ≤ most_levels → Printed type_form ty
+printed_type ty h shallow =
     let s = type_says ty h in
     record {
       said = s.said;
@@ -265,5 +278,6 @@ printed_type ty h =
       way = s.way;
       one = s.one;
       fits = s.fits;
+      shallow = let a = s.depth in omega (arith, a, shallow);
       means = λ text file n r. let m = s.means text file n r in record { found = m.found; is = type_is text file (forest_at n s.said) m.found m.is; same = m.same };
     }

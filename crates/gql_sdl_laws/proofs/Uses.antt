@@ -1,6 +1,7 @@
 -- The directives that are used: `@deprecated`, `@specifiedBy` and `@oneOf`.
-use Rattle.std.proofs.Common.{◌≡◌, ℕ, true, List, [], ◌∷◌, ◌++◌, map, Option, Some, None, refl, sym, ap, ◌∙◌, subst, append-nil}
-use Rattle.std.specs.Prelude.{codes, slice_get}
+use Rattle.std.proofs.Common.{◌≡◌, ℕ, true, List, [], ◌∷◌, ◌++◌, map, option_to_list, Option, Some, None, refl, sym, ap, ◌∙◌, subst, append-nil, arith}
+use Rattle.std.specs.Prelude.{codes, slice_get, option_and_then}
+use Rattle.std.specs.Option.{option_map}
 use Rattle.gql_source.specs.declared.file_id.FileId.{FileId}
 use Rattle.gql_grammar.specs.declared.word.Word.{Word}
 use Rattle.gql_grammar.specs.declared.symbol.Symbol.{Symbol}
@@ -16,6 +17,7 @@ use Rattle.gql_ast_base.specs.Kinds.{is_kind}
 use Rattle.gql_ast_base.specs.Names.{Named, is_name}
 use Rattle.gql_ast_base.specs.Parts.{first, gather, location, nth_name}
 use Rattle.gql_ast_base.specs.Values.{value_of}
+use Rattle.gql_ast_base.specs.declared.directive.Argument.{Argument}
 use Rattle.gql_ast_base.specs.declared.directive.Directive.{Directive}
 use Rattle.gql_ast_base.specs.declared.value.Value.{Value}
 use Rattle.gql_ast_laws.proofs.Blind.{tree}
@@ -24,7 +26,9 @@ use Rattle.gql_print_laws.specs.Said.{Text, Said, over, token, space, under, tex
 use Rattle.gql_print_laws.specs.Written.{content_said, Ends, IsConstant}
 use Rattle.gql_print_laws.proofs.Fitting.{fits_value}
 use Rattle.gql_print_laws.proofs.Named.{name_is_name}
+use Rattle.gql_sdl.specs.Definitions.{specified_by}
 use Rattle.gql_sdl.specs.Forms.{string_text, reason_text, deprecated}
+use Rattle.gql_sdl.specs.Pieces.{between_if}
 use Rattle.gql_sdl.specs.declared.shown.Deprecation.{Deprecation}
 use Rattle.jb_print.specs.Quoted.{quoted}
 use Rattle.gql_sdl_laws.specs.Forms.{Form}
@@ -32,6 +36,7 @@ use Rattle.gql_sdl_laws.specs.Meant.{argument_says, use_says}
 use Rattle.gql_sdl_laws.specs.Plain as plain
 use Rattle.gql_sdl_laws.specs.Plain.{Use}
 use Rattle.gql_sdl_laws.specs.Told.{reason_value, use_with, deprecation_uses}
+use Rattle.gql_sdl_laws.proofs.Depths.{IsShallow}
 use Rattle.gql_sdl_laws.proofs.Grammar.{FitsTo, no_symbol, one_token, one_node, ignored, skip, take, stop}
 use Rattle.gql_sdl_laws.proofs.Parts.{part_said, inner}
 use Rattle.gql_sdl_laws.proofs.Printed.{Printed}
@@ -162,15 +167,16 @@ with_argument_fits name argument l n a h =
 closing : (t : Text) → ((((t ++ []) ++ []) ++ (41 ∷ [])) ++ []) ≡ t ++ (41 ∷ [])
 closing t = append-nil (((t ++ []) ++ []) ++ (41 ∷ [])) ∙ ap (λ l. l ++ (41 ∷ [])) (append-nil (t ++ []) ∙ append-nil t)
 
-noted : (note : Note) (name argument : Text) (l : Literal) → is_name name ≡ true → is_name argument ≡ true → IsConstant l
+noted : (note : Note) (name argument : Text) (l : Literal) → is_name name ≡ true → is_name argument ≡ true → IsConstant l → IsShallow (content_said l)
     → text_of (with_argument name argument l) ≡ note_text note → make_use name ((argument, l) ∷ []) ≡ note_told note → Printed note_form note
-noted note name argument l n a h text told = record {
+noted note name argument l n a h shallow text told = record {
   said = with_argument name argument l;
   text = text;
   from = with_argument_from name argument l n a h;
   way = directive_way;
   one = here;
   fits = with_argument_fits name argument l n a h;
+  shallow = omega (arith, shallow);
   means = λ t file. subst (λ u. Means t (directive_of t file) use_says kind.Directive (with_argument name argument l) u) told
       (directive_means t file (with_argument name argument l) name ((argument, l) ∷ []) (with_argument_name t file name argument l n) (given_one t file name argument l a h));
 }
@@ -180,9 +186,9 @@ unfolding string_text
 quoted_text front t = ap (λ l. front ++ l) (closing (quoted t))
 
 pub printed_note : (note : Note) → Printed note_form note
-printed_note (deprecation None) = noted (deprecation None) (codes "deprecated") (codes "reason") null refl refl tt refl refl
-printed_note (deprecation (Some t)) = noted (deprecation (Some t)) (codes "deprecated") (codes "reason") (string t) refl refl tt (quoted_text (codes "@deprecated(reason: ") t) refl
-printed_note (url t) = noted (url t) (codes "specifiedBy") (codes "url") (string t) refl refl tt (quoted_text (codes "@specifiedBy(url: ") t) refl
+printed_note (deprecation None) = noted (deprecation None) (codes "deprecated") (codes "reason") null refl refl tt (omega arith) refl refl
+printed_note (deprecation (Some t)) = noted (deprecation (Some t)) (codes "deprecated") (codes "reason") (string t) refl refl tt (omega arith) (quoted_text (codes "@deprecated(reason: ") t) refl
+printed_note (url t) = noted (url t) (codes "specifiedBy") (codes "url") (string t) refl refl tt (omega arith) (quoted_text (codes "@specifiedBy(url: ") t) refl
 printed_note one_of = record {
   said = token (codes "@") (token (codes "oneOf") over);
   text = refl;
@@ -190,6 +196,7 @@ printed_note one_of = record {
   way = directive_way;
   one = here;
   fits = one_token refl (one_token refl (skip no_symbol));
+  shallow = omega arith;
   means = λ t file. directive_means t file (token (codes "@") (token (codes "oneOf") over)) (codes "oneOf") [] refl (given_none t file);
 }
 
@@ -213,6 +220,10 @@ notes_told (Some note) = note_told note ∷ []
 pub noted_text : (o : Option Note) (s : Said) → text_of (noted_said o s) ≡ notes_text o ++ text_of s
 noted_text None s = refl
 noted_text (Some note) s = let p = printed_note note in ap (λ t. codes " " ++ (t ++ text_of s)) (append-nil (text_of p.said) ∙ p.text)
+
+pub noted_shallow : (o : Option Note) (s : Said) → IsShallow s → IsShallow (noted_said o s)
+noted_shallow None s h = h
+noted_shallow (Some note) s h = let a = (printed_note note).shallow in omega (arith, a, h)
 
 pub noted_after : (o : Option Note) {s : Said} {rest : Text} → After s rest → After (noted_said o s) rest
 noted_after None a = a

@@ -1,5 +1,5 @@
 -- Forms of the language: how a thing that is shown is written, what a tree of the grammar stands for, and what both say.
-use Rattle.std.specs.Prelude.{◌≡◌, List, map, Option, Some}
+use Rattle.std.specs.Prelude.{◌≡◌, ◌≤◌, List, map, Option, Some}
 use Rattle.gql_source.specs.declared.file_id.FileId.{FileId}
 use Rattle.gql_ast.specs.Documents.{definition_of}
 use Rattle.gql_ast.specs.declared.definition.Definition.{Definition}
@@ -9,6 +9,7 @@ use Rattle.gql_ast_definitions.specs.declared.field_definition.FieldDefinition.{
 use Rattle.gql_ast_definitions.specs.declared.field_definition.InputValueDefinition.{InputValueDefinition}
 use Rattle.gql_ast_laws.specs.Meant.{IsDocumentOf}
 use Rattle.gql_cst.specs.Forest.{Forest, Plain as Tree}
+use Rattle.gql_cst.specs.Nesting.{nesting}
 use Rattle.gql_cst.specs.TreeOf.{IsTreeOf}
 use Rattle.gql_grammar.specs.declared.rule.Rule.{Rule}
 use Rattle.gql_grammar.specs.declared.rule.Rule.TheVariants as rule
@@ -23,6 +24,7 @@ use Rattle.gql_sdl.specs.declared.shown.ShownField.{ShownField}
 use Rattle.gql_sdl.specs.declared.shown.ShownInput.{ShownInput}
 use Rattle.gql_sdl.specs.declared.shown.ShownSchema.{ShownSchema}
 use Rattle.gql_sdl.specs.declared.shown.ShownType.{ShownType}
+use Rattle.gql_sdl_laws.specs.Depth.{most_levels}
 use Rattle.gql_sdl_laws.specs.Meant.{input_says, field_says, enum_value_says, says}
 use Rattle.gql_sdl_laws.specs.Plain.{Text, Input, Field, EnumValue, Plain}
 use Rattle.gql_sdl_laws.specs.Told.{input_told, field_told, enum_value_told, named_type_told, directive_told, roots_told, schema_told}
@@ -104,4 +106,5 @@ roots_form = definition_form roots_text roots_told
 pub record SaysSchema (file : FileId) (text : Text) (it : ShownSchema) : Type 0 where
   pub definitions : List Definition
   pub document : IsDocumentOf text file definitions
+  pub nested : nesting document.children ≤ most_levels
   pub same : map says definitions ≡ schema_told it

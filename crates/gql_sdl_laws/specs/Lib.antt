@@ -1,4 +1,5 @@
 pub mod Plain
+pub mod Depth
 pub mod Meant
 pub mod Told
 pub mod Printable

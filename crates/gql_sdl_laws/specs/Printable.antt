@@ -1,5 +1,5 @@
 -- What can be written of a schema: names are names, and defaults are the texts of constant values.
-use Rattle.std.specs.Prelude.{◌≡◌, ◌<◌, Bool, true, false, List, [], ◌∷◌, length, Option, Some, None}
+use Rattle.std.specs.Prelude.{◌≡◌, ℕ, ◌<◌, ◌≤◌, Bool, true, false, List, [], ◌∷◌, length, Option, Some, None}
 use Rattle.gql_ast.specs.TypeText.{type_text}
 use Rattle.gql_ast.specs.ValueText.{value_text}
 use Rattle.gql_ast_base.specs.Names.{Named, is_name}
@@ -20,6 +20,7 @@ use Rattle.gql_sdl.specs.declared.shown.ShownSchema.{ShownSchema}
 use Rattle.gql_sdl.specs.declared.shown.ShownType.{ShownType}
 use Rattle.gql_sdl.specs.declared.shown.TypeKind.{TypeKind}
 use Rattle.gql_sdl.specs.declared.shown.TypeKind.TheVariants.{Scalar, Object, Interface, Union, Enum, InputObject}
+use Rattle.gql_sdl_laws.specs.Depth.{most_levels, literal_depth, type_depth}
 use Rattle.gql_sdl_laws.specs.Plain.{Text}
 
 -- P holds of each
@@ -32,6 +33,7 @@ pub record IsConstantText (text : Text) : Type 0 where
   pub value : Value
   pub constant : IsConstant (literal_in value)
   pub is : text ≡ value_text value
+  pub shallow : literal_depth (literal_in value) ≤ most_levels
 
 abbrev pub IsDefault : Option Text → Type 0
 IsDefault None = Unit {0}
@@ -40,12 +42,14 @@ IsDefault (Some text) = IsConstantText text
 pub record IsInput (it : ShownInput) : Type 0 where
   pub named : is_name it.name.text ≡ true
   pub typed : has_names it.ty ≡ true
+  pub shallow : type_depth it.ty ≤ most_levels
   pub constant : IsDefault it.default_value
 
 pub record IsField (it : ShownField) : Type 0 where
   pub named : is_name it.name.text ≡ true
   pub arguments : Each IsInput it.arguments
   pub typed : has_names it.ty ≡ true
+  pub shallow : type_depth it.ty ≤ most_levels
 
 -- no `true`, `false` or `null` (section 3.9)
 pub record IsEnumValue (it : ShownEnumValue) : Type 0 where
