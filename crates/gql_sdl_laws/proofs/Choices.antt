@@ -1,5 +1,5 @@
 -- What a definition is, by the kind of the node that stands under it.
-use Rattle.std.proofs.Common.{◌≡◌, ℕ, Option, Some, refl}
+use Rattle.std.proofs.Common.{◌≡◌, Some, refl}
 use Rattle.gql_source.specs.declared.file_id.FileId.{FileId}
 use Rattle.gql_cst.specs.Forest.{Forest, nothing, tree_then}
 use Rattle.gql_grammar.specs.declared.syntax_kind.SyntaxKind.{SyntaxKind}

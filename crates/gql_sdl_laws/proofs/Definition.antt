@@ -1,5 +1,5 @@
 -- Definitions, as they are said; and what stands at their heads.
-use Rattle.std.proofs.Common.{◌≡◌, ℕ, true, false, List, [], ◌∷◌, ◌++◌, Option, Some, None, refl, sym, ap, ◌∙◌, subst, append-nil, arith}
+use Rattle.std.proofs.Common.{◌≡◌, true, false, List, [], ◌∷◌, ◌++◌, Option, Some, None, refl, sym, ap, ◌∙◌, subst, append-nil, arith}
 use Rattle.std.specs.Prelude.{codes, slice_get}
 use Rattle.gql_source.specs.declared.file_id.FileId.{FileId}
 use Rattle.gql_grammar.specs.declared.word.Word.{Word}
@@ -19,23 +19,20 @@ use Rattle.gql_grammar.specs.Word.{is_same}
 use Rattle.gql_cst.specs.Leaves.{node, part_of}
 use Rattle.gql_cst.specs.Words.{word_of}
 use Rattle.gql_ast.specs.Documents.{choice_of, definition_of}
-use Rattle.gql_ast.specs.declared.definition.Definition.{Definition}
 use Rattle.gql_ast_base.specs.Kinds.{is_kind}
 use Rattle.gql_ast_base.specs.Names.{is_name}
-use Rattle.gql_ast_laws.proofs.Blind.{tree}
 use Rattle.gql_print_laws.specs.Said.{Text, Said, over, token, space, under, text_of, words_of, forest_at}
 use Rattle.gql_print_laws.specs.Written.{Ends}
 use Rattle.gql_print_laws.proofs.Named.{name_is_name}
 use Rattle.gql_sdl.specs.Forms.{described}
-use Rattle.gql_sdl_laws.specs.Forms.{Form}
 use Rattle.gql_sdl_laws.specs.Meant.{says}
 use Rattle.gql_sdl_laws.specs.Plain.{Plain}
 use Rattle.gql_sdl_laws.proofs.Depths.{IsShallow}
 use Rattle.gql_sdl_laws.proofs.Choices.{defined}
 use Rattle.gql_sdl_laws.proofs.Grammar.{FitsTo, no_symbol, one_token, one_node, ignored}
-use Rattle.gql_sdl_laws.proofs.Parts.{inner, described_said, description_said, described_text, described_from, described_fits, inside_described, own_description, names_described, nodes_described, described_shallow}
+use Rattle.gql_sdl_laws.proofs.Parts.{inner, described_said, description_said, described_text, described_from, described_fits, inside_described, own_description, names_described, described_shallow}
 use Rattle.gql_sdl_laws.proofs.Reading.{After, From, name_from, node_from, blank_after}
-use Rattle.gql_sdl_laws.proofs.Standing.{inside_said, nodes_said, names_said, Stands, down, Found, Means}
+use Rattle.gql_sdl_laws.proofs.Standing.{inside_said, names_said, down, Means}
 
 -- how a definition is said: it is what is written, token by token, fits the rule where no `{` follows, does not begin with one,
 -- and means what is told

@@ -1,5 +1,5 @@
 -- How deep what is said is nested.
-use Rattle.std.proofs.Common.{◌≡◌, ℕ, suc, ◌++◌, length, ◌+◌, ◌≤◌, max, refl, sym, ap, ◌∙◌, subst, arith}
+use Rattle.std.proofs.Common.{◌≡◌, ℕ, ◌++◌, length, ◌+◌, ◌≤◌, max, refl, ap, ◌∙◌, arith}
 use Rattle.gql_grammar.specs.Row.{level}
 use Rattle.gql_grammar.specs.declared.syntax_kind.SyntaxKind.{SyntaxKind}
 use Rattle.gql_cst.specs.Forest.{Forest, tree_then}

@@ -16,23 +16,23 @@ use Rattle.gql_ast.specs.Documents.{choice_of}
 use Rattle.gql_ast.specs.declared.definition.Definition.TheVariants as definition
 use Rattle.gql_ast_base.specs.Kinds.{is_kind}
 use Rattle.gql_ast_base.specs.Literals.{description}
-use Rattle.gql_ast_base.specs.Names.{Named, is_name}
+use Rattle.gql_ast_base.specs.Names.{Named}
 use Rattle.gql_ast_base.specs.Parts.{gather, is_word, location, nth_name, nth_text}
 use Rattle.gql_ast_definitions.specs.Fields.{argument_definitions}
 use Rattle.gql_ast_definitions.specs.Schemas.{location_word, directive_location_of, directive_locations, directive_definition_of}
 use Rattle.gql_ast_definitions.specs.declared.schema_definition.DirectiveDefinition.{DirectiveDefinition}
 use Rattle.gql_ast_definitions.specs.declared.schema_definition.DirectiveLocation.{DirectiveLocation}
 use Rattle.gql_ast_laws.proofs.Blind.{tree}
-use Rattle.gql_print_laws.specs.Said.{Text, Said, over, token, space, under, text_of, forest_at}
+use Rattle.gql_print_laws.specs.Said.{Text, Said, token, space, text_of, forest_at}
 use Rattle.gql_print_laws.specs.Written.{Ends}
 use Rattle.gql_print_laws.proofs.Named.{name_is_name}
-use Rattle.gql_sdl.specs.Definitions.{directive_head, directive_text, locations_text}
+use Rattle.gql_sdl.specs.Definitions.{directive_text, locations_text}
 use Rattle.gql_sdl.specs.Forms.{described, arguments_text}
 use Rattle.gql_sdl.specs.Pieces.{between_if}
 use Rattle.gql_sdl.specs.declared.shown.ShownDirective.{ShownDirective}
 use Rattle.gql_sdl.specs.declared.shown.ShownInput.{ShownInput}
 use Rattle.gql_sdl_laws.specs.Forms.{input_form}
-use Rattle.gql_sdl_laws.specs.Meant.{says, input_says}
+use Rattle.gql_sdl_laws.specs.Meant.{says}
 use Rattle.gql_sdl_laws.specs.Plain as plain
 use Rattle.gql_sdl_laws.specs.Plain.{Input, Plain}
 use Rattle.gql_sdl_laws.specs.Printable.{Each, IsInput, IsDirective}

@@ -1,6 +1,5 @@
 -- Values of enum types.
-use Rattle.std.proofs.Common.{◌≡◌, ℕ, true, false, List, [], ◌∷◌, ◌++◌, map, Option, Some, None, refl, sym, ap, ◌∙◌, subst, append-nil, arith}
-use Rattle.std.specs.Prelude.{codes, slice_get}
+use Rattle.std.proofs.Common.{◌≡◌, List, [], ◌∷◌, ◌++◌, Option, Some, refl, ap, ◌∙◌, subst, append-nil, arith}
 use Rattle.gql_source.specs.declared.file_id.FileId.{FileId}
 use Rattle.gql_grammar.specs.declared.word.Word.{Word}
 use Rattle.gql_grammar.specs.declared.symbol.Symbol.{Symbol}
@@ -18,10 +17,10 @@ use Rattle.gql_ast_definitions.specs.Fields.{enum_value_of}
 use Rattle.gql_ast_laws.proofs.Blind.{tree}
 use Rattle.gql_print_laws.specs.Said.{Text, Said, over, token, under, text_of, forest_at}
 use Rattle.gql_print_laws.specs.Written.{Ends}
-use Rattle.gql_sdl.specs.Forms.{described, deprecated, enum_value_text}
+use Rattle.gql_sdl.specs.Forms.{described, enum_value_text}
 use Rattle.gql_sdl.specs.declared.shown.ShownEnumValue.{ShownEnumValue}
 use Rattle.gql_sdl_laws.specs.Forms.{enum_value_form}
-use Rattle.gql_sdl_laws.specs.Meant.{enum_value_says, use_says}
+use Rattle.gql_sdl_laws.specs.Meant.{enum_value_says}
 use Rattle.gql_sdl_laws.specs.Plain.{EnumValue, Use}
 use Rattle.gql_sdl_laws.specs.Printable.{IsEnumValue}
 use Rattle.gql_sdl_laws.specs.Told.{enum_value_told}
@@ -30,7 +29,7 @@ use Rattle.gql_sdl_laws.proofs.Grammar.{FitsTo, no_symbol, one_token, one_node}
 use Rattle.gql_sdl_laws.proofs.Parts.{inner, named_first, inside_own, inside_other, described_said, description_said, described_text, described_from, described_fits, inside_described, own_description, description_is, described_shallow}
 use Rattle.gql_sdl_laws.proofs.Printed.{Printed}
 use Rattle.gql_sdl_laws.proofs.Reading.{From, after_over, name_from, node_from}
-use Rattle.gql_sdl_laws.proofs.Standing.{inside_said, Stands, Within, within, name_at, Only, Means}
+use Rattle.gql_sdl_laws.proofs.Standing.{inside_said, Within, within, name_at, Only, Means}
 use Rattle.gql_sdl_laws.proofs.Uses.{noted_said, noted_text, noted_after, noted_fits, notes_said, notes_text, uses_are, deprecation_note, deprecated_text, deprecated_told, noted_shallow}
 
 abbrev value_way : List Symbol

@@ -1,5 +1,5 @@
 -- Fields of object types and interface types.
-use Rattle.std.proofs.Common.{◌≡◌, ℕ, true, false, List, [], ◌∷◌, ◌++◌, map, Option, Some, None, refl, sym, ap, ◌∙◌, subst, append-nil, arith}
+use Rattle.std.proofs.Common.{◌≡◌, List, [], ◌∷◌, ◌++◌, Option, Some, refl, sym, ap, ◌∙◌, subst, append-nil, arith}
 use Rattle.std.specs.Prelude.{codes, slice_get}
 use Rattle.gql_source.specs.declared.file_id.FileId.{FileId}
 use Rattle.gql_grammar.specs.declared.word.Word.{Word}
@@ -25,10 +25,10 @@ use Rattle.gql_ast_laws.proofs.Blind.{tree}
 use Rattle.gql_print_laws.specs.Said.{Text, Said, over, token, space, under, text_of, forest_at}
 use Rattle.gql_print_laws.specs.Written.{Ends}
 use Rattle.gql_print_laws.proofs.Named.{name_is_name}
-use Rattle.gql_sdl.specs.Forms.{described, arguments_text, deprecated, field_text}
+use Rattle.gql_sdl.specs.Forms.{described, arguments_text, field_text}
 use Rattle.gql_sdl.specs.declared.shown.ShownField.{ShownField}
 use Rattle.gql_sdl_laws.specs.Forms.{input_form, field_form}
-use Rattle.gql_sdl_laws.specs.Meant.{input_says, field_says, use_says}
+use Rattle.gql_sdl_laws.specs.Meant.{field_says}
 use Rattle.gql_sdl_laws.specs.Plain.{Input, Field, Use}
 use Rattle.gql_sdl_laws.specs.Printable.{Each, IsInput, IsField}
 use Rattle.gql_sdl_laws.specs.Told.{field_told}
@@ -38,7 +38,7 @@ use Rattle.gql_sdl_laws.proofs.Inputs.{printed_input, arguments_said, argued_sai
 use Rattle.gql_sdl_laws.proofs.Parts.{inner, named_first, inside_own, inside_other, nodes_other, close_own, close_other, close_nodes, described_said, description_said, described_text, described_from, described_fits, inside_described, own_description, nodes_described, names_described, description_is, described_shallow}
 use Rattle.gql_sdl_laws.proofs.Printed.{Printed, each_printed}
 use Rattle.gql_sdl_laws.proofs.Reading.{From, after_over, colon, mark_after, name_from, node_from, blank_after}
-use Rattle.gql_sdl_laws.proofs.Standing.{inside_said, nodes_said, names_said, Stands, name_at, Only, Means, AllMean, gathered, first_of}
+use Rattle.gql_sdl_laws.proofs.Standing.{inside_said, nodes_said, names_said, name_at, Only, Means, AllMean, gathered, first_of}
 use Rattle.gql_sdl_laws.proofs.Types.{printed_type, only_type}
 use Rattle.gql_sdl_laws.proofs.Uses.{noted_said, noted_text, noted_after, noted_fits, notes_said, notes_text, uses_are, deprecation_note, deprecated_text, deprecated_told, noted_shallow}
 

@@ -1,5 +1,5 @@
 -- Arguments, and fields of input objects.
-use Rattle.std.proofs.Common.{◌≡◌, ℕ, true, false, List, [], ◌∷◌, ◌++◌, map, Option, Some, None, refl, sym, ap, ◌∙◌, subst, append_assoc, append-nil, arith}
+use Rattle.std.proofs.Common.{◌≡◌, ℕ, true, List, [], ◌∷◌, ◌++◌, map, Option, Some, None, refl, sym, ap, ◌∙◌, subst, append-nil, arith}
 use Rattle.std.specs.Prelude.{codes, slice_get}
 use Rattle.std.specs.Option.{option_map}
 use Rattle.gql_source.specs.declared.file_id.FileId.{FileId}
@@ -17,8 +17,8 @@ use Rattle.gql_ast.specs.ValueText.{value_text}
 use Rattle.gql_ast_base.specs.Directives.{directives}
 use Rattle.gql_ast_base.specs.Kinds.{is_kind}
 use Rattle.gql_ast_base.specs.Literals.{description}
-use Rattle.gql_ast_base.specs.Names.{Named, is_name}
-use Rattle.gql_ast_base.specs.Parts.{first, gather, inside, location, nth_name}
+use Rattle.gql_ast_base.specs.Names.{Named}
+use Rattle.gql_ast_base.specs.Parts.{first, location, nth_name}
 use Rattle.gql_ast_base.specs.Types.{type_of}
 use Rattle.gql_ast_base.specs.Values.{value_of, default_value}
 use Rattle.gql_ast_base.specs.declared.type_ref.TypeRef.{TypeRef}
@@ -26,9 +26,9 @@ use Rattle.gql_ast_base.specs.declared.value.Value.{Value}
 use Rattle.gql_ast_definitions.specs.Fields.{input_value_of, argument_definitions}
 use Rattle.gql_ast_laws.specs.Printed.{unplaced}
 use Rattle.gql_ast_laws.proofs.Blind.{tree}
-use Rattle.gql_print_laws.specs.Literal.{Literal, literal_in}
+use Rattle.gql_print_laws.specs.Literal.{literal_in}
 use Rattle.gql_print_laws.specs.Said.{Text, Said, over, token, space, under, text_of, forest_at}
-use Rattle.gql_print_laws.specs.Written.{content_said, Ends, IsConstant}
+use Rattle.gql_print_laws.specs.Written.{content_said, Ends}
 use Rattle.gql_print_laws.proofs.Fitting.{fits_value}
 use Rattle.gql_print_laws.proofs.Named.{name_is_name}
 use Rattle.gql_print_laws.proofs.Texts.{text_is_written}
@@ -36,18 +36,18 @@ use Rattle.gql_sdl.specs.Forms.{described, default_text, deprecated, input_text,
 use Rattle.gql_sdl.specs.Pieces.{pieces}
 use Rattle.gql_sdl.specs.declared.shown.ShownInput.{ShownInput}
 use Rattle.gql_sdl_laws.specs.Forms.{input_form}
-use Rattle.gql_sdl_laws.specs.Meant.{input_says, use_says}
+use Rattle.gql_sdl_laws.specs.Meant.{input_says}
 use Rattle.gql_sdl_laws.specs.Plain.{Input, Use}
-use Rattle.gql_sdl_laws.specs.Printable.{Each, IsConstantText, IsDefault, IsInput}
+use Rattle.gql_sdl_laws.specs.Printable.{Each, IsDefault, IsInput}
 use Rattle.gql_sdl_laws.specs.Told.{input_told}
 use Rattle.gql_sdl_laws.proofs.Depths.{IsShallow, value_depth}
 use Rattle.gql_sdl_laws.proofs.Grammar.{FitsTo, no_symbol, one_token, one_node, ignored, skip, take}
 use Rattle.gql_sdl_laws.proofs.Parts.{part_said, close_said, inner, named_first, inside_own, inside_other, nodes_other, described_said, description_said, described_text, described_from, described_fits, inside_described, own_description, nodes_described, names_described, description_is, described_shallow}
 use Rattle.gql_sdl_laws.proofs.Printed.{Printed, one_said, one_text, commas, commas_text, commas_after, one_fits, commas_fit, one_says, commas_say, one_shallow, commas_shallow}
-use Rattle.gql_sdl_laws.proofs.Reading.{After, From, after_over, equals, paren_open, paren_close, colon, mark_after, mark_after_from, mark_from, mark_from_from, name_from, node_from, node_after, blank_after, value_from}
+use Rattle.gql_sdl_laws.proofs.Reading.{After, From, after_over, equals, paren_open, paren_close, colon, mark_after, mark_after_from, mark_from, name_from, node_from, node_after, blank_after, value_from}
 use Rattle.gql_sdl_laws.proofs.Standing.{inside_said, nodes_said, names_said, Stands, Within, within, name_at, Only, Means, AllMean, gathered, inside_gathered, first_of}
 use Rattle.gql_sdl_laws.proofs.Types.{printed_type, only_type}
-use Rattle.gql_sdl_laws.proofs.Uses.{noted_said, noted_text, noted_after, noted_fits, notes_said, notes_text, notes_told, uses_are, deprecation_note, deprecated_text, deprecated_told, noted_shallow}
+use Rattle.gql_sdl_laws.proofs.Uses.{noted_said, noted_text, noted_after, noted_fits, notes_said, notes_text, uses_are, deprecation_note, deprecated_text, deprecated_told, noted_shallow}
 use Rattle.gql_sdl_laws.proofs.Values.{value_means, only_value, written_alike}
 
 -- ---- defaults

@@ -1,10 +1,8 @@
 -- Definitions, each in a line of its own.
-use Rattle.std.proofs.Common.{◌≡◌, ℕ, Bool, true, false, List, [], ◌∷◌, ◌++◌, map, refl, sym, ap, ◌∙◌, subst, append_assoc, arith}
+use Rattle.std.proofs.Common.{◌≡◌, Bool, true, false, List, [], ◌∷◌, ◌++◌, map, refl, sym, ap, ◌∙◌, subst, append_assoc, arith}
 use Rattle.std.specs.Prelude.{codes}
 use Rattle.std.specs.List.{flat_map}
 use Rattle.gql_source.specs.declared.file_id.FileId.{FileId}
-use Rattle.gql_grammar.specs.declared.word.Word.{Word}
-use Rattle.gql_grammar.specs.declared.symbol.Symbol.{Symbol}
 use Rattle.gql_grammar.specs.declared.symbol.Symbol.TheVariants.{One, Repeated}
 use Rattle.gql_grammar.specs.declared.rule.Rule.TheVariants as rule
 use Rattle.gql_grammar.specs.declared.syntax_kind.SyntaxKind.TheVariants as kind
@@ -20,7 +18,7 @@ use Rattle.gql_sdl_laws.specs.Told.{unless}
 use Rattle.gql_sdl_laws.proofs.Depths.{IsShallow}
 use Rattle.gql_sdl_laws.proofs.Definition.{PrintedDefinition}
 use Rattle.gql_sdl_laws.proofs.Grammar.{FitsTo, no_symbol, one_node, ignored, stop, again}
-use Rattle.gql_sdl_laws.proofs.Reading.{After, From, nothing_begins, node_from, line_after}
+use Rattle.gql_sdl_laws.proofs.Reading.{From, nothing_begins, node_from, line_after}
 use Rattle.gql_sdl_laws.proofs.Standing.{nodes_said, Only, AllMean}
 
 -- a definition: its text, and what it tells

@@ -1,5 +1,5 @@
 -- Where a directive may stand.
-use Rattle.std.proofs.Common.{◌≡◌, ℕ, ◌+◌, ◌<◌, true, false, if◌then◌else◌, List, [], ◌∷◌, ◌++◌, length, map, option_to_list, Option, Some, None, refl, sym, ap, ◌∙◌, subst, arith}
+use Rattle.std.proofs.Common.{◌≡◌, ℕ, ◌+◌, true, List, [], ◌∷◌, ◌++◌, length, map, option_to_list, Option, Some, None, refl, ap, ◌∙◌, arith}
 use Rattle.std.specs.Prelude.{codes, option_and_then}
 use Rattle.gql_grammar.specs.declared.word.Word.{Word}
 use Rattle.gql_grammar.specs.declared.word.Word.TheVariants.{Bar, OnWord, LocationWord}
@@ -11,7 +11,7 @@ use Rattle.gql_grammar.specs.declared.syntax_kind.SyntaxKind.{SyntaxKind}
 use Rattle.gql_grammar.specs.declared.syntax_kind.SyntaxKind.TheVariants as kind
 use Rattle.gql_grammar.specs.Sentence.{here}
 use Rattle.gql_grammar.specs.Word.{is_same}
-use Rattle.gql_cst.specs.Forest.{Forest, Plain, nothing}
+use Rattle.gql_cst.specs.Forest.{Plain, nothing}
 use Rattle.gql_cst.specs.Words.{word_of}
 use Rattle.gql_ast_base.specs.Kinds.{is_kind}
 use Rattle.gql_ast_base.specs.Names.{is_name}

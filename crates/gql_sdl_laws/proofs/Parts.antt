@@ -1,7 +1,6 @@
 -- Parts that stand or do not: a description before something, or a node behind a space.
-use Rattle.std.proofs.Common.{◌≡◌, ℕ, true, false, List, [], ◌∷◌, ◌++◌, ◌+◌, length, if◌then◌else◌, Option, Some, None, refl, sym, ap, ◌∙◌, subst, append_assoc, append-nil, arith}
+use Rattle.std.proofs.Common.{◌≡◌, ℕ, true, false, List, ◌∷◌, ◌++◌, ◌+◌, length, Option, Some, None, refl, sym, ap, ◌∙◌, subst, append_assoc, append-nil, arith}
 use Rattle.std.specs.Prelude.{codes, slice_get}
-use Rattle.gql_source.specs.declared.file_id.FileId.{FileId}
 use Rattle.gql_grammar.specs.declared.word.Word.{Word}
 use Rattle.gql_grammar.specs.declared.symbol.Symbol.{Symbol}
 use Rattle.gql_grammar.specs.declared.symbol.Symbol.TheVariants.{Optional}
@@ -9,9 +8,9 @@ use Rattle.gql_grammar.specs.declared.rule.Rule.TheVariants as rule
 use Rattle.gql_grammar.specs.declared.syntax_kind.SyntaxKind.{SyntaxKind}
 use Rattle.gql_grammar.specs.declared.syntax_kind.SyntaxKind.TheVariants as kind
 use Rattle.gql_grammar.specs.Sentence.{here}
-use Rattle.gql_cst.specs.Forest.{Forest, Plain, nothing, tree_then}
+use Rattle.gql_cst.specs.Forest.{nothing, tree_then}
 use Rattle.gql_ast_base.specs.Kinds.{is_kind}
-use Rattle.gql_ast_base.specs.Literals.{string_of, string_text as string_value, description}
+use Rattle.gql_ast_base.specs.Literals.{string_of, description}
 use Rattle.gql_ast_base.specs.Names.{is_name}
 use Rattle.gql_ast_base.specs.Parts.{first, token_text}
 use Rattle.gql_ast_laws.proofs.TokenKinds.{same_kind}

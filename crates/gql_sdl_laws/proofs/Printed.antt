@@ -1,5 +1,5 @@
 -- Things of a form, as they are said; and several of them.
-use Rattle.std.proofs.Common.{◌≡◌, ℕ, true, List, [], ◌∷◌, ◌++◌, map, if◌then◌else◌, Some, refl, sym, ap, ◌∙◌, subst, append_assoc, arith}
+use Rattle.std.proofs.Common.{◌≡◌, true, List, [], ◌∷◌, ◌++◌, map, if◌then◌else◌, Some, refl, sym, ap, ◌∙◌, subst, append_assoc, arith}
 use Rattle.std.specs.Prelude.{codes}
 use Rattle.gql_source.specs.declared.file_id.FileId.{FileId}
 use Rattle.gql_grammar.specs.declared.word.Word.{Word}
@@ -11,7 +11,7 @@ use Rattle.gql_grammar.specs.Rule.{kind_of}
 use Rattle.gql_grammar.specs.Sentence.{IsOneOf}
 use Rattle.gql_cst.specs.Leaves.{node, part_of}
 use Rattle.gql_ast_laws.proofs.TokenKinds.{same_kind}
-use Rattle.gql_print_laws.specs.Said.{Text, Said, space, under, text_of, words_of}
+use Rattle.gql_print_laws.specs.Said.{Text, Said, space, under, text_of}
 use Rattle.gql_print_laws.specs.Written.{Ends}
 use Rattle.gql_sdl.specs.Pieces.{pieces, spaced}
 use Rattle.gql_sdl_laws.specs.Forms.{Form}

@@ -1,7 +1,6 @@
 -- The definition of a schema.
 use Rattle.std.proofs.Common.{◌≡◌, ℕ, true, false, List, [], ◌∷◌, ◌++◌, map, Option, Some, None, refl, sym, ap, ◌∙◌, subst, append_assoc, append-nil, arith}
-use Rattle.std.specs.Prelude.{codes, slice_get, option_and_then}
-use Rattle.std.specs.Option.{option_map}
+use Rattle.std.specs.Prelude.{codes, option_and_then}
 use Rattle.gql_source.specs.declared.file_id.FileId.{FileId}
 use Rattle.gql_grammar.specs.declared.word.Word.{Word}
 use Rattle.gql_grammar.specs.declared.word.Word.TheVariants.{Colon, SchemaWord, OperationWord}
@@ -34,10 +33,10 @@ use Rattle.gql_print_laws.specs.Written.{Ends}
 use Rattle.gql_print_laws.proofs.Named.{name_is_name}
 use Rattle.gql_sdl.specs.Forms.{described}
 use Rattle.gql_sdl.specs.Pieces.{spaced}
-use Rattle.gql_sdl.specs.Schemas.{root_text, roots_head, roots_text}
+use Rattle.gql_sdl.specs.Schemas.{root_text, roots_text}
 use Rattle.gql_sdl.specs.declared.shown.ShownSchema.{ShownSchema}
 use Rattle.gql_sdl_laws.specs.Forms.{Form}
-use Rattle.gql_sdl_laws.specs.Meant.{says, use_says, root_says}
+use Rattle.gql_sdl_laws.specs.Meant.{says, root_says}
 use Rattle.gql_sdl_laws.specs.Plain as plain
 use Rattle.gql_sdl_laws.specs.Plain.{Use, Plain}
 use Rattle.gql_sdl_laws.specs.Printable.{Each, IsRoot, AreRoots}
@@ -50,7 +49,7 @@ use Rattle.gql_sdl_laws.proofs.Parts.{inner, named_first, described_said, descri
 use Rattle.gql_sdl_laws.proofs.Printed.{Printed, each_printed, blanks, blanks_text, blanks_after, one_fits, blanks_fit, blanks_say, AllSay, blanks_shallow}
 use Rattle.gql_sdl_laws.proofs.Reading.{After, From, after_over, brace_open, brace_close, colon, mark_after, mark_from, name_from, node_from, blank_after}
 use Rattle.gql_sdl_laws.proofs.References.{IsName}
-use Rattle.gql_sdl_laws.proofs.Standing.{inside_said, nodes_said, names_said, Stands, down, Within, within, name_at, text_at, Only, Means, AllMean, gathered, First, first_of}
+use Rattle.gql_sdl_laws.proofs.Standing.{inside_said, nodes_said, Stands, Within, within, name_at, text_at, Only, Means, gathered, First, first_of}
 use Rattle.gql_sdl_laws.proofs.Uses.{uses_are}
 
 abbrev Root : Type 0

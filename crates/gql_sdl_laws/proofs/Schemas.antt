@@ -7,7 +7,7 @@ use Rattle.gql_grammar.specs.declared.syntax_kind.SyntaxKind.TheVariants as kind
 use Rattle.gql_grammar.specs.Sentence.{here}
 use Rattle.gql_ast.specs.Documents.{definition_of}
 use Rattle.gql_ast_base.specs.Parts.{gather}
-use Rattle.gql_print_laws.specs.Said.{Text, text_of, forest_at}
+use Rattle.gql_print_laws.specs.Said.{text_of, forest_at}
 use Rattle.gql_sdl.specs.Definitions.{type_definition_text, directive_text}
 use Rattle.gql_sdl.specs.Schemas.{is_directive_name, is_built_in, line, line_unless, directive_line, type_line, roots_text, schema_text}
 use Rattle.gql_sdl.specs.declared.shown.ShownDirective.{ShownDirective}
@@ -20,7 +20,7 @@ use Rattle.gql_sdl_laws.specs.Told.{directive_told, named_type_told, directive_l
 use Rattle.gql_sdl_laws.specs.Depth.{most_levels}
 use Rattle.gql_sdl_laws.proofs.Depths.{nesting_is}
 use Rattle.gql_sdl_laws.proofs.DirectiveDefinitions.{printed_directive}
-use Rattle.gql_sdl_laws.proofs.Lines.{Line, IsLine, line_text, line_told, lines_said, lines_text, lines_from, document_fits, only_definition, lines_say, lines_of, lines_of_text, lines_of_told, are_lines, lines_shallow}
+use Rattle.gql_sdl_laws.proofs.Lines.{Line, IsLine, line_told, lines_said, lines_text, lines_from, document_fits, only_definition, lines_say, lines_of, lines_of_text, lines_of_told, are_lines, lines_shallow}
 use Rattle.gql_sdl_laws.proofs.ReadBack.{stands_alone, tree_of}
 use Rattle.gql_sdl_laws.proofs.SchemaDefinitions.{printed_schema_definition}
 use Rattle.gql_sdl_laws.proofs.Standing.{gathered}

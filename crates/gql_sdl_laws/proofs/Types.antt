@@ -1,5 +1,5 @@
 -- References to types.
-use Rattle.std.proofs.Common.{◌≡◌, ℕ, ◌+◌, true, false, List, [], ◌∷◌, ◌++◌, length, Some, None, refl, sym, ap, ◌∙◌, subst, rules, append_assoc, append-nil, suc, ◌≤◌, arith}
+use Rattle.std.proofs.Common.{◌≡◌, ℕ, ◌+◌, true, List, [], ◌∷◌, ◌++◌, length, Some, None, refl, sym, ap, ◌∙◌, subst, rules, append_assoc, append-nil, suc, ◌≤◌, arith}
 use Rattle.std.specs.Prelude.{codes, slice_get}
 use Rattle.gql_source.specs.declared.file_id.FileId.{FileId}
 use Rattle.gql_grammar.specs.declared.word.Word.{Word}
@@ -29,7 +29,7 @@ use Rattle.gql_sdl_laws.specs.Depth.{most_levels, type_depth}
 use Rattle.gql_sdl_laws.specs.Forms.{Form}
 use Rattle.gql_sdl_laws.proofs.Depths.{depth_said}
 use Rattle.gql_sdl_laws.proofs.Grammar.{FitsTo, no_symbol, one_token, one_node, one_group}
-use Rattle.gql_sdl_laws.proofs.Reading.{After, From, after_over, bang, bracket_open, bracket_close, mark_after, mark_from_from, name_from, node_from, node_after}
+use Rattle.gql_sdl_laws.proofs.Reading.{From, after_over, bang, bracket_open, bracket_close, mark_after, mark_from_from, name_from, node_from}
 use Rattle.gql_sdl_laws.proofs.Standing.{Only, Stands, past_token, down, names_said, name_at}
 use Rattle.gql_sdl_laws.proofs.Printed.{Printed}
 

@@ -1,11 +1,10 @@
 -- Definitions of union types.
-use Rattle.std.proofs.Common.{◌≡◌, ℕ, true, false, List, [], ◌∷◌, ◌++◌, map, Option, Some, None, refl, sym, ap, ◌∙◌, append-nil, arith}
-use Rattle.std.specs.Prelude.{codes, slice_get}
+use Rattle.std.proofs.Common.{◌≡◌, false, List, [], ◌∷◌, ◌++◌, map, Some, None, refl, ap, ◌∙◌, append-nil, arith}
+use Rattle.std.specs.Prelude.{codes}
 use Rattle.gql_source.specs.declared.file_id.FileId.{FileId}
 use Rattle.gql_grammar.specs.declared.word.Word.{Word}
 use Rattle.gql_grammar.specs.declared.word.Word.TheVariants.{UnionWord}
-use Rattle.gql_grammar.specs.declared.symbol.Symbol.{Symbol}
-use Rattle.gql_grammar.specs.declared.symbol.Symbol.TheVariants.{Optional, Eager}
+use Rattle.gql_grammar.specs.declared.symbol.Symbol.TheVariants.{Optional}
 use Rattle.gql_grammar.specs.declared.rule.Rule.TheVariants as rule
 use Rattle.gql_grammar.specs.declared.syntax_kind.SyntaxKind.TheVariants as kind
 use Rattle.gql_grammar.specs.Sentence.{here, there, is_brace_next}
@@ -17,24 +16,22 @@ use Rattle.gql_ast_base.specs.Directives.{directives}
 use Rattle.gql_ast_base.specs.Kinds.{is_kind}
 use Rattle.gql_ast_base.specs.Literals.{description}
 use Rattle.gql_ast_base.specs.Names.{Named}
-use Rattle.gql_ast_base.specs.Parts.{gather, inside, location, nth_name}
+use Rattle.gql_ast_base.specs.Parts.{location, nth_name}
 use Rattle.gql_ast_laws.proofs.Blind.{tree}
-use Rattle.gql_print_laws.specs.Said.{Text, Said, over, token, space, text_of, words_of, forest_at}
+use Rattle.gql_print_laws.specs.Said.{Text, Said, over, token, space, text_of, forest_at}
 use Rattle.gql_print_laws.specs.Written.{Ends}
 use Rattle.gql_sdl.specs.declared.shown.ShownType.{ShownType}
-use Rattle.gql_sdl.specs.declared.shown.TypeKind.{TypeKind}
-use Rattle.gql_sdl.specs.declared.shown.TypeKind.TheVariants.{Scalar, Object, Interface, Union, Enum, InputObject}
+use Rattle.gql_sdl.specs.declared.shown.TypeKind.TheVariants.{Union}
 use Rattle.gql_sdl.specs.Forms.{described}
-use Rattle.gql_sdl_laws.specs.Meant.{says, use_says, name_text}
-use Rattle.gql_sdl_laws.specs.Printable.{Each, IsField, IsInput, IsEnumValue, IsReference}
+use Rattle.gql_sdl_laws.specs.Meant.{says, name_text}
+use Rattle.gql_sdl_laws.specs.Printable.{Each, IsReference}
 use Rattle.gql_sdl_laws.proofs.Definition.{definition_of_node, head_said, head_text, head_description, head_inside, head_from, head_name, head_fits, head_apart, head_shallow}
 use Rattle.gql_sdl_laws.proofs.Grammar.{FitsTo, no_symbol, skip}
 use Rattle.gql_sdl_laws.proofs.Parts.{inner, inside_own, inside_other, description_said, description_is}
-use Rattle.gql_sdl_laws.proofs.Printed.{Printed, each_printed}
-use Rattle.gql_sdl_laws.proofs.Reading.{From, After, after_over}
+use Rattle.gql_sdl_laws.proofs.Reading.{From, after_over}
 use Rattle.gql_sdl_laws.proofs.References.{IsName, references, membered_shallow}
-use Rattle.gql_sdl_laws.proofs.Standing.{inside_said, names_said, Stands, name_at, Means}
-use Rattle.gql_sdl_laws.proofs.TypeParts.{head_way, kind_text, kind_told, PrintedKind, told_type, same_head, same_parts}
+use Rattle.gql_sdl_laws.proofs.Standing.{inside_said, name_at, Means}
+use Rattle.gql_sdl_laws.proofs.TypeParts.{head_way, kind_text, kind_told, PrintedKind, same_head, same_parts}
 use Rattle.gql_ast_definitions.specs.declared.type_definition.UnionTypeDefinition.{UnionTypeDefinition}
 use Rattle.gql_ast_definitions.specs.Definitions.{members, union_of}
 use Rattle.gql_sdl_laws.proofs.References.{members_said, membered_said, membered_text, membered_after, membered_fits, members_are}

@@ -1,7 +1,6 @@
 -- The directives that are used: `@deprecated`, `@specifiedBy` and `@oneOf`.
-use Rattle.std.proofs.Common.{◌≡◌, ℕ, true, List, [], ◌∷◌, ◌++◌, map, option_to_list, Option, Some, None, refl, sym, ap, ◌∙◌, subst, append-nil, arith}
-use Rattle.std.specs.Prelude.{codes, slice_get, option_and_then}
-use Rattle.std.specs.Option.{option_map}
+use Rattle.std.proofs.Common.{◌≡◌, ℕ, true, List, [], ◌∷◌, ◌++◌, map, Option, Some, None, refl, sym, ap, ◌∙◌, subst, append-nil, arith}
+use Rattle.std.specs.Prelude.{codes, slice_get}
 use Rattle.gql_source.specs.declared.file_id.FileId.{FileId}
 use Rattle.gql_grammar.specs.declared.word.Word.{Word}
 use Rattle.gql_grammar.specs.declared.symbol.Symbol.{Symbol}
@@ -17,7 +16,6 @@ use Rattle.gql_ast_base.specs.Kinds.{is_kind}
 use Rattle.gql_ast_base.specs.Names.{Named, is_name}
 use Rattle.gql_ast_base.specs.Parts.{first, gather, location, nth_name}
 use Rattle.gql_ast_base.specs.Values.{value_of}
-use Rattle.gql_ast_base.specs.declared.directive.Argument.{Argument}
 use Rattle.gql_ast_base.specs.declared.directive.Directive.{Directive}
 use Rattle.gql_ast_base.specs.declared.value.Value.{Value}
 use Rattle.gql_ast_laws.proofs.Blind.{tree}
@@ -26,9 +24,7 @@ use Rattle.gql_print_laws.specs.Said.{Text, Said, over, token, space, under, tex
 use Rattle.gql_print_laws.specs.Written.{content_said, Ends, IsConstant}
 use Rattle.gql_print_laws.proofs.Fitting.{fits_value}
 use Rattle.gql_print_laws.proofs.Named.{name_is_name}
-use Rattle.gql_sdl.specs.Definitions.{specified_by}
 use Rattle.gql_sdl.specs.Forms.{string_text, reason_text, deprecated}
-use Rattle.gql_sdl.specs.Pieces.{between_if}
 use Rattle.gql_sdl.specs.declared.shown.Deprecation.{Deprecation}
 use Rattle.jb_print.specs.Quoted.{quoted}
 use Rattle.gql_sdl_laws.specs.Forms.{Form}

@@ -1,8 +1,8 @@
 -- Values that are said, and what is written of a default.
-use Rattle.std.proofs.Common.{◌≡◌, ℕ, false, ◌++◌, [], ◌∷◌, length, Option, Some, None, refl, sym, ap, ◌∙◌}
+use Rattle.std.proofs.Common.{◌≡◌, Some, refl, sym, ap, ◌∙◌}
 use Rattle.gql_source.specs.declared.file_id.FileId.{FileId}
 use Rattle.gql_grammar.specs.declared.syntax_kind.SyntaxKind.TheVariants as kind
-use Rattle.gql_cst.specs.Forest.{Forest, Plain}
+use Rattle.gql_cst.specs.Forest.{Forest}
 use Rattle.gql_ast.specs.ValueText.{value_text}
 use Rattle.gql_ast_base.specs.Kinds.{is_kind}
 use Rattle.gql_ast_base.specs.Parts.{head, location}

@@ -1,5 +1,5 @@
 -- A small schema, to see what the definitions say of it.
-use Rattle.std.specs.Prelude.{ℕ, false, List, [], ◌∷◌, codes, Some, None}
+use Rattle.std.specs.Prelude.{false, List, [], ◌∷◌, codes, Some, None}
 use Rattle.gql_ast_base.specs.Names.{Named}
 use Rattle.gql_ast_base.specs.declared.operation_type.OperationType.TheVariants.{Query}
 use Rattle.gql_ast_definitions.specs.declared.schema_definition.DirectiveLocation.TheVariants as at

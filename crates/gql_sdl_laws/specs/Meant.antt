@@ -1,5 +1,5 @@
 -- What the definitions of a document say.
-use Rattle.std.specs.Prelude.{List, [], map, Option}
+use Rattle.std.specs.Prelude.{[], map}
 use Rattle.std.specs.Option.{option_map}
 use Rattle.gql_ast.specs.ValueText.{value_text}
 use Rattle.gql_ast.specs.declared.definition.Definition.{Definition}

@@ -1,5 +1,6 @@
--- What can be written of a schema: names are names, and defaults are the texts of constant values.
-use Rattle.std.specs.Prelude.{◌≡◌, ℕ, ◌<◌, ◌≤◌, Bool, true, false, List, [], ◌∷◌, length, Option, Some, None}
+-- What can be written of a schema and read again: names are names, defaults are the texts of constant values, and neither these nor
+-- types are nested deeper than a parser reads.
+use Rattle.std.specs.Prelude.{◌≡◌, ◌<◌, ◌≤◌, Bool, true, false, List, [], ◌∷◌, length, Option, Some, None}
 use Rattle.gql_ast.specs.TypeText.{type_text}
 use Rattle.gql_ast.specs.ValueText.{value_text}
 use Rattle.gql_ast_base.specs.Names.{Named, is_name}

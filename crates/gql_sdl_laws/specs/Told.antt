@@ -1,6 +1,6 @@
 -- What is shown of a schema, said by definitions: section 3 of GraphQL October 2021. A deprecation, an URL and that an input
 -- object takes one field alone are said by the uses of directives.
-use Rattle.std.specs.Prelude.{Bool, true, false, if◌then◌else◌, List, [], ◌∷◌, ◌++◌, map, codes, Option, Some, None}
+use Rattle.std.specs.Prelude.{Bool, true, false, List, [], ◌∷◌, ◌++◌, map, codes, Option, Some, None}
 use Rattle.std.specs.List.{flat_map}
 use Rattle.gql_ast.specs.TypeText.{type_text}
 use Rattle.gql_ast_base.specs.Names.{Named}

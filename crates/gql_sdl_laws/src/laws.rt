@@ -22,7 +22,8 @@ use gql_cst::laws as tree_laws;
 
 /// What is written of an argument, or of a field of an input object, is an InputValueDefinition by the grammar. It stands for one with
 /// the description, the name, the type, the default and the deprecation that are shown, and for no other (GraphQL October 2021, section
-/// 3.6.1). The name and those in the type are to be names, and a default is to be what is written of a constant value.
+/// 3.6.1). The name and those in the type are to be names, a default is to be what is written of a constant value, and both the type and
+/// the default are to be nested at most 500 deep.
 pub fn printed_inputs_are_read_back()
     ensures { (file : FileId) (it : ShownInput) → IsInput it → IsReadBack input_form file it }
 {
@@ -72,9 +73,9 @@ pub fn printed_schema_definitions_are_read_back()
     tree_laws::texts_have_one_tree();
 }
 
-/// What is written of a whole schema is a document by the grammar, and its definitions say what is shown, one after the other: the
-/// schema with its root types, then the directives, then the types, the built-in ones left out. All that the text means says this
-/// (GraphQL October 2021, section 3).
+/// What is written of a whole schema is a document by the grammar, nested at most 500 deep, and its definitions say what is shown, one
+/// after the other: the schema with its root types, then the directives, then the types, the built-in ones left out. All that the text
+/// means says this (GraphQL October 2021, section 3).
 pub fn printed_schemas_are_read_back()
     ensures reads { (file : FileId) (it : ShownSchema) → IsSchema it → SaysSchema file (schema_text it) it }
     ensures alone { (file : FileId) (it : ShownSchema) (meant : List Definition) → IsSchema it → IsDocumentOf (schema_text it) file meant
