@@ -31,3 +31,4 @@ mod SchemaDefinitions
 mod Lines
 mod Schemas
 mod SmallSchema
+mod ReadDepths

@@ -1,10 +1,14 @@
 //! What is written of a schema is read as definitions that say the same. Each of these laws is on the text that `gql_sdl` writes, in
 //! any file, and each leaves aside the places that things were read from.
 
-ghost use Rattle.std.specs.Prelude.{◌≡◌, List, map};
+ghost use Rattle.std.specs.Prelude.{◌≡◌, ◌≤◌, ℕ, List, map};
 ghost use Rattle.gql_source.specs.declared.file_id.FileId.{FileId};
 ghost use Rattle.gql_ast.specs.declared.definition.Definition.{Definition};
+ghost use Rattle.gql_ast_base.specs.declared.value.ValueKind.{ValueKind};
 ghost use Rattle.gql_ast_laws.specs.Meant.{IsDocumentOf};
+ghost use Rattle.gql_cst.specs.Nesting.{nesting};
+ghost use Rattle.gql_print_laws.specs.Literal.{literal_of};
+ghost use Rattle.gql_print_laws.specs.ReadBack.{IsValueOf};
 ghost use Rattle.gql_sdl.specs.Schemas.{schema_text};
 ghost use Rattle.gql_sdl.specs.declared.shown.ShownDirective.{ShownDirective};
 ghost use Rattle.gql_sdl.specs.declared.shown.ShownEnumValue.{ShownEnumValue};
@@ -12,6 +16,7 @@ ghost use Rattle.gql_sdl.specs.declared.shown.ShownField.{ShownField};
 ghost use Rattle.gql_sdl.specs.declared.shown.ShownInput.{ShownInput};
 ghost use Rattle.gql_sdl.specs.declared.shown.ShownSchema.{ShownSchema};
 ghost use Rattle.gql_sdl.specs.declared.shown.ShownType.{ShownType};
+ghost use Rattle.gql_sdl_laws.specs.Depth.{literal_depth};
 ghost use Rattle.gql_sdl_laws.specs.Forms.{IsReadBack, SaysSchema, input_form, field_form, enum_value_form, named_type_form, directive_form, roots_form};
 ghost use Rattle.gql_sdl_laws.specs.Meant.{says};
 ghost use Rattle.gql_sdl_laws.specs.Printable.{IsInput, IsField, IsEnumValue, IsType, IsDirective, AreRoots, IsSchema};
@@ -83,3 +88,10 @@ pub fn printed_schemas_are_read_back()
 {
     text_laws::texts_have_one_document();
 }
+
+/// A constant value that a text stands for is nested no deeper than the tree of the text (GraphQL October 2021, section 2.9). So what is
+/// written of it is a default that can be printed, wherever a parser reads the text.
+pub fn read_values_nest_as_their_text()
+    ensures { (text : List ℕ) (file : FileId) (read : ValueKind) (is : IsValueOf text file read)
+        → literal_depth (literal_of read) ≤ nesting is.children }
+{}
