@@ -1,6 +1,5 @@
 -- A value that a text stands for is nested no deeper than the text.
-use Rattle.std.proofs.Common.{◌≡◌, ℕ, suc, ◌+◌, ◌≤◌, max, Bool, true, false, if◌then◌else◌, List, [], ◌∷◌, ◌++◌, map, Option, Some, None, refl, sym, ap, ◌∙◌, subst, arith, rules}
-use Rattle.std.specs.Prelude.{slice_range, option_and_then}
+use Rattle.std.proofs.Common.{◌≡◌, ℕ, ◌+◌, ◌≤◌, max, Bool, true, false, if◌then◌else◌, List, [], ◌∷◌, map, Option, Some, None, refl, ap, subst, arith, rules}
 use Rattle.std.specs.List.{list_any}
 use Rattle.std.specs.Option.{option_map}
 use Rattle.gql_source.specs.declared.file_id.FileId.{FileId}
@@ -19,7 +18,6 @@ use Rattle.gql_ast_base.specs.declared.value.Value.{Value}
 use Rattle.gql_ast_base.specs.declared.value.ValueKind.{ValueKind, List as ListKind, Object as ObjectKind, the_lemmas}
 use Rattle.gql_ast_base.specs.declared.value.ValueKind.TheVariants.{Null, Variable, Int, Float, String, Boolean, Enum}
 use Rattle.gql_ast_laws.proofs.Blind.{tree}
-use Rattle.gql_ast_laws.proofs.Inner.{both_ways}
 use Rattle.gql_ast_laws.proofs.Kept.{Each, IfAny, then-each, head-any, if-any, map-any, map-always, then-always}
 use Rattle.gql_ast_laws.proofs.TokenKinds.{kind_is, word_is_token}
 use Rattle.gql_print_laws.specs.Literal as lit
