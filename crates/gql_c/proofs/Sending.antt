@@ -40,8 +40,12 @@ json_sync = search (sendable, crosses, value.crosses, byte_string.the_sync, list
 
 pub held_send : IsSend held.the_row
 held_send = variants_send held.enum (
-    (search (sendable, crosses, service_send, service_sync) depth 60 fits 20000, tt),
-    ((search (sendable, crosses, query_send, query_sync) depth 60 fits 20000, tt),
-    ((search (sendable, crosses, json_send, json_sync, pairs.the_send, pairs.the_sync) depth 60 fits 20000, tt),
-    ((search (sendable, crosses, bytes.the_send) depth 60 fits 20000, tt), tt)))
+  (search (sendable, crosses, service_send, service_sync) depth 60 fits 20000, tt),
+  (
+    (search (sendable, crosses, query_send, query_sync) depth 60 fits 20000, tt),
+    (
+      (search (sendable, crosses, json_send, json_sync, pairs.the_send, pairs.the_sync) depth 60 fits 20000, tt),
+      ((search (sendable, crosses, bytes.the_send) depth 60 fits 20000, tt), tt),
+    ),
+  ),
 )

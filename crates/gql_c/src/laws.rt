@@ -7,5 +7,4 @@ ghost use Rattle.gql_c.specs.contracts.handle.Handle as handle;
 /// value count it by atomic counts, and none changes it, so each thread may use a handle of its own at the same time.
 pub fn handles_cross_threads()
     ensures { IsSend handle.the_row }
-{
-}
+{}
