@@ -66,7 +66,7 @@ const ROWS: [Row; 8] = [
 ];
 
 /// The answer of the schema to the full query.
-fn answer_of(alloc: Global, text: &str) -> Result<Bytes, Fail> {
+pub(crate) fn answer_of(alloc: Global, text: &str) -> Result<Bytes, Fail> {
     let Ok(schema) = schema_of_text(alloc, text) else {
         return Err(Fail::from("the schema is wrong"));
     };

@@ -1,0 +1,13 @@
+mod Names
+mod Lists
+mod Parts
+mod OwnTypes
+mod Roots
+mod Definitions
+mod Rebuilt
+mod LookUps
+mod RootRules
+mod BuiltIns
+mod Given
+mod TypeNames
+mod Settled

@@ -1,0 +1,6 @@
+pub mod Parts
+pub mod Shown
+pub mod Alike
+pub mod Answer
+pub mod Given
+pub mod Settled
