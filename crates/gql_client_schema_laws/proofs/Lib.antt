@@ -11,3 +11,7 @@ mod BuiltIns
 mod Given
 mod TypeNames
 mod Settled
+mod Steps
+mod Levels
+mod ReadBack
+mod Duplicates

@@ -4,3 +4,4 @@ pub mod Alike
 pub mod Answer
 pub mod Given
 pub mod Settled
+pub mod Proper

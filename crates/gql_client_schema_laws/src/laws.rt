@@ -1,15 +1,22 @@
 //! Laws of what introspection shows of a schema: section 4 of GraphQL October 2021.
 
-ghost use Rattle.std.specs.Prelude.{◌≡◌, ℕ, false, List, []};
+ghost use Rattle.std.specs.Prelude.{◌≡◌, ℕ, false, List, [], Some, codes};
+ghost use Rattle.std.specs.Map.{lookup};
+ghost use Rattle.std.specs.Str.{bytes_eq};
 ghost use Rattle.gql_introspection.specs.Deprecation.{default_reason};
 ghost use Rattle.gql_ast_definitions.specs.declared.field_definition.EnumValueDefinition.{EnumValueDefinition};
 ghost use Rattle.gql_ast_definitions.specs.declared.field_definition.FieldDefinition.{FieldDefinition};
 ghost use Rattle.gql_ast_definitions.specs.declared.field_definition.InputValueDefinition.{InputValueDefinition};
 ghost use Rattle.gql_ast_definitions.specs.declared.schema_definition.DirectiveDefinition.{DirectiveDefinition};
+ghost use Rattle.gql_client_schema.specs.Parts.{read_answer};
+ghost use Rattle.gql_client_schema.specs.Reading.{Gives};
 ghost use Rattle.gql_client_schema_laws.specs.Alike.{FindAlike};
 ghost use Rattle.gql_client_schema_laws.specs.Given as given;
+ghost use Rattle.gql_client_schema_laws.specs.Answer.{Pairs, data_value};
+ghost use Rattle.gql_client_schema_laws.specs.Proper.{IsProper};
 ghost use Rattle.gql_client_schema_laws.specs.Settled.{IsPlaced, settled};
 ghost use Rattle.gql_client_schema_laws.specs.Shown as spec;
+ghost use Rattle.gql_rules_types.specs.DuplicateRootOperationType.{duplicate_root_operation_type};
 ghost use Rattle.gql_rules_types.specs.QueryRootOperationType.{query_root_operation_type};
 ghost use Rattle.gql_rules_types.specs.SchemaRules.{roots_faults};
 ghost use Rattle.gql_schema.specs.BuiltInSchema.{IsBuiltIn};
@@ -23,6 +30,7 @@ ghost use Rattle.gql_schema_types.specs.declared.types.InterfaceType.{InterfaceT
 ghost use Rattle.gql_schema_types.specs.declared.types.UnionType.{UnionType};
 ghost use Rattle.gql_sdl.specs.declared.shown.ShownSchema.{ShownSchema};
 ghost use Rattle.gql_source.specs.File.{Files};
+ghost use Rattle.jb_tree.specs.declared.value.Value.{Object};
 
 use gql_ast_laws::laws as tree_laws;
 use gql_grammar::laws as grammar_laws;
@@ -63,12 +71,16 @@ pub fn shown_types_are_found_alike()
 }
 
 /// A schema of which something is shown has a root type of queries; and where each root type of a schema is an object type that is
-/// defined, so is each of another schema of which the same is shown (section 3.3.1 of GraphQL October 2021).
+/// defined, and each operation has one of its own, it is so in another schema of which the same is shown (section 3.3.1 of GraphQL
+/// October 2021).
 pub fn shown_roots_are_right_alike()
     ensures query { (schema : Schema) (shown : ShownSchema) → spec.Shows schema shown
         → query_root_operation_type schema.schema_definition ≡ [] }
     ensures roots { (schema other : Schema) (shown : ShownSchema) → spec.Shows schema shown → spec.Shows other shown
         → roots_faults schema ≡ [] → roots_faults other ≡ [] }
+    ensures apart { (schema other : Schema) (shown : ShownSchema) → spec.Shows schema shown → spec.Shows other shown
+        → duplicate_root_operation_type schema.types schema.schema_definition ≡ []
+        → duplicate_root_operation_type other.types other.schema_definition ≡ [] }
 {
 }
 
@@ -94,5 +106,16 @@ pub fn introspection_gives_what_is_shown()
 /// in other files.
 pub fn settled_schemas_show_the_same()
     ensures { (schema : Schema) (shown : ShownSchema) → spec.Shows schema shown → IsPlaced schema → spec.Shows (validated schema) (settled shown) }
+{
+}
+
+/// An answer that says what is shown of a schema is read as just that, whatever stands beside its data (section 4.2 of GraphQL October
+/// 2021).
+///
+/// Its names are names, its references end within eight wrappers, its defaults are printed constant values, and each type has the parts
+/// of its kind alone.
+pub fn shown_answers_are_read_back()
+    ensures { (shown : ShownSchema) (members : Pairs) → IsProper shown → lookup (bytes_eq (codes "data")) members ≡ Some (data_value shown)
+        → Gives (read_answer (Object members)) shown }
 {
 }
