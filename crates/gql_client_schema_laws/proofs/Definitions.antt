@@ -1,56 +1,36 @@
 -- Definitions of own names: what extensions leave of others, and what is redefined.
-use Rattle.std.proofs.Common.{◌≡◌, ℕ, Bool, true, false, not, cond, if◌then◌else◌, Option, Some, None, List, [], ◌∷◌, ◌++◌, map, fold, refl, sym, ap, ◌∙◌, subst}
-use Rattle.std.specs.Prelude.{option_and_then, codes, is_some}
-use Rattle.std.specs.List.{IsDistinct, AllByRecursion, filter, flat_map}
+use Rattle.std.proofs.Common.{◌≡◌, ℕ, Bool, true, false, not, cond, if◌then◌else◌, Option, Some, None, List, [], ◌∷◌, ◌++◌, map, fold, refl, sym, ap, ◌∙◌}
+use Rattle.std.specs.Prelude.{is_some}
+use Rattle.std.specs.List.{AllByRecursion, filter, flat_map}
 use Rattle.std.specs.Option.{option_map, option_map_or}
 use Rattle.std.specs.Str.{bytes_eq}
-use Rattle.std.proofs.lemmas.List.{map-append}
 use Rattle.gql_ast_base.specs.Names.{Named}
 use Rattle.gql_ast_base.specs.declared.operation_type.OperationType.{OperationType}
 use Rattle.gql_ast_base.specs.declared.operation_type.OperationType.TheVariants.{Query, Mutation, Subscription}
 use Rattle.gql_ast_base.specs.declared.value.Value.{Value}
-use Rattle.gql_ast_definitions.specs.declared.schema_definition.DirectiveDefinition.{DirectiveDefinition}
-use Rattle.gql_ast_definitions.specs.declared.schema_definition.SchemaDefinition as ast
 use Rattle.gql_ast_laws.specs.Printed.{from_nowhere}
-use Rattle.gql_introspection.specs.Deprecation.{default_in, default_reason}
-use Rattle.gql_client_schema_laws.specs.Parts.{said_definition, said_type, shown_directive}
-use Rattle.gql_client_schema_laws.specs.Shown.{Shows, Says, IsOwn, HasBuiltInNames, finished, unfinished, all_finished, own_types, own_directives, is_own_name, said_root, roots_of}
-use Rattle.gql_client_schema_laws.proofs.Names.{empty_left, empty_right, unmapped, none_repeats, stay_joined, distinct_of, all_new, all_put_distinct, texts_shown}
-use Rattle.gql_client_schema_laws.proofs.Lists.{all_weaker, all_mapped, all_unmapped, flat_map_append, filter_none, filter_all, apart, all_put_pass, distinct_both, entry_before}
-use Rattle.gql_client_schema_laws.proofs.OwnTypes.{not_built_in, no_own_name, built_said_name, said_name, same_built_in, said_unfinished, own_of}
-use Rattle.gql_client_schema_laws.proofs.Parts.{HasDistinctParts, all_built_distinct, all_faultless, all_said_built}
-use Rattle.gql_client_schema_laws.proofs.Roots.{said_all, none_doubled, listed, listed_free}
-use Rattle.gql_diag_messages.specs.declared.diagnostic_data.DiagnosticData.{DiagnosticData}
+use Rattle.gql_client_schema_laws.specs.Parts.{said_definition, said_type}
+use Rattle.gql_client_schema_laws.specs.Shown.{unfinished, is_own_name}
+use Rattle.gql_client_schema_laws.proofs.Lists.{all_weaker, apart}
+use Rattle.gql_client_schema_laws.proofs.OwnTypes.{not_built_in, no_own_name, built_said_name, said_name, same_built_in, said_unfinished}
 use Rattle.gql_schema_build.proofs.Whole.{extended_name}
-use Rattle.gql_schema_build.specs.Build as build
 use Rattle.gql_schema_build.specs.Built.{built, part_faults}
-use Rattle.gql_schema_build.specs.BuiltInScalarTypeRedefinition.{is_scalar, redefines, redefinition, redefinition_of, other, built_in_scalar_type_redefinitions, without_redefinitions}
+use Rattle.gql_schema_build.specs.BuiltInScalarTypeRedefinition.{is_scalar, redefines, redefinition, other, built_in_scalar_type_redefinitions, without_redefinitions}
 use Rattle.gql_schema_build.specs.DefinitionNames.{definition_name}
-use Rattle.gql_schema_build.specs.DirectiveDefinitionCollision.{directive_name, second_directive, directive_definition_collisions}
-use Rattle.gql_schema_build.specs.Directives.{directives}
 use Rattle.gql_schema_build.specs.Extended.{extended}
 use Rattle.gql_schema_build.specs.ExtensionNames.{extension_name}
-use Rattle.gql_schema_build.specs.Merged.{firsts}
 use Rattle.gql_schema_build.specs.Roots.{Root, with_root, root_put}
-use Rattle.gql_schema_build.specs.SchemaDefinitions.{beginning, schema_definition, schema_faults}
-use Rattle.gql_schema_build.specs.TypeDefinitionCollision.{second, type_definition_collisions}
-use Rattle.gql_schema_build.specs.TypeTable.{all_extended, types, extension_faults, type_faults}
-use Rattle.gql_schema_build.specs.declared.built_in.BuiltIn.{BuiltIn}
+use Rattle.gql_schema_build.specs.TypeTable.{all_extended}
 use Rattle.gql_schema_build.specs.declared.type_definition.TypeDefinition.{TypeDefinition}
 use Rattle.gql_schema_build.specs.declared.type_definition.TypeDefinition.TheVariants as definition
 use Rattle.gql_schema_build.specs.declared.type_extension.TypeExtension.{TypeExtension}
-use Rattle.gql_schema_build.specs.declared.type_system.TypeSystem.{TypeSystem}
-use Rattle.gql_schema_types.proofs.Joins.{none-distinct, put-all}
-use Rattle.gql_schema_types.specs.Entries.{texts, is_called, entry, put, joined, repeats}
+use Rattle.gql_schema_types.specs.Entries.{texts, is_called, entry}
 use Rattle.gql_schema_types.specs.Schemas.{root_of}
-use Rattle.gql_schema_types.specs.declared.schema.Schema.{Schema}
 use Rattle.gql_schema_types.specs.declared.schema.SchemaDefinition.{SchemaDefinition}
 use Rattle.gql_schema_types.specs.declared.types.ExtendedType.{ExtendedType}
 use Rattle.gql_sdl.specs.Schemas.{is_directive_name, is_built_in}
 use Rattle.gql_sdl.specs.declared.shown.ShownDirective.{ShownDirective}
-use Rattle.gql_sdl.specs.declared.shown.ShownSchema.{ShownSchema}
 use Rattle.gql_sdl.specs.declared.shown.ShownType.{ShownType}
-use Rattle.gql_source.specs.File.{Files}
 
 abbrev pub type_text : ShownType → List ℕ
 type_text ty = ty.name.text

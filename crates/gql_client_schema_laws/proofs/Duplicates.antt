@@ -1,5 +1,5 @@
 -- Where each operation type has a root type of its own in a schema, it is so in another of which the same is shown.
-use Rattle.std.proofs.Common.{◌≡◌, ℕ, Bool, true, false, ◌&&◌, if◌then◌else◌, Option, Some, None, List, [], ◌∷◌, ◌++◌, refl, sym, ap, ◌∙◌, subst}
+use Rattle.std.proofs.Common.{◌≡◌, ℕ, Bool, true, false, ◌&&◌, if◌then◌else◌, Option, Some, None, List, [], ◌∷◌, ◌++◌, refl, sym, ap, ◌∙◌}
 use Rattle.std.specs.Option.{option_map, option_map_or}
 use Rattle.std.specs.Str.{bytes_eq}
 use Rattle.std.specs.Cmp.Lexicographic.{nat_list_eq_equiv}
@@ -12,7 +12,7 @@ use Rattle.gql_client_schema_laws.specs.Shown.{Shows}
 use Rattle.gql_client_schema_laws.proofs.LookUps.{found_alike}
 use Rattle.gql_client_schema_laws.proofs.Names.{empty_left, empty_right}
 use Rattle.gql_diag_messages.specs.declared.diagnostic_data.DiagnosticData.{DiagnosticData}
-use Rattle.gql_rules_types.specs.DuplicateRootOperationType.{comes_first, second, ordered, first_same, duplicate, duplicates, duplicate_root_operation_type}
+use Rattle.gql_rules_types.specs.DuplicateRootOperationType.{comes_first, second, ordered, duplicate, duplicates, duplicate_root_operation_type}
 use Rattle.gql_rules_values.specs.Known.{is_known}
 use Rattle.gql_schema_types.specs.Schemas.{root_of}
 use Rattle.gql_schema_types.specs.declared.schema.Schema.{Schema}
@@ -66,7 +66,7 @@ module _ (types : List ExtendedType) (d : SchemaDefinition) where
   two_before ra rb rc =
       option_map_or (λ (name : Named). if is_known types name.text
       then second name (if option_map_or (λ (root : Named). bytes_eq name.text root.text) ra false then ra
-        else (if option_map_or (λ (root : Named). bytes_eq name.text root.text) rb false then rb else None)) else []) rc []
+      else (if option_map_or (λ (root : Named). bytes_eq name.text root.text) rb false then rb else None)) else []) rc []
 
   told_apart : (ra rb : Option Named) → one_before ra rb ≡ [] → clash (is_known types) ra rb ≡ false
   unfolding clash one_before
@@ -163,7 +163,7 @@ module _ (types : List ExtendedType) (d : SchemaDefinition) where
   of_three a b c three =
       let left : one_before (root_of a d) (root_of b d) ≡ [] = apart_told (root_of a d) (root_of b d) three.one in
       let right : two_before (root_of a d) (root_of b d) (root_of c d) ≡ [] =
-              apart_both (root_of a d) (root_of b d) (root_of c d) (apart_told (root_of a d) (root_of c d) three.two) (apart_told (root_of b d) (root_of c d) three.three) in
+      apart_both (root_of a d) (root_of b d) (root_of c d) (apart_told (root_of a d) (root_of c d) three.two) (apart_told (root_of b d) (root_of c d) three.three) in
       ap (λ l. l ++ duplicate types d c (a ∷ b ∷ [])) left ∙ right
 
   -- the first two, the other way round

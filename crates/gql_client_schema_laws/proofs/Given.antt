@@ -1,6 +1,6 @@
 -- The objects of introspection give what is shown.
-use Rattle.std.proofs.Common.{◌≡◌, ℕ, Bool, true, false, not, ◌&&◌, ◌||◌, cond, Option, Some, None, is_some, List, [], ◌∷◌, map, refl, sym, ap, ◌∙◌, rules}
-use Rattle.std.specs.Prelude.{option_and_then, unwrap_or, codes}
+use Rattle.std.proofs.Common.{◌≡◌, ℕ, Bool, true, false, ◌||◌, cond, Option, Some, None, is_some, List, [], ◌∷◌, map, refl, ap, ◌∙◌, rules}
+use Rattle.std.specs.Prelude.{option_and_then, unwrap_or}
 use Rattle.std.specs.List.{AllByRecursion, filter, list_any}
 use Rattle.std.specs.Option.{option_map}
 use Rattle.std.specs.Str.{bytes_eq}
@@ -13,7 +13,7 @@ use Rattle.gql_ast_definitions.specs.declared.field_definition.FieldDefinition.{
 use Rattle.gql_ast_definitions.specs.declared.field_definition.InputValueDefinition.{InputValueDefinition}
 use Rattle.gql_ast_definitions.specs.declared.schema_definition.DirectiveDefinition.{DirectiveDefinition}
 use Rattle.gql_client_schema_laws.specs.Answer.{reason_in}
-use Rattle.gql_client_schema_laws.specs.Given.{asked, gives, Describes, Deprecates, GivesInput, GivesField, GivesValue, GivesDirective, GivesType, GivesPossible, GivesMembers, GivesSchema, its_reference}
+use Rattle.gql_client_schema_laws.specs.Given.{asked, GivesInput, GivesField, GivesValue, GivesDirective, GivesType, GivesPossible, GivesMembers, GivesSchema}
 use Rattle.gql_client_schema_laws.specs.Parts.{reference, references, deprecation_by, deprecation_in, said_type}
 use Rattle.gql_client_schema_laws.specs.Shown.{implements as shows_implementing, its_reference as shows_reference}
 use Rattle.gql_client_schema_laws.proofs.Lists.{filter_all}
@@ -23,13 +23,13 @@ use Rattle.gql_introspection.specs.Deprecation.{deprecated, is_deprecated, depre
 use Rattle.gql_introspection.specs.Kept.{include_deprecated, is_kept, kept}
 use Rattle.gql_introspection.specs.Meta.{Meta, field_def, enum_value_def, input_value_def}
 use Rattle.gql_introspection.specs.TypeDef.{is_implementing}
-use Rattle.gql_schema_types.specs.Types.{type_name, interfaces_of}
+use Rattle.gql_schema_types.specs.Types.{type_name}
 use Rattle.gql_schema_types.specs.declared.schema.Schema.{Schema}
 use Rattle.gql_schema_types.specs.declared.types.ExtendedType.{ExtendedType}
 use Rattle.gql_schema_types.specs.declared.types.ExtendedType.TheVariants as type
 use Rattle.gql_schema_types.specs.declared.types.InterfaceType.{InterfaceType}
 use Rattle.gql_schema_types.specs.declared.types.UnionType.{UnionType}
-use Rattle.jb_tree.specs.Value.{truth_at, truth_value}
+use Rattle.jb_tree.specs.Value.{truth_at}
 use Rattle.jb_tree.specs.declared.value.Value.{out-Value, the_lemmas}
 use Rattle.jb_tree.specs.declared.value.Value.TheOpen.{Value-F}
 use Rattle.jb_tree.specs.declared.value.Value.TheVariants as json
@@ -114,38 +114,88 @@ module _ (schema : Schema) where
 
   pub type_given : (ty : ExtendedType) → GivesType schema ty
   type_given (type.Scalar t) = record {
-    kind = refl; described = record { name_given = refl; description_given = refl }; url = refl; one_of = refl;
-    fields = refl; shown_fields = refl; input_fields = refl; shown_input_fields = refl; interfaces = refl; shown_interfaces = refl;
-    enum_values = refl; shown_enum_values = refl;
+    kind = refl;
+    described = record { name_given = refl; description_given = refl };
+    url = refl;
+    one_of = refl;
+    fields = refl;
+    shown_fields = refl;
+    input_fields = refl;
+    shown_input_fields = refl;
+    interfaces = refl;
+    shown_interfaces = refl;
+    enum_values = refl;
+    shown_enum_values = refl;
   }
   type_given (type.Object t) = record {
-    kind = refl; described = record { name_given = refl; description_given = refl }; url = refl; one_of = refl;
+    kind = refl;
+    described = record { name_given = refl; description_given = refl };
+    url = refl;
+    one_of = refl;
     fields = ap Some (all_kept (field_def schema) (λ field. field.directives) t.fields);
-    shown_fields = refl; input_fields = refl; shown_input_fields = refl; interfaces = refl; shown_interfaces = refl;
-    enum_values = refl; shown_enum_values = refl;
+    shown_fields = refl;
+    input_fields = refl;
+    shown_input_fields = refl;
+    interfaces = refl;
+    shown_interfaces = refl;
+    enum_values = refl;
+    shown_enum_values = refl;
   }
   type_given (type.Interface t) = record {
-    kind = refl; described = record { name_given = refl; description_given = refl }; url = refl; one_of = refl;
+    kind = refl;
+    described = record { name_given = refl; description_given = refl };
+    url = refl;
+    one_of = refl;
     fields = ap Some (all_kept (field_def schema) (λ field. field.directives) t.fields);
-    shown_fields = refl; input_fields = refl; shown_input_fields = refl; interfaces = refl; shown_interfaces = refl;
-    enum_values = refl; shown_enum_values = refl;
+    shown_fields = refl;
+    input_fields = refl;
+    shown_input_fields = refl;
+    interfaces = refl;
+    shown_interfaces = refl;
+    enum_values = refl;
+    shown_enum_values = refl;
   }
   type_given (type.Union t) = record {
-    kind = refl; described = record { name_given = refl; description_given = refl }; url = refl; one_of = refl;
-    fields = refl; shown_fields = refl; input_fields = refl; shown_input_fields = refl; interfaces = refl; shown_interfaces = refl;
-    enum_values = refl; shown_enum_values = refl;
+    kind = refl;
+    described = record { name_given = refl; description_given = refl };
+    url = refl;
+    one_of = refl;
+    fields = refl;
+    shown_fields = refl;
+    input_fields = refl;
+    shown_input_fields = refl;
+    interfaces = refl;
+    shown_interfaces = refl;
+    enum_values = refl;
+    shown_enum_values = refl;
   }
   type_given (type.Enum t) = record {
-    kind = refl; described = record { name_given = refl; description_given = refl }; url = refl; one_of = refl;
-    fields = refl; shown_fields = refl; input_fields = refl; shown_input_fields = refl; interfaces = refl; shown_interfaces = refl;
+    kind = refl;
+    described = record { name_given = refl; description_given = refl };
+    url = refl;
+    one_of = refl;
+    fields = refl;
+    shown_fields = refl;
+    input_fields = refl;
+    shown_input_fields = refl;
+    interfaces = refl;
+    shown_interfaces = refl;
     enum_values = ap Some (all_kept (enum_value_def schema) (λ value. value.directives) t.values);
     shown_enum_values = refl;
   }
   type_given (type.InputObject t) = record {
-    kind = refl; described = record { name_given = refl; description_given = refl }; url = refl; one_of = refl;
-    fields = refl; shown_fields = refl;
+    kind = refl;
+    described = record { name_given = refl; description_given = refl };
+    url = refl;
+    one_of = refl;
+    fields = refl;
+    shown_fields = refl;
     input_fields = ap Some (all_kept (input_value_def schema) (λ value. value.directives) t.fields);
-    shown_input_fields = refl; interfaces = refl; shown_interfaces = refl; enum_values = refl; shown_enum_values = refl;
+    shown_input_fields = refl;
+    interfaces = refl;
+    shown_interfaces = refl;
+    enum_values = refl;
+    shown_enum_values = refl;
   }
 
   -- ---- which types one can be
@@ -176,7 +226,7 @@ module _ (schema : Schema) where
   implementing interface [] = refl
   implementing interface (t ∷ ts) =
       ap (λ b. map shows_reference (cond b (said_type why t ∷ filter (shows_implementing interface) (map (said_type why) ts)) (filter (shows_implementing interface) (map (said_type why) ts))))
-        (same_implementing interface t)
+      (same_implementing interface t)
       ∙ by_test (is_implementing interface t) (implementing interface ts)
     where
       by_test : (b : Bool)

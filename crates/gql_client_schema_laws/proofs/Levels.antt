@@ -1,6 +1,6 @@
 -- References to types are read as they were made.
-use Rattle.std.proofs.Common.{◌≡◌, ℕ, zero, suc, Bool, true, false, if◌then◌else◌, Option, Some, None, List, [], ◌∷◌, refl, sym, ap, ◌∙◌, subst, rules}
-use Rattle.std.specs.Prelude.{option_and_then, codes}
+use Rattle.std.proofs.Common.{◌≡◌, ℕ, zero, suc, if◌then◌else◌, Option, Some, None, List, refl, sym, ap, subst, rules}
+use Rattle.std.specs.Prelude.{codes}
 use Rattle.std.specs.Map.{lookup}
 use Rattle.std.specs.Str.{bytes_eq}
 use Rattle.gql_ast_base.specs.Names.{Named}
@@ -10,14 +10,12 @@ use Rattle.gql_ast_base.specs.declared.type_ref.TypeRef.TheVariants as ref
 use Rattle.gql_sdl.specs.declared.shown.ShownType.{ShownType}
 use Rattle.gql_sdl.specs.declared.shown.TypeKind.{TypeKind}
 use Rattle.gql_sdl.specs.declared.shown.TypeKind.TheVariants as kind
-use Rattle.jb_tree.specs.Value.{is_null}
-use Rattle.jb_tree.specs.declared.value.Value.{Value}
 use Rattle.jb_tree.specs.declared.value.Value.TheVariants as json
 use Rattle.gql_client_schema_laws.specs.Answer.{Pairs, kind_text, kind_among, head_level, inside_level, both_of, of_type, reference_pairs, reference_value}
-use Rattle.gql_client_schema.specs.Members.{Members, right, in_object, or_null, required, read_text, read_name}
+use Rattle.gql_client_schema.specs.Members.{Members, right, in_object, required}
 use Rattle.gql_client_schema_laws.specs.Proper.{IsName, ends_level, EndsWithin}
-use Rattle.gql_client_schema.specs.Reading.{Reading, gives, and_then, mapped, both, Gives}
-use Rattle.gql_client_schema.specs.References.{kind_named, kind_of, read_kind, named_head, wrapper_head, head_by, head_of, non_null_at, non_null, with_head, joined_head, link_of, nested, inner, linked, reference_of, read_reference}
+use Rattle.gql_client_schema.specs.Reading.{Reading, gives, and_then, Gives}
+use Rattle.gql_client_schema.specs.References.{kind_of, read_kind, head_by, head_of, non_null_at, non_null, with_head, joined_head, link_of, nested, inner, linked, reference_of, read_reference}
 use Rattle.gql_client_schema_laws.proofs.Steps.{chained, goes_on, required_then, text_then, named_then, nameless_then, then_gives, required_gives, in_object_gives, object_is_not_null, null_is_null}
 
 -- ---- one level, by its kind and name
@@ -29,17 +27,17 @@ module _ (members : Members) (within : Members → Reading (Option TypeRef)) (te
   linked_gives is given h =
       chained (head_of members) (λ a. and_then (within members) (λ b. gives (a, b))) (λ parts. gives (joined_head parts)) found
       (chained (required read_kind (codes "kind") members) (λ k. head_by k members)
-        (λ a. and_then (and_then (within members) (λ b. gives (a, b))) (λ parts. gives (joined_head parts))) found
+      (λ a. and_then (and_then (within members) (λ b. gives (a, b))) (λ parts. gives (joined_head parts))) found
       (required_then read_kind (codes "kind") members (json.String text)
-        (λ k. and_then (head_by k members) (λ a. and_then (and_then (within members) (λ b. gives (a, b))) (λ parts. gives (joined_head parts)))) found is
+      (λ k. and_then (head_by k members) (λ a. and_then (and_then (within members) (λ b. gives (a, b))) (λ parts. gives (joined_head parts)))) found is
       (text_then kind_of (λ k. and_then (head_by k members) (λ a. and_then (and_then (within members) (λ b. gives (a, b))) (λ parts. gives (joined_head parts)))) text found
       (goes_on (kind_of text) (λ k. and_then (head_by k members) (λ a. gives (with_head a inside)))
-        (λ k. and_then (head_by k members) (λ a. and_then (and_then (within members) (λ b. gives (a, b))) (λ parts. gives (joined_head parts)))) found
-        (λ k. goes_on (head_by k members) (λ a. gives (with_head a inside))
-          (λ a. and_then (and_then (within members) (λ b. gives (a, b))) (λ parts. gives (joined_head parts))) found
-          (λ a last. chained (within members) (λ b. gives (a, b)) (λ parts. gives (joined_head parts)) found
-            (then_gives (λ b. gives (joined_head (a, b))) (within members) inside found given last)))
-        h))))
+      (λ k. and_then (head_by k members) (λ a. and_then (and_then (within members) (λ b. gives (a, b))) (λ parts. gives (joined_head parts)))) found
+      (λ k. goes_on (head_by k members) (λ a. gives (with_head a inside))
+      (λ a. and_then (and_then (within members) (λ b. gives (a, b))) (λ parts. gives (joined_head parts))) found
+      (λ a last. chained (within members) (λ b. gives (a, b)) (λ parts. gives (joined_head parts)) found
+      (then_gives (λ b. gives (joined_head (a, b))) (within members) inside found given last)))
+      h))))
 
 module _ (members : Members) (name : Named) (named : IsName name) (name_is : lookup (bytes_eq (codes "name")) members ≡ Some (json.String name.text)) where
   named_head_gives : (inside : Option TypeRef) (k : TypeKind)

@@ -6,10 +6,9 @@ use Rattle.std.specs.Str.{bytes_eq}
 use Rattle.gql_ast_base.specs.declared.value.Value.{Value}
 use Rattle.gql_client_schema_laws.specs.Alike.{is_found, FindAlike}
 use Rattle.gql_client_schema_laws.specs.Parts.{said_type}
-use Rattle.gql_client_schema_laws.specs.Shown.{Shows, finished, unfinished, all_finished}
+use Rattle.gql_client_schema_laws.specs.Shown.{Shows, finished, unfinished}
 use Rattle.gql_client_schema_laws.proofs.OwnTypes.{said_unfinished, unfinished_again}
 use Rattle.gql_introspection.specs.Deprecation.{default_reason}
-use Rattle.gql_rules_types.specs.ObjectTypes.{is_another_kind}
 use Rattle.gql_rules_types.specs.OutputType.{is_input_object}
 use Rattle.gql_rules_values.specs.Known.{is_known, is_built_in_scalar}
 use Rattle.gql_schema_types.specs.Implementers.{is_object}

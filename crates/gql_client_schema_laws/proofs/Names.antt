@@ -7,7 +7,7 @@ use Rattle.std.specs.Cmp.Lexicographic.{nat_list_eq_equiv}
 use Rattle.std.proofs.lemmas.List.{append-nil}
 use Rattle.std.proofs.lemmas.Slice.Eq.{bytes_eq-Decides}
 use Rattle.gql_ast_base.specs.Names.{Named}
-use Rattle.gql_schema_types.specs.Entries.{texts, is_called, entry, put, put_new, joined, repeat, repeats}
+use Rattle.gql_schema_types.specs.Entries.{texts, is_called, entry, put, put_new, joined, repeats}
 use Rattle.gql_schema_types.proofs.Joins.{put_new-missing, push-distinct}
 use Rattle.gql_schema_types.proofs.Lookups.{put-missing}
 
@@ -79,7 +79,7 @@ module _ {X : Type 0} (own : X → Named) where
   all_new_behind front more [] distinct = tt
   all_new_behind front more (x ∷ xs) distinct =
       let again : IsDistinct bytes_eq (texts own ((front ++ (more ++ x ∷ [])) ++ xs)) =
-              subst (λ l. IsDistinct bytes_eq (texts own (l ++ xs))) (append_assoc front more (x ∷ [])) (step x (front ++ more) xs distinct) in
+      subst (λ l. IsDistinct bytes_eq (texts own (l ++ xs))) (append_assoc front more (x ∷ [])) (step x (front ++ more) xs distinct) in
       (none_front (own x).text front more (is_new x (front ++ more) xs distinct), all_new_behind front (more ++ x ∷ []) xs again)
 
   -- none of the later ones has a name of the first ones

@@ -1,8 +1,7 @@
 -- Of all types that are shown, those that are not built in.
-use Rattle.std.proofs.Common.{◌≡◌, ℕ, Bool, true, false, not, ◌||◌, cond, if◌then◌else◌, Option, Some, None, List, [], ◌∷◌, ◌++◌, map, refl, sym, ap, ◌∙◌, subst}
+use Rattle.std.proofs.Common.{◌≡◌, ℕ, Bool, true, false, not, ◌||◌, cond, if◌then◌else◌, Option, None, List, [], ◌∷◌, ◌++◌, map, refl, sym, ap, ◌∙◌}
 use Rattle.std.specs.List.{AllByRecursion, filter}
 use Rattle.gql_ast_base.specs.Names.{is_reserved}
-use Rattle.gql_ast_base.specs.declared.type_ref.TypeRef.{TypeRef}
 use Rattle.gql_ast_base.specs.declared.value.Value.{Value}
 use Rattle.gql_client_schema_laws.specs.Parts.{said_definition, said_type}
 use Rattle.gql_client_schema_laws.specs.Shown.{is_interface, finished, unfinished, its_reference, implements, is_own_name}

@@ -1,6 +1,5 @@
 -- Definitions whose parts have distinct names: nothing is wrong with them, and they say what their types say.
-use Rattle.std.proofs.Common.{◌≡◌, ℕ, Bool, true, false, Option, Some, None, List, [], ◌∷◌, ◌++◌, map, refl, sym, ap, ◌∙◌, subst, rules}
-use Rattle.std.specs.Prelude.{⊤}
+use Rattle.std.proofs.Common.{◌≡◌, ℕ, Option, List, [], ◌∷◌, ◌++◌, map, refl, sym, ap, ◌∙◌, subst, rules}
 use Rattle.std.specs.List.{IsDistinct, AllByRecursion, flat_map}
 use Rattle.std.specs.Str.{bytes_eq}
 use Rattle.gql_ast_base.specs.Names.{Named}
@@ -15,13 +14,11 @@ use Rattle.gql_diag_messages.specs.declared.diagnostic_data.DiagnosticData.{Diag
 use Rattle.gql_diag_messages.specs.declared.rule.Rule.{Rule}
 use Rattle.gql_schema_build.specs.Built.{built, part_faults}
 use Rattle.gql_schema_build.specs.Faults.{collision_of, collisions, itself, names_once}
-use Rattle.gql_schema_build.specs.InterfaceFieldNameCollision.{interface_field_name_collisions}
-use Rattle.gql_schema_build.specs.ObjectFieldNameCollision.{object_field_name_collisions}
 use Rattle.gql_schema_build.specs.PartNames.{field_name, input_name, value_name}
 use Rattle.gql_schema_build.specs.declared.type_definition.TypeDefinition.{TypeDefinition}
 use Rattle.gql_schema_build.specs.declared.type_definition.TypeDefinition.TheVariants as definition
 use Rattle.gql_schema_types.proofs.Joins.{joined-distinct, none-distinct}
-use Rattle.gql_schema_types.specs.Entries.{texts, joined, repeats}
+use Rattle.gql_schema_types.specs.Entries.{texts, joined}
 use Rattle.gql_sdl.specs.declared.shown.ShownEnumValue.{ShownEnumValue}
 use Rattle.gql_sdl.specs.declared.shown.ShownField.{ShownField}
 use Rattle.gql_sdl.specs.declared.shown.ShownInput.{ShownInput}
@@ -137,26 +134,26 @@ module _ (why : Option Value) where
   said_built (definition.Scalar d) parts = refl
   said_built (definition.Object d) parts =
       let same_fields : joined field_name [] d.fields ≡ d.fields =
-              stay_joined field_name [] d.fields (as_said field_name (shown_field why) field_text (λ field. refl) d.fields parts.fields) in
+      stay_joined field_name [] d.fields (as_said field_name (shown_field why) field_text (λ field. refl) d.fields parts.fields) in
       let same_names : names_once d.implements_interfaces ≡ d.implements_interfaces =
-              stay_joined itself [] d.implements_interfaces (names_distinct d.implements_interfaces parts.interfaces) in
+      stay_joined itself [] d.implements_interfaces (names_distinct d.implements_interfaces parts.interfaces) in
       λ i. record (said_definition why (definition.Object d)) { fields = map (shown_field why) (same_fields i); interfaces = references (same_names i) }
   said_built (definition.Interface d) parts =
       let same_fields : joined field_name [] d.fields ≡ d.fields =
-              stay_joined field_name [] d.fields (as_said field_name (shown_field why) field_text (λ field. refl) d.fields parts.fields) in
+      stay_joined field_name [] d.fields (as_said field_name (shown_field why) field_text (λ field. refl) d.fields parts.fields) in
       let same_names : names_once d.implements_interfaces ≡ d.implements_interfaces =
-              stay_joined itself [] d.implements_interfaces (names_distinct d.implements_interfaces parts.interfaces) in
+      stay_joined itself [] d.implements_interfaces (names_distinct d.implements_interfaces parts.interfaces) in
       λ i. record (said_definition why (definition.Interface d)) { fields = map (shown_field why) (same_fields i); interfaces = references (same_names i) }
   said_built (definition.Union d) parts =
       let same_names : names_once d.members ≡ d.members = stay_joined itself [] d.members (names_distinct d.members parts.possible_types) in
       λ i. record (said_definition why (definition.Union d)) { possible_types = references (same_names i) }
   said_built (definition.Enum d) parts =
       let same_values : joined value_name [] d.values ≡ d.values =
-              stay_joined value_name [] d.values (as_said value_name (shown_enum_value why) value_text (λ value. refl) d.values parts.enum_values) in
+      stay_joined value_name [] d.values (as_said value_name (shown_enum_value why) value_text (λ value. refl) d.values parts.enum_values) in
       λ i. record (said_definition why (definition.Enum d)) { enum_values = map (shown_enum_value why) (same_values i) }
   said_built (definition.InputObject d) parts =
       let same_fields : joined input_name [] d.fields ≡ d.fields =
-              stay_joined input_name [] d.fields (as_said input_name (shown_input why) input_text (λ input. refl) d.fields parts.input_fields) in
+      stay_joined input_name [] d.fields (as_said input_name (shown_input why) input_text (λ input. refl) d.fields parts.input_fields) in
       λ i. record (said_definition why (definition.InputObject d)) { input_fields = map (shown_input why) (same_fields i) }
 
   -- ---- the same of lists

@@ -1,58 +1,47 @@
 -- Definitions that say what is shown of a schema build without a fault a schema of which the same is shown.
-use Rattle.std.proofs.Common.{◌≡◌, ℕ, Bool, true, false, not, cond, if◌then◌else◌, Option, Some, None, List, [], ◌∷◌, ◌++◌, map, fold, refl, sym, ap, ◌∙◌, subst}
-use Rattle.std.specs.Prelude.{option_and_then, codes, is_some}
+use Rattle.std.proofs.Common.{◌≡◌, ℕ, true, false, not, Option, Some, None, List, [], ◌∷◌, ◌++◌, map, fold, refl, sym, ap, ◌∙◌, subst}
+use Rattle.std.specs.Prelude.{option_and_then, codes}
 use Rattle.std.specs.List.{IsDistinct, AllByRecursion, filter, flat_map}
-use Rattle.std.specs.Option.{option_map, option_map_or}
+use Rattle.std.specs.Option.{option_map}
 use Rattle.std.specs.Str.{bytes_eq}
 use Rattle.std.proofs.lemmas.List.{map-append}
-use Rattle.gql_ast_base.specs.Names.{Named}
-use Rattle.gql_ast_base.specs.declared.operation_type.OperationType.{OperationType}
-use Rattle.gql_ast_base.specs.declared.operation_type.OperationType.TheVariants.{Query, Mutation, Subscription}
 use Rattle.gql_ast_base.specs.declared.value.Value.{Value}
 use Rattle.gql_ast_definitions.specs.declared.schema_definition.DirectiveDefinition.{DirectiveDefinition}
-use Rattle.gql_ast_definitions.specs.declared.schema_definition.SchemaDefinition as ast
 use Rattle.gql_ast_laws.specs.Printed.{from_nowhere}
 use Rattle.gql_introspection.specs.Deprecation.{default_in, default_reason}
 use Rattle.gql_client_schema_laws.specs.Parts.{said_definition, said_type, shown_directive}
-use Rattle.gql_client_schema_laws.specs.Shown.{Shows, Says, IsOwn, HasBuiltInNames, finished, unfinished, all_finished, own_types, own_directives, is_own_name, said_root, roots_of}
+use Rattle.gql_client_schema_laws.specs.Shown.{Shows, Says, IsOwn, HasBuiltInNames, finished, unfinished, all_finished, is_own_name}
 use Rattle.gql_client_schema_laws.proofs.Names.{empty_left, empty_right, unmapped, none_repeats, stay_joined, distinct_of, all_new, all_put_distinct, texts_shown}
 use Rattle.gql_client_schema_laws.proofs.Definitions.{type_text, directive_text, is_own_directive, built_unextended, faults_unextended, extended_type, own_texts, are_own, all_unfinished, are_built_in, not_own_names, kept_own, none_redefined, all_kept, from_nowhere_already, kept_description}
-use Rattle.gql_client_schema_laws.proofs.Lists.{all_weaker, all_mapped, all_unmapped, flat_map_append, filter_none, filter_all, apart, all_put_pass, distinct_both, entry_before}
-use Rattle.gql_client_schema_laws.proofs.OwnTypes.{not_built_in, no_own_name, built_said_name, said_name, same_built_in, said_unfinished, own_of}
+use Rattle.gql_client_schema_laws.proofs.Lists.{all_mapped, all_unmapped, flat_map_append, filter_none, filter_all, all_put_pass, distinct_both, entry_before}
+use Rattle.gql_client_schema_laws.proofs.OwnTypes.{said_name, own_of}
 use Rattle.gql_client_schema_laws.proofs.Parts.{HasDistinctParts, all_built_distinct, all_faultless, all_said_built}
 use Rattle.gql_client_schema_laws.proofs.Roots.{texts_of, with_said, all_free as free_from, no_roots as no_texts, made, said_all, none_doubled, listed, listed_free}
 use Rattle.gql_diag_messages.specs.declared.diagnostic_data.DiagnosticData.{DiagnosticData}
-use Rattle.gql_schema_build.proofs.Whole.{extended_name}
 use Rattle.gql_schema_build.specs.Build as build
 use Rattle.gql_schema_build.specs.Built.{built, part_faults}
-use Rattle.gql_schema_build.specs.BuiltInScalarTypeRedefinition.{is_scalar, redefines, redefinition, redefinition_of, other, built_in_scalar_type_redefinitions, without_redefinitions}
+use Rattle.gql_schema_build.specs.BuiltInScalarTypeRedefinition.{built_in_scalar_type_redefinitions, without_redefinitions}
 use Rattle.gql_schema_build.specs.DefinitionNames.{definition_name}
 use Rattle.gql_schema_build.specs.DirectiveDefinitionCollision.{directive_name, second_directive, directive_definition_collisions}
 use Rattle.gql_schema_build.specs.Directives.{directives}
-use Rattle.gql_schema_build.specs.Extended.{extended}
-use Rattle.gql_schema_build.specs.ExtensionNames.{extension_name}
 use Rattle.gql_schema_build.specs.Merged.{firsts}
-use Rattle.gql_schema_build.specs.Roots.{Root, with_root, root_put}
-use Rattle.gql_schema_build.specs.SchemaDefinitions.{beginning, schema_definition, schema_faults}
+use Rattle.gql_schema_build.specs.Roots.{with_root}
+use Rattle.gql_schema_build.specs.SchemaDefinitions.{schema_definition, schema_faults}
 use Rattle.gql_schema_build.specs.TypeDefinitionCollision.{second, type_definition_collisions}
 use Rattle.gql_schema_build.specs.TypeTable.{all_extended, types, extension_faults, type_faults}
 use Rattle.gql_schema_build.specs.declared.built_in.BuiltIn.{BuiltIn}
 use Rattle.gql_schema_build.specs.declared.type_definition.TypeDefinition.{TypeDefinition}
-use Rattle.gql_schema_build.specs.declared.type_definition.TypeDefinition.TheVariants as definition
 use Rattle.gql_schema_build.specs.declared.type_extension.TypeExtension.{TypeExtension}
 use Rattle.gql_schema_build.specs.declared.type_system.TypeSystem.{TypeSystem}
 use Rattle.gql_schema_types.proofs.Joins.{none-distinct, put-all}
-use Rattle.gql_schema_types.specs.Entries.{texts, is_called, entry, put, joined, repeats}
-use Rattle.gql_schema_types.specs.Schemas.{root_of}
+use Rattle.gql_schema_types.specs.Entries.{texts, entry, put, repeats}
 use Rattle.gql_schema_types.specs.declared.schema.Schema.{Schema}
 use Rattle.gql_schema_types.specs.declared.schema.SchemaDefinition.{SchemaDefinition}
 use Rattle.gql_schema_types.specs.declared.types.ExtendedType.{ExtendedType}
 use Rattle.gql_sdl.specs.Schemas.{is_directive_name, is_built_in}
-use Rattle.gql_sdl.specs.declared.shown.ShownDirective.{ShownDirective}
 use Rattle.gql_sdl.specs.declared.shown.ShownSchema.{ShownSchema}
 use Rattle.gql_sdl.specs.declared.shown.ShownType.{ShownType}
 use Rattle.gql_source.specs.File.{Files}
-
 
 -- ---- directives
 
@@ -70,7 +59,7 @@ module _ (built_ins : List DirectiveDefinition) (names : AllByRecursion (λ d. i
     behind_table =
         ap (fold (put directive_name) table) (stay_joined directive_name [] ds distinct)
         ∙ put-all directive_name table ds
-          (distinct_both directive_name is_directive_name table ds table_names own (all_put_distinct directive_name [] built_ins (none-distinct directive_name)) distinct)
+        (distinct_both directive_name is_directive_name table ds table_names own (all_put_distinct directive_name [] built_ins (none-distinct directive_name)) distinct)
 
     pub same_default : option_and_then default_in (entry directive_name (codes "deprecated") (directives built_ins ds))
         ≡ option_and_then default_in (entry directive_name (codes "deprecated") table)
@@ -151,11 +140,11 @@ module _ (sources : Files) (built_in : BuiltIn) (first : TypeSystem) (own : IsOw
   built_ins_right : flat_map part_faults built_ins ≡ []
   built_ins_right =
       let parts : flat_map (λ d. part_faults (all_extended es d)) (firsts (built_ins ++ theirs)) ≡ [] =
-              empty_right (extension_faults (built_ins ++ theirs) es) _ (empty_right (type_definition_collisions (built_ins ++ theirs)) _ types_right) in
+      empty_right (extension_faults (built_ins ++ theirs) es) _ (empty_right (type_definition_collisions (built_ins ++ theirs)) _ types_right) in
       sym (faults_unextended es own.type_extensions built_ins unnamed)
       ∙ empty_left _ (flat_map (λ d. part_faults (all_extended es d)) theirs)
-        (sym (flat_map_append (λ d. part_faults (all_extended es d)) built_ins theirs)
-        ∙ sym (ap (flat_map (λ d. part_faults (all_extended es d))) all_first) ∙ parts)
+      (sym (flat_map_append (λ d. part_faults (all_extended es d)) built_ins theirs)
+      ∙ sym (ap (flat_map (λ d. part_faults (all_extended es d))) all_first) ∙ parts)
 
   its_types : types (built_ins ++ theirs) es ≡ map built built_ins ++ map (extended_type es) theirs
   its_types =
@@ -294,7 +283,7 @@ module _ (sources : Files) (built_in : BuiltIn) (first : TypeSystem) (own : IsOw
         ap (λ schemas. schema_faults schemas user.schema_extensions ts) says.only
         ∙ ap (λ extensions. schema_faults (says.schema ∷ []) extensions ts) says.no_schema_extensions
         ∙ none_doubled no_roots says.schema.root_operations
-          (ap (free_from no_texts) says.roots ∙ listed_free shown.query.text shown.mutation shown.subscription)
+        (ap (free_from no_texts) says.roots ∙ listed_free shown.query.text shown.mutation shown.subscription)
 
     roots_again : texts_of with_roots ≡ made shown.query.text shown.mutation shown.subscription
     roots_again =
@@ -305,17 +294,17 @@ module _ (sources : Files) (built_in : BuiltIn) (first : TypeSystem) (own : IsOw
     pub no_fault : build.build_faults false built_in user ≡ []
     no_fault =
         ap (λ l. map second_directive l ++ (build.faults_of_types false built_in user
-            ++ schema_faults user.schemas user.schema_extensions (build.all_types false built_in user)))
-          (none_repeats directive_name [] user.directives distinct_again)
+        ++ schema_faults user.schemas user.schema_extensions (build.all_types false built_in user)))
+        (none_repeats directive_name [] user.directives distinct_again)
         ∙ ap (λ l. (l ++ type_faults (built_ins ++ without_redefinitions built_ins us) user.type_extensions)
-            ++ schema_faults user.schemas user.schema_extensions (build.all_types false built_in user)) (none_redefined built_ins us new)
+        ++ schema_faults user.schemas user.schema_extensions (build.all_types false built_in user)) (none_redefined built_ins us new)
         ∙ ap (λ l. l ++ schema_faults user.schemas user.schema_extensions (build.all_types false built_in user)) types_right_again
         ∙ schema_right_again (build.all_types false built_in user)
 
     pub shows_again : (files : Files) → Shows (build.built files false built_in user) shown
     shows_again files =
         let definition : schema_definition user.schemas user.schema_extensions (build.all_types false built_in user) ≡ with_roots =
-                definition_again (build.all_types false built_in user) in
+        definition_again (build.all_types false built_in user) in
         record {
           description = sym says.description ∙ sym (kept_description no_roots says.schema.root_operations) ∙ ap (λ d. d.description) (sym definition);
           query =

@@ -1,10 +1,9 @@
 -- Where no root is wrong in a schema, none is in another of which the same is shown.
-use Rattle.std.proofs.Common.{◌≡◌, ℕ, Bool, true, false, not, Option, Some, None, List, [], ◌∷◌, ◌++◌, refl, sym, ap, ◌∙◌, subst}
-use Rattle.std.specs.Prelude.{option_to_list, if◌then◌else◌, is_none}
+use Rattle.std.proofs.Common.{◌≡◌, ℕ, Bool, true, false, not, Option, Some, None, List, [], ◌++◌, refl, sym, ap, ◌∙◌}
+use Rattle.std.specs.Prelude.{option_to_list, is_none}
 use Rattle.std.specs.List.{flat_map}
 use Rattle.std.specs.Option.{option_map}
 use Rattle.gql_ast_base.specs.Names.{Named}
-use Rattle.gql_ast_base.specs.declared.operation_type.OperationType.{OperationType}
 use Rattle.gql_ast_base.specs.declared.operation_type.OperationType.TheVariants.{Query, Mutation, Subscription}
 use Rattle.gql_ast_laws.specs.Printed.{from_nowhere}
 use Rattle.gql_client_schema_laws.specs.Alike.{FindAlike}
@@ -20,7 +19,6 @@ use Rattle.gql_rules_types.specs.SchemaRules.{root_name_faults, root_faults, roo
 use Rattle.gql_rules_types.specs.UndefinedDefinition.{undefined_definition}
 use Rattle.gql_rules_values.specs.Faults.{fault, name_fault, only_if}
 use Rattle.gql_rules_values.specs.Known.{is_known}
-use Rattle.gql_schema_types.specs.Schemas.{root_of}
 use Rattle.gql_schema_types.specs.declared.schema.Schema.{Schema}
 use Rattle.gql_sdl.specs.declared.shown.ShownSchema.{ShownSchema}
 
@@ -38,9 +36,9 @@ module _ (schema other : Schema) (shown : ShownSchema) (one : Shows schema shown
       let left : undefined_definition schema.types name ≡ [] = empty_left _ (root_operation_object_type schema.types name) none in
       let right : root_operation_object_type schema.types name ≡ [] = empty_right (undefined_definition schema.types name) _ none in
       let known : not (is_known other.types again.text) ≡ false =
-              ap (λ n. not (is_known other.types n)) (sym same) ∙ ap not (sym alike.known) ∙ not_told _ (name_fault rule.UndefinedDefinition name) left in
+      ap (λ n. not (is_known other.types n)) (sym same) ∙ ap not (sym alike.known) ∙ not_told _ (name_fault rule.UndefinedDefinition name) left in
       let object : is_another_kind other.types again.text ≡ false =
-              ap (is_another_kind other.types) (sym same) ∙ sym alike.another_kind ∙ not_told _ (name_fault rule.RootOperationObjectType name) right in
+      ap (is_another_kind other.types) (sym same) ∙ sym alike.another_kind ∙ not_told _ (name_fault rule.RootOperationObjectType name) right in
       two_empty (undefined_definition other.types again) (root_operation_object_type other.types again)
       (ap (λ b. only_if b (name_fault rule.UndefinedDefinition again)) known) (ap (λ b. only_if b (name_fault rule.RootOperationObjectType again)) object)
 
@@ -72,9 +70,9 @@ module _ (schema other : Schema) (shown : ShownSchema) (one : Shows schema shown
       (root_right schema.schema_definition.query other.schema_definition.query same_query query)
       (two_empty (root_faults other Mutation) (root_faults other Subscription)
       (root_right schema.schema_definition.mutation other.schema_definition.mutation same_mutation
-        (empty_left (root_faults schema Mutation) (root_faults schema Subscription) later))
+      (empty_left (root_faults schema Mutation) (root_faults schema Subscription) later))
       (root_right schema.schema_definition.subscription other.schema_definition.subscription same_subscription
-        (empty_right (root_faults schema Mutation) (root_faults schema Subscription) later)))
+      (empty_right (root_faults schema Mutation) (root_faults schema Subscription) later)))
 
 -- a schema of which a root of queries is shown has one
 pub has_query : (schema : Schema) (shown : ShownSchema) → Shows schema shown → query_root_operation_type schema.schema_definition ≡ []

@@ -1,5 +1,5 @@
 -- Roots of a schema, by what is said of them.
-use Rattle.std.proofs.Common.{◌≡◌, ℕ, Bool, true, false, not, ◌&&◌, cond, if◌then◌else◌, Option, Some, None, is_some, List, [], ◌∷◌, ◌++◌, map, fold, refl, sym, ap, ◌∙◌, subst}
+use Rattle.std.proofs.Common.{◌≡◌, ℕ, Bool, true, false, not, ◌&&◌, if◌then◌else◌, Option, Some, None, is_some, List, [], ◌∷◌, ◌++◌, map, fold, refl, sym, ap, ◌∙◌}
 use Rattle.std.specs.Option.{option_map, option_map_or}
 use Rattle.gql_ast_base.specs.Names.{Named}
 use Rattle.gql_ast_base.specs.declared.operation_type.OperationType.{OperationType}
@@ -8,7 +8,7 @@ use Rattle.gql_ast_laws.specs.Printed.{from_nowhere}
 use Rattle.gql_client_schema_laws.specs.Shown.{ShownRoot, said_root, root_if}
 use Rattle.gql_diag_messages.specs.declared.diagnostic_data.DiagnosticData.{DiagnosticData}
 use Rattle.gql_diag_messages.specs.declared.rule.Rule.TheVariants.{DuplicateRootOperation}
-use Rattle.gql_schema_build.specs.DuplicateRootOperation.{keyword, duplicate_root_operation, duplicate_root_operations}
+use Rattle.gql_schema_build.specs.DuplicateRootOperation.{keyword, duplicate_root_operations}
 use Rattle.gql_schema_build.specs.Faults.{fault}
 use Rattle.gql_schema_build.specs.Roots.{Root, with_root, root_put}
 use Rattle.gql_schema_types.specs.Schemas.{root_of}

@@ -1,7 +1,7 @@
 -- What validation drops of a schema can be told from what is shown of it.
-use Rattle.std.proofs.Common.{◌≡◌, ℕ, Bool, true, false, not, ◌&&◌, ◌||◌, cond, if◌then◌else◌, Option, Some, None, is_some, List, [], ◌∷◌, ◌++◌, map, refl, sym, ap, ◌∙◌, subst}
+use Rattle.std.proofs.Common.{◌≡◌, ℕ, Bool, true, false, not, ◌&&◌, ◌||◌, cond, if◌then◌else◌, Option, None, is_some, List, [], ◌∷◌, ◌++◌, map, refl, sym, ap, ◌∙◌}
 use Rattle.std.specs.Prelude.{codes}
-use Rattle.std.specs.List.{AllByRecursion, filter, list_any}
+use Rattle.std.specs.List.{AllByRecursion, list_any}
 use Rattle.std.specs.Str.{bytes_eq}
 use Rattle.gql_ast_base.specs.TypeParts.{named_type}
 use Rattle.gql_ast_base.specs.declared.value.Value.{Value}
@@ -16,13 +16,13 @@ use Rattle.gql_client_schema_laws.proofs.LookUps.{its_name, all_unfinished}
 use Rattle.gql_client_schema_laws.proofs.TypeNames.{same_name}
 use Rattle.gql_introspection.specs.Deprecation.{default_reason}
 use Rattle.gql_rules_values.specs.Written.{is_written}
-use Rattle.gql_schema_rules.specs.Scalars.{names, field_names, input_names, type_names, directive_names, is_named, built_in_scalars, new_scalar, is_missing, with_missing, unless_unused, validated_types, validated}
+use Rattle.gql_schema_rules.specs.Scalars.{names, field_names, type_names, directive_names, is_named, built_in_scalars, new_scalar, with_missing, unless_unused, validated_types, validated}
 use Rattle.gql_schema_types.specs.Entries.{is_called, without}
 use Rattle.gql_schema_types.specs.Types.{type_name, type_called}
 use Rattle.gql_schema_types.specs.declared.schema.Schema.{Schema}
 use Rattle.gql_schema_types.specs.declared.types.ExtendedType.{ExtendedType}
 use Rattle.gql_schema_types.specs.declared.types.ExtendedType.TheVariants as type
-use Rattle.gql_sdl.specs.Schemas.{is_directive_name, is_built_in}
+use Rattle.gql_sdl.specs.Schemas.{is_built_in}
 use Rattle.gql_sdl.specs.declared.shown.ShownSchema.{ShownSchema}
 use Rattle.gql_sdl.specs.declared.shown.ShownType.{ShownType}
 

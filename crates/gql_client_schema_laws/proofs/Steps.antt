@@ -1,19 +1,19 @@
 -- Readings of values that are made: members, texts, lists.
-use Rattle.std.proofs.Common.{◌≡◌, ℕ, Bool, true, false, if◌then◌else◌, Option, Some, None, ◌+◌, List, [], ◌∷◌, ◌++◌, map, refl, sym, ap, ◌∙◌, subst, rules, append_assoc}
+use Rattle.std.proofs.Common.{◌≡◌, ℕ, Bool, true, false, if◌then◌else◌, Option, Some, None, ◌+◌, List, [], ◌∷◌, ◌++◌, map, refl, sym, ap, subst, rules, append_assoc}
 use Rattle.std.specs.Prelude.{codes}
 use Rattle.std.specs.List.{AllByRecursion}
 use Rattle.std.specs.Map.{lookup}
 use Rattle.std.specs.Str.{bytes_eq}
 use Rattle.std.proofs.lemmas.List.{append-nil}
-use Rattle.gql_ast_base.specs.Names.{Named, is_name}
+use Rattle.gql_ast_base.specs.Names.{Named}
 use Rattle.gql_response.specs.declared.path.ResponseDataPathSegment.{ResponseDataPathSegment}
-use Rattle.jb_tree.specs.Value.{members_at, items_at, text_at, truth_at, null_at, is_null, object_members, array_items, string_text, truth_value}
+use Rattle.jb_tree.specs.Value.{members_at, items_at, text_at, truth_at, null_at, is_null}
 use Rattle.jb_tree.specs.declared.value.Value.{Value, out-Value, the_lemmas}
 use Rattle.jb_tree.specs.declared.value.Value.TheOpen.{Value-F}
 use Rattle.jb_tree.specs.declared.value.Value.TheVariants as json
-use Rattle.gql_client_schema_laws.specs.Answer.{Pairs, text_or_null, list_value, list_if, truth_if}
+use Rattle.gql_client_schema_laws.specs.Answer.{Pairs, text_or_null, list_value, list_if}
 use Rattle.gql_client_schema.specs.Members.{Members, right, in_object, read_list, read_list_or_null, or_null, there, required, there_or, spared, read_text, read_truth, name_of, read_name}
-use Rattle.gql_client_schema_laws.specs.Proper.{IsName, AreOfKind, IsOneOfKind}
+use Rattle.gql_client_schema_laws.specs.Proper.{IsName, AreOfKind}
 use Rattle.gql_client_schema.specs.Reading.{Reading, gives, breaks, asks, and_then, mapped, both, under, item, member, Gives, read_items}
 
 -- ---- steps

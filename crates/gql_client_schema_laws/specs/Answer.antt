@@ -89,7 +89,7 @@ deprecation_pairs deprecation =
 
 abbrev pub enum_value : ShownEnumValue → Value
 enum_value value = json.Object (
-  (codes "name", json.String value.name.text) ∷ (codes "description", text_or_null value.description) ∷ deprecation_pairs value.deprecation)
+    (codes "name", json.String value.name.text) ∷ (codes "description", text_or_null value.description) ∷ deprecation_pairs value.deprecation)
 
 abbrev pub location_value : DirectiveLocation → Value
 location_value location = json.String (location_name location)
@@ -133,29 +133,29 @@ module _ (types : List ShownType) where
 
   abbrev pub input_value : ShownInput → Value
   input_value input = json.Object (
-    (codes "name", json.String input.name.text) ∷ (codes "description", text_or_null input.description) ∷ (codes "type", reference_value input.ty)
-    ∷ (codes "defaultValue", text_or_null input.default_value) ∷ deprecation_pairs input.deprecation)
+      (codes "name", json.String input.name.text) ∷ (codes "description", text_or_null input.description) ∷ (codes "type", reference_value input.ty)
+      ∷ (codes "defaultValue", text_or_null input.default_value) ∷ deprecation_pairs input.deprecation)
 
   abbrev pub field_value : ShownField → Value
   field_value field = json.Object (
-    (codes "name", json.String field.name.text) ∷ (codes "description", text_or_null field.description)
-    ∷ (codes "args", list_value input_value field.arguments) ∷ (codes "type", reference_value field.ty) ∷ deprecation_pairs field.deprecation)
+      (codes "name", json.String field.name.text) ∷ (codes "description", text_or_null field.description)
+      ∷ (codes "args", list_value input_value field.arguments) ∷ (codes "type", reference_value field.ty) ∷ deprecation_pairs field.deprecation)
 
   abbrev pub directive_value : ShownDirective → Value
   directive_value directive = json.Object (
-    (codes "name", json.String directive.name.text) ∷ (codes "description", text_or_null directive.description)
-    ∷ (codes "isRepeatable", json.Bool directive.is_repeatable) ∷ (codes "locations", list_value location_value directive.locations)
-    ∷ (codes "args", list_value input_value directive.arguments) ∷ [])
+      (codes "name", json.String directive.name.text) ∷ (codes "description", text_or_null directive.description)
+      ∷ (codes "isRepeatable", json.Bool directive.is_repeatable) ∷ (codes "locations", list_value location_value directive.locations)
+      ∷ (codes "args", list_value input_value directive.arguments) ∷ [])
 
   abbrev pub type_value : ShownType → Value
   type_value ty = json.Object (
-    (codes "kind", json.String (kind_text ty.kind)) ∷ (codes "name", json.String ty.name.text) ∷ (codes "description", text_or_null ty.description)
-    ∷ (codes "specifiedByURL", text_or_null ty.specified_by_url) ∷ (codes "isOneOf", truth_if (is_input_object ty.kind) ty.is_one_of)
-    ∷ (codes "fields", list_if (has_fields ty.kind) field_value ty.fields)
-    ∷ (codes "inputFields", list_if (is_input_object ty.kind) input_value ty.input_fields)
-    ∷ (codes "interfaces", list_if (has_fields ty.kind) reference_value ty.interfaces)
-    ∷ (codes "possibleTypes", list_if (has_possible_types ty.kind) reference_value ty.possible_types)
-    ∷ (codes "enumValues", list_if (is_enum ty.kind) enum_value ty.enum_values) ∷ [])
+      (codes "kind", json.String (kind_text ty.kind)) ∷ (codes "name", json.String ty.name.text) ∷ (codes "description", text_or_null ty.description)
+      ∷ (codes "specifiedByURL", text_or_null ty.specified_by_url) ∷ (codes "isOneOf", truth_if (is_input_object ty.kind) ty.is_one_of)
+      ∷ (codes "fields", list_if (has_fields ty.kind) field_value ty.fields)
+      ∷ (codes "inputFields", list_if (is_input_object ty.kind) input_value ty.input_fields)
+      ∷ (codes "interfaces", list_if (has_fields ty.kind) reference_value ty.interfaces)
+      ∷ (codes "possibleTypes", list_if (has_possible_types ty.kind) reference_value ty.possible_types)
+      ∷ (codes "enumValues", list_if (is_enum ty.kind) enum_value ty.enum_values) ∷ [])
 
 -- ---- the schema
 
@@ -168,10 +168,10 @@ root_or_null (Some name) = root_value name
 
 abbrev pub schema_value : ShownSchema → Value
 schema_value shown = json.Object (
-  (codes "description", text_or_null shown.description) ∷ (codes "queryType", root_value shown.query)
-  ∷ (codes "mutationType", root_or_null shown.mutation) ∷ (codes "subscriptionType", root_or_null shown.subscription)
-  ∷ (codes "types", list_value (type_value shown.types) shown.types)
-  ∷ (codes "directives", list_value (directive_value shown.types) shown.directives) ∷ [])
+    (codes "description", text_or_null shown.description) ∷ (codes "queryType", root_value shown.query)
+    ∷ (codes "mutationType", root_or_null shown.mutation) ∷ (codes "subscriptionType", root_or_null shown.subscription)
+    ∷ (codes "types", list_value (type_value shown.types) shown.types)
+    ∷ (codes "directives", list_value (directive_value shown.types) shown.directives) ∷ [])
 
 -- the data of the answer
 abbrev pub data_value : ShownSchema → Value

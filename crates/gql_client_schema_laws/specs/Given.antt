@@ -1,5 +1,5 @@
 -- What each object of introspection gives to the full query, by what is shown of it: section 4.2 of GraphQL October 2021.
-use Rattle.std.specs.Prelude.{◌≡◌, ℕ, Bool, true, false, List, [], ◌∷◌, map, filter, Option, Some, None, is_some, codes}
+use Rattle.std.specs.Prelude.{◌≡◌, ℕ, Bool, true, false, List, [], ◌∷◌, map, filter, Option, Some, is_some, codes}
 use Rattle.gql_ast_base.specs.Names.{Named}
 use Rattle.gql_ast_base.specs.declared.type_ref.TypeRef.{TypeRef}
 use Rattle.gql_ast_base.specs.declared.value.Value.{Value}
@@ -26,7 +26,6 @@ use Rattle.gql_schema_types.specs.declared.types.ExtendedType.TheVariants as typ
 use Rattle.gql_schema_types.specs.declared.types.InterfaceType.{InterfaceType}
 use Rattle.gql_schema_types.specs.declared.types.UnionType.{UnionType}
 use Rattle.gql_sdl.specs.declared.shown.Deprecation.{Deprecation}
-use Rattle.gql_sdl.specs.declared.shown.ShownType.{ShownType}
 use Rattle.jb_tree.specs.declared.value.Value.TheVariants as json
 
 -- the deprecated ones too, wherever that can be asked

@@ -1,5 +1,5 @@
 -- What is shown of a schema as validation leaves it: without the scalars `Int`, `Float` and `ID` that nothing names which is not built in.
-use Rattle.std.specs.Prelude.{◌≡◌, ℕ, Bool, true, not, ◌&&◌, ◌||◌, List, [], ◌∷◌, map, is_some, None, if◌then◌else◌, codes}
+use Rattle.std.specs.Prelude.{◌≡◌, ℕ, Bool, true, not, ◌&&◌, ◌||◌, List, map, is_some, None, if◌then◌else◌, codes}
 use Rattle.std.specs.List.{AllByRecursion, filter, list_any}
 use Rattle.std.specs.Str.{bytes_eq}
 use Rattle.gql_ast_base.specs.TypeParts.{named_type}

@@ -50,8 +50,7 @@ pub fn rebuilt_definitions_show_the_same()
         → spec.HasBuiltInNames built_in → spec.IsOwn first → build_faults false built_in first ≡ []
         → spec.Shows (built sources false built_in first) shown → spec.Says (default_reason (built sources false built_in first)) user shown
         → spec.Shows (built files false built_in user) shown }
-{
-}
+{}
 
 /// The built-in definitions have the names that are left out where a schema is printed: the five directives, the types of
 /// introspection, and the five scalars.
@@ -67,8 +66,7 @@ pub fn built_in_definitions_have_known_names()
 pub fn shown_types_are_found_alike()
     ensures { (schema other : Schema) (shown : ShownSchema) → spec.Shows schema shown → spec.Shows other shown
         → (name : List ℕ) → FindAlike schema.types other.types name }
-{
-}
+{}
 
 /// A schema of which something is shown has a root type of queries; and where each root type of a schema is an object type that is
 /// defined, and each operation has one of its own, it is so in another schema of which the same is shown (section 3.3.1 of GraphQL
@@ -81,8 +79,7 @@ pub fn shown_roots_are_right_alike()
     ensures apart { (schema other : Schema) (shown : ShownSchema) → spec.Shows schema shown → spec.Shows other shown
         → duplicate_root_operation_type schema.types schema.schema_definition ≡ []
         → duplicate_root_operation_type other.types other.schema_definition ≡ [] }
-{
-}
+{}
 
 /// What each field that the full query asks for gives on each object of introspection, by what is shown of the thing that it tells of
 /// (section 4.2 of GraphQL October 2021): the very leaf, null where the kind of a type has no such part, or the objects of all its parts
@@ -96,8 +93,7 @@ pub fn introspection_gives_what_is_shown()
     ensures inputs { (schema : Schema) (value : InputValueDefinition) → given.GivesInput schema value }
     ensures values { (schema : Schema) (value : EnumValueDefinition) → given.GivesValue schema value }
     ensures directives { (schema : Schema) (directive : DirectiveDefinition) → given.GivesDirective schema directive }
-{
-}
+{}
 
 /// What is shown of a schema tells what is shown of it as validation leaves it: without the scalars `Int`, `Float` and `ID` that nothing
 /// names which is not built in (section 3.5 of GraphQL October 2021).
@@ -106,8 +102,7 @@ pub fn introspection_gives_what_is_shown()
 /// in other files.
 pub fn settled_schemas_show_the_same()
     ensures { (schema : Schema) (shown : ShownSchema) → spec.Shows schema shown → IsPlaced schema → spec.Shows (validated schema) (settled shown) }
-{
-}
+{}
 
 /// An answer that says what is shown of a schema is read as just that, whatever stands beside its data (section 4.2 of GraphQL October
 /// 2021).
@@ -117,5 +112,4 @@ pub fn settled_schemas_show_the_same()
 pub fn shown_answers_are_read_back()
     ensures { (shown : ShownSchema) (members : Pairs) → IsProper shown → lookup (bytes_eq (codes "data")) members ≡ Some (data_value shown)
         → Gives (read_answer (Object members)) shown }
-{
-}
+{}
