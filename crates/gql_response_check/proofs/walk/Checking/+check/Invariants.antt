@@ -1,0 +1,46 @@
+use Rattle.std.proofs.Common.{◌≡◌, ◌+◌, ◌*◌, length}
+use Rattle.gql_collect.specs.Plan.{AreNodes, HaveNodes, fields_in, groups_in, sets_below}
+use Rattle.gql_resolvers.proofs.Height.{height}
+use Rattle.gql_exec_fields.specs.Planning.{ground_in}
+use Rattle.gql_exec_fields.specs.Trails.{group_of}
+use Rattle.gql_exec_fields.proofs.Heights.{top}
+use Rattle.gql_exec_fields.proofs.Measures.{schema_in, fragments_in, room, measure, deepest}
+use Rattle.gql_response_check.proofs.walk.Checking.+check.Given as goal
+
+abbrev pub decreases-check_parts : goal.decreases-check_parts
+decreases-check_parts g l = room l.self.now.executing * deepest (fragments_in l.self.now.executing) (groups_in l.parts.now)
+
+abbrev pub decreases-check_field : goal.decreases-check_field
+decreases-check_field g l = measure l.self.now.executing (group_of l.field.now.group).pieces (4 * top (schema_in l.self.now.executing) + 7)
+
+abbrev pub decreases-check_value : goal.decreases-check_value
+decreases-check_value g l = measure l.self.now.executing (group_of l.place.now.group.now).pieces (4 * height l.place.now.ty.now + 3)
+
+abbrev pub decreases-check_object : goal.decreases-check_object
+decreases-check_object g l = measure l.self.now.executing (group_of l.place.now.group.now).pieces 2
+
+abbrev pub decreases-check_typed : goal.decreases-check_typed
+decreases-check_typed g l = measure l.self.now.executing (group_of l.place.now.group.now).pieces 1
+
+abbrev pub decreases-check_list : goal.decreases-check_list
+decreases-check_list g l = measure l.self.now.executing (group_of l.place.now.group.now).pieces (4 * height l.place.now.ty.now + 2)
+
+abbrev pub decreases-check_items : goal.decreases-check_items
+decreases-check_items g l = measure l.self.now.executing (group_of l.place.now.group.now).pieces (4 * height l.place.now.ty.now + 1)
+
+abbrev pub decreases-check_item : goal.decreases-check_item
+decreases-check_item g l = measure l.self.now.executing (group_of l.list.now.group.now).pieces (4 * height l.list.now.ty.now)
+
+abbrev pub invariant-check_parts-loop-number : goal.invariant-check_parts-loop-number
+invariant-check_parts-loop-number g l =
+    record {
+      same : fields_in l.parts ≡ fields_in l.fn.parts;
+      planned : HaveNodes (ground_in l.self.executing) l.parts;
+    }
+
+abbrev pub invariant-check_items-loop-item : goal.invariant-check_items-loop-item
+invariant-check_items-loop-item g l =
+    record {
+      counted : l.index + length l.item-iterator ≡ length l.fn.items;
+      planned : AreNodes (ground_in l.self.executing) (sets_below l.place.group.now) l.nodes;
+    }

@@ -1,0 +1,23 @@
+//! The verdict on a response that anyone gave (GraphQL October 2021, sections 6.4.4 and 7.1): whether its errors are true and explain
+//! its data.
+//!
+//! [`check_response`] reads the bytes of a response and walks along its data and along the paths of its errors at once, beside an
+//! execution: it goes where the data or an error goes, asks each resolver on the way once, and compares what it gives with what the
+//! response has there. Crate `gql_verdict` has the theory of such a walk, and the law that it decides the verdict. That this one gives
+//! what that one does is not proved.
+#![tactic(auto)]
+
+mod check;
+mod check_place;
+mod claim;
+mod error_at_place;
+mod findings;
+mod path_of_place;
+mod reported;
+mod shares;
+mod verdict;
+mod walk;
+
+pub use check::check_response;
+pub use jb_text::Memory;
+pub use verdict::Verdict;
