@@ -63,6 +63,7 @@ def run_c(folder):
     programs = {
         "calls": ["tests/calls.c", "heap.c"],
         "refused_memory": ["tests/refused_memory.c", "tests/counted_heap.c"],
+        "refused_service": ["tests/refused_service.c", "tests/counted_heap.c"],
         "threads": ["tests/threads.c", "heap.c"],
     }
     has_valgrind = shutil.which("valgrind") is not None
@@ -72,7 +73,7 @@ def run_c(folder):
         program = compile_c(folder, name, sources)
         if program is not None:
             print(try_command(name, [program]).stdout.decode(), end="")
-            if has_valgrind and name != "refused_memory":
+            if has_valgrind and "tests/counted_heap.c" not in sources:
                 try_command(f"{name} under valgrind", [*VALGRIND, program])
             if has_valgrind and name == "threads":
                 try_command(f"{name} under helgrind", [*HELGRIND, program])

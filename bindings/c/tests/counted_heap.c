@@ -1,4 +1,4 @@
-/* heap.c over the functions of refused_memory.c. */
+/* heap.c over the functions of refusing.h. */
 #include <stdlib.h>
 
 void *counted_malloc(size_t size);

@@ -1,37 +1,7 @@
 /* Each allocation of a whole request is refused in turn: each call answers as ever or tells NO_MEMORY, or that a handle is empty for that
- * reason, and no block is left. So it is where all after it are refused too. heap.c is compiled once more over the three functions below. */
+ * reason, and no block is left. So it is where all after it are refused too. */
 #include "check.h"
-
-static long left = -1, live;
-static bool all_after, is_hit;
-
-static void *counted(void *at) {
-    live += at != NULL;
-    return at;
-}
-
-/* Whether this allocation is the one whose turn it is, or comes after it where all of these are refused too. */
-static bool is_refused(void) {
-    if (left < 0 || (left > 0 && --left > 0)) {
-        return false;
-    }
-    is_hit = true;
-    left = all_after ? 0 : -1;
-    return true;
-}
-
-void *counted_malloc(size_t size) {
-    return is_refused() ? NULL : counted(malloc(size));
-}
-
-void *counted_realloc(void *at, size_t size) {
-    return is_refused() ? NULL : realloc(at, size);
-}
-
-void counted_free(void *at) {
-    live -= at != NULL;
-    free(at);
-}
+#include "refusing.h"
 
 static gql_handle schema, query, data, share, reply;
 
