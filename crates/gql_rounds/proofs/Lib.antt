@@ -1,0 +1,4 @@
+mod Readies
+mod Causes
+mod Items
+mod Taken

@@ -1,0 +1,5 @@
+-- The counter is over a ledger of its own.
+use Rattle.gql_rounds.proofs.steps.step.Given as goal
+
+abbrev pub ghosts-step_alone : goal.ghosts-step_alone
+ghosts-step_alone a = record { name = a.blank.name; parts = a.blank.parts }

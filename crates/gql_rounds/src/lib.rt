@@ -1,0 +1,21 @@
+//! Requests in rounds, for resolvers in the caller's language (GraphQL October 2021, section 6).
+//!
+//! A caller keeps its objects, gives each a number, and answers what it is asked. One [`step`] of a request takes the table of all its
+//! [`Answers`] so far, and gives a [`Round`]: all [`Asks`] at once for what can be reached with them, so that a caller may resolve
+//! them together; or the response, once nothing is asked. There are no more rounds than selection sets are nested.
+//!
+//! Both sides are JSON: [`asks_bytes`] prints what is asked, and [`read_answers`] reads what is answered.
+#![tactic(auto)]
+
+mod answers_json;
+mod asks_json;
+mod ready;
+mod round;
+mod steps;
+
+pub use answers_json::{AnswersFault, read_answers};
+pub use asks_json::asks_bytes;
+pub use gql_asks::{Answers, Ask, Asks, Told, answer_key};
+pub use jb_text::Memory;
+pub use round::Round;
+pub use steps::step;

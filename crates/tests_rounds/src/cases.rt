@@ -1,0 +1,64 @@
+//! A request with what each of its rounds asks, and what it is answered.
+
+use bytes::Bytes;
+use gql_engine::{AnswerError, Question, Service};
+use gql_rounds::{Answers, Round, asks_bytes, read_answers, step};
+use std::alloc::Global;
+use std::mem::ManuallyDrop;
+use std::test::Fail;
+
+/// What a round asks, and what it is answered.
+pub struct Told {
+    pub asks: &'static str,
+    pub answers: &'static str,
+}
+
+/// A request, its rounds, and what is told last: the response or the refusal.
+pub struct Case {
+    pub query: &'static str,
+    pub variables: &'static str,
+    pub introspection: bool,
+    pub rounds: &'static [Told],
+    pub last: &'static str,
+}
+
+/// What a step tells: the asks, the response or the refusal, as JSON.
+fn told(alloc: Global, round: Result<Round, AnswerError>) -> Result<Bytes, Fail> {
+    match round {
+        Ok(Round::Asks(asks)) => Ok(asks_bytes(alloc, &asks)?),
+        Ok(Round::Answer(response)) => Ok(response),
+        Err(refusal) => Ok(refusal.into_bytes(alloc)?),
+    }
+}
+
+/// The first step of a request that tells something else than its case says, as it was told; `None` where there is none.
+pub fn first_other(alloc: Global, service: &Service, case: &Case) -> Result<Option<Bytes>, Fail> {
+    let Ok(prepared) = service.prepare(alloc, case.query) else {
+        return Err("the query is wrong")?;
+    };
+    let document = ManuallyDrop::new(prepared.into_document());
+    let variables = Bytes::from_static(case.variables.as_bytes());
+    let question = Question {
+        query: case.query,
+        operation_name: None,
+        variables: &variables,
+        introspection: case.introspection,
+    };
+    let mut answers = Answers::new(alloc);
+    for round in case.rounds {
+        let asks = told(alloc, step(alloc, service, &document, &question, &answers))?;
+        if asks.as_slice() != round.asks.as_bytes() {
+            return Ok(Some(asks));
+        }
+        let text = Bytes::from_static(round.answers.as_bytes());
+        if read_answers(alloc, &text, &mut answers).is_err() {
+            return Ok(Some(text));
+        }
+    }
+    let last = told(alloc, step(alloc, service, &document, &question, &answers))?;
+    if last.as_slice() == case.last.as_bytes() {
+        Ok(None)
+    } else {
+        Ok(Some(last))
+    }
+}
