@@ -1,0 +1,10 @@
+pub mod Finding
+pub mod Ending
+pub mod Quiet
+pub mod AlikeFound
+pub mod Matching
+pub mod Walking
+pub mod Plain
+pub mod Inside
+pub mod Leaf
+pub mod Judged

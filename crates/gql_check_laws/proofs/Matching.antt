@@ -1,0 +1,79 @@
+-- What a response has at places, beside what the walk looks at there.
+use Rattle.std.proofs.Common.{arith, ◌≡◌, ℕ, zero, suc, ◌+◌, ◌<◌, Bool, true, false, List, [], ◌∷◌, length, drop, Option, Some, None, Result, is_some, slice_get, add-one, refl, sym, ap, ◌∙◌, subst}
+use Rattle.std.specs.Prelude.{◌||◌, ◌&&◌}
+use Rattle.std.specs.Str.{bytes_eq}
+use Rattle.jb_tree.specs.declared.value.Value.{Value}
+use Rattle.jb_tree.specs.Value.{array_items, object_members, is_null}
+use Rattle.gql_collect.specs.declared.group.Group.{Group as FieldsOfKey}
+use Rattle.gql_document_types.specs.declared.selection.Selection.{Selection}
+use Rattle.gql_exec_fields.proofs.Views.{views}
+use Rattle.gql_exec_fields.specs.Executed.{IsEnough}
+use Rattle.gql_exec_fields.specs.Group.{Group}
+use Rattle.gql_exec_fields.specs.Request.{Request}
+use Rattle.gql_exec_fields.specs.RequestWorld.{plain_world}
+use Rattle.gql_resolvers.specs.Depth.{AllGroups}
+use Rattle.gql_resolvers.specs.Execute.{Member}
+use Rattle.gql_resolvers.specs.Meaning.{meanings_by}
+use Rattle.gql_resolvers.specs.Resolved.{Meaning, Meanings, no_answer, answer_then, answered}
+use Rattle.gql_resolvers.specs.Spot.{Spot, item_spot, field_spot}
+use Rattle.gql_resolvers.specs.Trail.{Trail}
+use Rattle.gql_resolvers.specs.World.{World}
+use Rattle.gql_resolvers.specs.declared.resolve_error.FieldError.{FieldError}
+use Rattle.gql_resolvers.specs.declared.resolved_value.ResolvedValue.{ResolvedValue}
+use Rattle.gql_response.specs.declared.path.ResponseDataPathSegment.TheVariants.{Field, ListIndex}
+use Rattle.gql_schema_types.specs.declared.types.ObjectType.{ObjectType}
+use Rattle.gql_verdict.specs.Claims.{Claim, Found, both, nothing, share}
+use Rattle.gql_verdict.specs.Walk.{Below, array_for, behind, count, first, fitting, groups_found, items_found, kept_if, object_for, of_keys, of_length, outcome_found, same_keys, same_length, second, set_found, settled, unless_idle, value_found}
+use Rattle.gql_check_laws.proofs.Finding.{found-as, found-both, found-nothing}
+use Rattle.gql_check_laws.specs.Found.{FindsBelow, FindsGroups, IsFound}
+use Rattle.gql_check_laws.specs.Places.{item_found}
+use Rattle.gql_check_laws.specs.Reported.{have_keys, key_in, item_at, items_of, member_at, members_of, with_keys}
+use Rattle.gql_check_laws.specs.Findings.{Findings}
+
+-- ---- lists
+
+same-is : {A : Type 0} (n : ℕ) (vs : List A) → length vs ≡ n → same_length n vs ≡ true
+same-is zero [] e = refl
+same-is zero (v ∷ vs) e = absurd (omega (arith, e))
+same-is (suc n) [] e = absurd (omega (arith, e))
+same-is (suc n) (v ∷ vs) e = same-is n vs (omega (arith, e))
+
+same-not : {A : Type 0} (n : ℕ) (vs : List A) → (length vs ≡ n → ⊥) → same_length n vs ≡ false
+same-not zero [] e = absurd (e refl)
+same-not zero (v ∷ vs) e = refl
+same-not (suc n) [] e = refl
+same-not (suc n) (v ∷ vs) e = same-not n vs (λ same. e (omega (arith, same)))
+
+pub items-some : (n : ℕ) (u : Value) (vs : List Value) → array_items u ≡ Some vs → length vs ≡ n → items_of n (Some u) ≡ Some vs
+items-some n u vs is sized = ap (of_length n) is ∙ ap (λ b. kept_if b vs) (same-is n vs sized)
+
+pub items-other : (n : ℕ) (u : Value) (vs : List Value) → array_items u ≡ Some vs → (length vs ≡ n → ⊥) → items_of n (Some u) ≡ None
+items-other n u vs is sized = ap (of_length n) is ∙ ap (λ b. kept_if b vs) (same-not n vs sized)
+
+pub items-none : (n : ℕ) (u : Value) → array_items u ≡ None → items_of n (Some u) ≡ None
+items-none n u is = ap (of_length n) is
+
+count-items : {O X : Type 0} (see : O → X) (items : List (Result (ResolvedValue O) FieldError)) → count (meanings_by see items) ≡ length items
+count-items see [] = refl
+count-items see (item ∷ items) = ap suc (count-items see items)
+
+pub items-given : {O X : Type 0} (see : O → X) (items : List (Result (ResolvedValue O) FieldError)) (v : Option Value)
+    → items_of (length items) v ≡ array_for (meanings_by see items) v
+items-given see items None = refl
+items-given see items (Some u) = ap (λ n. of_length n (array_items u)) (sym (count-items see items))
+
+-- ---- objects
+
+pub keys-given : {X : Type 0} (r : Request X) (groups : List FieldsOfKey) (ms : List Member) → have_keys groups ms ≡ same_keys (plain_world r) (views groups) ms
+keys-given r [] [] = refl
+keys-given r [] (m ∷ ms) = refl
+keys-given r (g ∷ gs) [] = refl
+keys-given r (g ∷ gs) (m ∷ ms) = ap (λ b. bytes_eq (key_in g) m.0 && b) (keys-given r gs ms)
+
+pub members-given : {X : Type 0} (r : Request X) (groups : List FieldsOfKey) (v : Option Value) → members_of groups v ≡ object_for (plain_world r) (views groups) v
+members-given r groups None = refl
+members-given r groups (Some u) = by (object_members u)
+  where
+    by : (o : Option (List Member)) → with_keys groups o ≡ of_keys (plain_world r) (views groups) o
+    by None = refl
+    by (Some ms) = ap (λ b. kept_if b ms) (keys-given r groups ms)

@@ -1,0 +1,7 @@
+pub mod Findings
+pub mod Found
+pub mod Told
+pub mod Places
+pub mod Reported
+pub mod Walked
+pub mod Judgement
