@@ -8,3 +8,6 @@ pub mod Plain
 pub mod Inside
 pub mod Leaf
 pub mod Judged
+pub mod Claiming
+pub mod Sharing
+pub mod Keys

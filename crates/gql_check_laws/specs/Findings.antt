@@ -1,5 +1,5 @@
 -- What is found, as a checker keeps it.
-use Rattle.std.specs.Prelude.{ℕ, true, false, Bool, List, Option, None, replicate, slice_set}
+use Rattle.std.specs.Prelude.{ℕ, ◌+◌, true, false, Bool, List, Option, None, Some, replicate, slice_set}
 use Rattle.gql_resolvers.specs.Trail.{Segment}
 use Rattle.gql_verdict.specs.Claims.{marked}
 
@@ -12,6 +12,15 @@ pub record Findings : Type 0 where
 abbrev pub none_yet : ℕ → Findings
 none_yet errors = record { told = replicate errors false; bad = None }
 
+-- the error of this number is true
+abbrev pub with_told : ℕ → Findings → Findings
+with_told number findings = record findings { told = slice_set findings.told number true }
+
 -- the errors of these numbers are true
 abbrev pub with_all_told : List ℕ → Findings → Findings
 with_all_told numbers findings = record findings { told = marked numbers findings.told }
+
+-- a number, so many further on
+abbrev pub further : ℕ → Option ℕ → Option ℕ
+further n None = None
+further n (Some k) = Some (n + k)

@@ -5,3 +5,4 @@ pub mod Places
 pub mod Reported
 pub mod Walked
 pub mod Judgement
+pub mod Shares
