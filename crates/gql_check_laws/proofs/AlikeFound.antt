@@ -1,5 +1,5 @@
 -- Groups that are the same once repeated fields are left out are walked through alike.
-use Rattle.std.proofs.Common.{◌≡◌, ℕ, zero, suc, ◌+◌, List, [], ◌∷◌, Bool, Option, Some, None, is_some, refl, sym, ap, ◌∙◌, subst}
+use Rattle.std.proofs.Common.{◌≡◌, ℕ, zero, suc, ◌+◌, List, [], ◌∷◌, Option, Some, None, is_some, refl, sym, ap, ◌∙◌, subst}
 use Rattle.std.specs.Prelude.{◌||◌, ◌&&◌}
 use Rattle.std.specs.Str.{bytes_eq}
 use Rattle.jb_tree.specs.declared.value.Value.{Value}
@@ -15,7 +15,7 @@ use Rattle.gql_document_types.specs.declared.selection.Selection.{Selection}
 use Rattle.gql_exec_fields.proofs.Alike.{IsAlike, AreAlike, groups-alike, sets-alike}
 use Rattle.gql_exec_fields.proofs.Views.{views, views-from}
 use Rattle.gql_exec_fields.specs.Executed.{IsEnough}
-use Rattle.gql_exec_fields.specs.Group.{Group, groups_from}
+use Rattle.gql_exec_fields.specs.Group.{Group}
 use Rattle.gql_exec_fields.specs.Request.{Request}
 use Rattle.gql_exec_fields.specs.RequestWorld.{plain, plain_world, setting_on}
 use Rattle.gql_resolvers.specs.Depth.{AllGroups, Suffices}
@@ -25,12 +25,12 @@ use Rattle.gql_resolvers.specs.Resolved.{Meaning, Meanings, gives_leaf, gives_ob
 use Rattle.gql_resolvers.specs.Resolved.{Outcome, answered, refused}
 use Rattle.gql_resolvers.specs.Spot.{Spot, trail, item_spot, field_spot}
 use Rattle.gql_resolvers.specs.Trail.{Segment, Trail, path_of}
-use Rattle.gql_resolvers.specs.World.{World, key_of}
+use Rattle.gql_resolvers.specs.World.{World}
 use Rattle.gql_response.specs.declared.path.ResponseDataPathSegment.TheVariants.{Field, ListIndex}
 use Rattle.gql_schema_types.specs.declared.types.ObjectType.{ObjectType}
 use Rattle.gql_verdict.specs.Claims.{Claim, Found, both, nothing, share}
 use Rattle.gql_check_laws.specs.Walked.{WalksAs}
-use Rattle.gql_verdict.specs.Walk.{Below, any_tells, told_here, fitting, first, behind, second, groups_found, inner_found, is_none, items_found, kept_if, meaning_given, array_for, object_for, object_found, object_given, of_keys, outcome_found, same_keys, set_found, settled, settled_by, unless_idle, value_found}
+use Rattle.gql_verdict.specs.Walk.{Below, any_tells, told_here, fitting, first, behind, second, groups_found, is_none, items_found, kept_if, meaning_given, array_for, object_for, object_found, object_given, of_keys, outcome_found, same_keys, set_found, settled, settled_by, unless_idle, value_found}
 
 module _ {X : Type 0} (r : Request X) where
   abbrev w : World X ObjectType Group (List (List Selection))

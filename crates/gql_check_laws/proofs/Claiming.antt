@@ -1,6 +1,6 @@
 -- Claims one by one.
-use Rattle.std.proofs.Common.{◌≡◌, ℕ, zero, suc, ◌+◌, ◌<◌, ◌≤◌, Bool, true, false, List, [], ◌∷◌, ◌++◌, length, get_or, drop, option_map, Option, Some, None, refl, sym, ap, ◌∙◌, append_assoc}
-use Rattle.std.specs.Prelude.{◌||◌, if◌then◌else◌, not, position}
+use Rattle.std.proofs.Common.{◌≡◌, ℕ, ◌+◌, ◌<◌, ◌≤◌, Bool, true, false, List, [], ◌∷◌, ◌++◌, length, get_or, drop, refl, sym, ap, ◌∙◌, append_assoc}
+use Rattle.std.specs.Prelude.{◌||◌, if◌then◌else◌}
 use Rattle.std.proofs.Math.ListN.{drop_of_length-le}
 use Rattle.std.proofs.lemmas.List.{map-append, append-nil}
 use Rattle.gql_exec_fields.proofs.Measures.{drop-item}
@@ -8,7 +8,7 @@ use Rattle.gql_response.specs.declared.graphql_error.GraphQLError.{GraphQLError}
 use Rattle.gql_resolvers.specs.Resolved.{Fault}
 use Rattle.gql_resolvers.specs.Trail.{Segment}
 use Rattle.gql_source.specs.File.{Files}
-use Rattle.gql_verdict.specs.Claims.{Claim, claims_from, marked, share, share_one}
+use Rattle.gql_verdict.specs.Claims.{Claim, claims_from, share, share_one}
 use Rattle.gql_check_laws.specs.Findings.{with_all_told, with_told}
 use Rattle.gql_check_laws.specs.Shares.{claims_of}
 use Rattle.gql_check_laws.specs.Told.{any_told, is_told, told_numbers}

@@ -1,5 +1,5 @@
 -- What is found at a place, by what is answered there.
-use Rattle.std.proofs.Common.{◌≡◌, List, [], ◌∷◌, ◌++◌, Bool, true, false, Option, Some, None, is_some, refl, sym, ap, ◌∙◌}
+use Rattle.std.proofs.Common.{◌≡◌, List, [], ◌∷◌, ◌++◌, Bool, true, false, Option, Some, None, is_some, refl, ap, ◌∙◌}
 use Rattle.std.specs.Prelude.{◌||◌, ◌&&◌, if◌then◌else◌}
 use Rattle.jb_tree.specs.declared.value.Value.{Value}
 use Rattle.gql_ast_base.specs.TypeParts.{is_non_null}
@@ -10,8 +10,8 @@ use Rattle.gql_resolvers.specs.Trail.{Segment, path_of}
 use Rattle.gql_resolvers.specs.World.{World}
 use Rattle.gql_response.specs.declared.graphql_error.GraphQLError.{GraphQLError}
 use Rattle.gql_verdict.specs.Claims.{Claim, Found, nothing}
-use Rattle.gql_verdict.specs.Walk.{Below, any_tells, told_here, tells, tells_from, array_for, fitting, items_found, meaning_given, object_for, object_found, object_given, outcome_found, settled, settled_by, unless_idle, value_found, is_none}
-use Rattle.gql_check_laws.specs.Places.{ended, fault_found, item_found, members_at, own_found, place_found}
+use Rattle.gql_verdict.specs.Walk.{Below, any_tells, told_here, tells_from, array_for, fitting, items_found, meaning_given, object_found, object_given, outcome_found, settled_by, unless_idle, value_found, is_none}
+use Rattle.gql_check_laws.specs.Places.{ended, fault_found, members_at, own_found, place_found}
 use Rattle.gql_check_laws.specs.Reported.{is_idle, is_leaf}
 use Rattle.gql_check_laws.specs.Told.{any_told, ends_so, told_numbers}
 

@@ -1,6 +1,5 @@
 -- What is found at a list and at an object, after what is found in it.
-use Rattle.std.proofs.Common.{◌≡◌, ℕ, List, [], ◌∷◌, Bool, true, false, length, Option, Some, None, is_some, Result, IfOk, refl, sym, ap, ◌∙◌, subst}
-use Rattle.std.proofs.lemmas.Result.{IfOk-weaker}
+use Rattle.std.proofs.Common.{◌≡◌, List, Bool, length, Option, None, is_some, Result, sym, ap, ◌∙◌, subst}
 use Rattle.jb_tree.specs.declared.value.Value.{Value}
 use Rattle.gql_ast_base.specs.TypeParts.{is_non_null}
 use Rattle.gql_collect.specs.Grouping.{groups_seen}
@@ -8,31 +7,29 @@ use Rattle.gql_collect.specs.Groups.{SameGroups, applying}
 use Rattle.gql_collect.specs.declared.group.Group.{Group as FieldsOfKey}
 use Rattle.gql_document_types.specs.declared.selection.Selection.{Selection}
 use Rattle.gql_exec_fields.proofs.Views.{views}
-use Rattle.gql_exec_fields.specs.Executed.{IsEnough}
 use Rattle.gql_exec_fields.specs.Group.{Group}
 use Rattle.gql_exec_fields.specs.Request.{Request}
 use Rattle.gql_exec_fields.specs.RequestWorld.{plain_world, setting_on}
 use Rattle.gql_resolvers.specs.Execute.{Member}
-use Rattle.gql_resolvers.specs.Fault.{told_at}
 use Rattle.gql_resolvers.specs.Meaning.{meanings_by}
-use Rattle.gql_resolvers.specs.Resolved.{Fault, Meaning, Misfit, gives_list, gives_object, answered, refused}
-use Rattle.gql_resolvers.specs.Spot.{Spot, field_spot, trail}
+use Rattle.gql_resolvers.specs.Resolved.{gives_list}
+use Rattle.gql_resolvers.specs.Spot.{Spot, trail}
 use Rattle.gql_resolvers.specs.Trail.{Trail, path_of}
 use Rattle.gql_resolvers.specs.World.{World}
 use Rattle.gql_resolvers.specs.declared.resolve_error.FieldError.{FieldError}
 use Rattle.gql_resolvers.specs.declared.resolved_value.ResolvedValue.{ResolvedValue}
 use Rattle.gql_schema_types.specs.declared.types.ObjectType.{ObjectType}
-use Rattle.gql_verdict.specs.Claims.{Claim, Found, nothing}
-use Rattle.gql_verdict.specs.Walk.{Below, array_for, groups_found, items_found, object_for, outcome_found, set_found}
+use Rattle.gql_verdict.specs.Claims.{Claim}
+use Rattle.gql_verdict.specs.Walk.{array_for, groups_found, items_found, object_for, set_found}
 use Rattle.gql_check_laws.proofs.AlikeFound.{views-members, views-walk}
-use Rattle.gql_check_laws.proofs.Ending.{idle-none, idle-not, outcome-fault, outcome-place, place-list, place-misfit, place-object}
-use Rattle.gql_check_laws.proofs.Finding.{found-as, found-ended, found-nothing}
+use Rattle.gql_check_laws.proofs.Ending.{place-list}
+use Rattle.gql_check_laws.proofs.Finding.{found-as, found-ended}
 use Rattle.gql_check_laws.proofs.Matching.{items-given, members-given}
 use Rattle.gql_check_laws.proofs.Plain.{none-is, plain-items, plain-members}
 use Rattle.gql_check_laws.proofs.Quiet.{items-quiet, set-quiet}
 use Rattle.gql_check_laws.specs.Found.{FindsBelow, FindsGroups, IsFound}
-use Rattle.gql_check_laws.specs.Places.{fault_found, item_found, members_at, own_found, place_found}
-use Rattle.gql_check_laws.specs.Reported.{is_idle, items_of, members_of}
+use Rattle.gql_check_laws.specs.Places.{members_at, own_found, place_found}
+use Rattle.gql_check_laws.specs.Reported.{items_of, members_of}
 use Rattle.gql_check_laws.specs.Findings.{Findings}
 
 -- ---- an object of a type that fits

@@ -1,5 +1,5 @@
 -- A leaf that is the very value.
-use Rattle.std.proofs.Common.{◌≡◌, Bool, true, false, refl, sym, ◌∙◌}
+use Rattle.std.proofs.Common.{◌≡◌, Bool, true, false, refl, sym}
 use Rattle.std.specs.Prelude.{◌↔◌, IsTrue}
 use Rattle.jb_tree.specs.declared.value.Value.{Value}
 use Rattle.gql_verdict.proofs.Identical.{identical_decides}

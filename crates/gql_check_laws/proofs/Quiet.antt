@@ -1,5 +1,5 @@
 -- Where there are no data, none are bad.
-use Rattle.std.proofs.Common.{◌≡◌, ℕ, zero, suc, ◌+◌, List, [], ◌∷◌, Option, Some, None, refl, ap, ◌∙◌}
+use Rattle.std.proofs.Common.{◌≡◌, ℕ, zero, suc, ◌+◌, List, [], ◌∷◌, None, refl, ap, ◌∙◌}
 use Rattle.gql_resolvers.specs.Resolved.{Meanings, no_answer, answer_then, answered}
 use Rattle.gql_resolvers.specs.Spot.{Spot, item_spot, field_spot}
 use Rattle.gql_resolvers.specs.Trail.{Trail}

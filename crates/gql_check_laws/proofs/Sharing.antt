@@ -1,19 +1,17 @@
 -- Claims that are put into the share of their next step.
-use Rattle.std.proofs.Common.{rules, arith, ◌≡◌, ℕ, zero, suc, ◌+◌, ◌<◌, Bool, true, false, List, [], ◌∷◌, ◌++◌, length, map, Option, Some, None, slice_get, set, nat_eq, replicate, refl, sym, ap, ◌∙◌, subst, append_assoc}
+use Rattle.std.proofs.Common.{rules, arith, ◌≡◌, ℕ, zero, suc, ◌<◌, Bool, true, false, List, [], ◌∷◌, ◌++◌, length, Option, Some, None, slice_get, set, nat_eq, replicate, refl, sym, ap, ◌∙◌}
 use Rattle.std.specs.Prelude.{if◌then◌else◌, cond}
 use Rattle.std.specs.List.{find, position}
 use Rattle.std.specs.Option.{option_map_or}
 use Rattle.std.specs.Str.{bytes_eq}
-use Rattle.std.proofs.lemmas.List.{map-append, append-nil, get_or-replicate}
+use Rattle.std.proofs.lemmas.List.{map-append, append-nil}
 use Rattle.std.proofs.lemmas.List.Quantifiers.{position-Some}
 use Rattle.std.proofs.lemmas.Slice.Eq.{bytes_eq-Decides}
 use Rattle.std.proofs.Common.{get_or}
 use Rattle.gql_ast_base.specs.Names.{Named}
-use Rattle.gql_response.specs.declared.path.ResponseDataPathSegment.TheVariants.{Field, ListIndex}
-use Rattle.gql_resolvers.specs.Trail.{Segment}
-use Rattle.gql_schema_types.specs.Entries.{is_called, entry, texts}
+use Rattle.gql_schema_types.specs.Entries.{is_called, texts}
 use Rattle.gql_schema_types.proofs.Lookups.{missing, place-texts}
-use Rattle.gql_verdict.specs.Claims.{Claim, share, share_one}
+use Rattle.gql_verdict.specs.Claims.{Claim}
 use Rattle.gql_check_laws.specs.Shares.{added, claims_of, if_called, if_index, named_share, same_number, share_at}
 
 module _ {H : Type 0} where

@@ -1,33 +1,24 @@
 -- How far a list or a selection set was walked through.
-use Rattle.std.proofs.Common.{arith, ◌≡◌, ℕ, zero, suc, ◌+◌, ◌<◌, Bool, true, false, List, [], ◌∷◌, length, drop, Option, Some, None, Result, is_some, slice_get, add-one, refl, sym, ap, ◌∙◌, subst}
-use Rattle.std.specs.Prelude.{◌||◌, ◌&&◌}
-use Rattle.std.specs.Str.{bytes_eq}
+use Rattle.std.proofs.Common.{arith, ◌≡◌, ℕ, zero, suc, ◌+◌, Bool, true, false, List, [], ◌∷◌, drop, Option, Some, None, slice_get, refl, sym, ap, ◌∙◌, subst}
+use Rattle.std.specs.Prelude.{◌||◌}
 use Rattle.jb_tree.specs.declared.value.Value.{Value}
-use Rattle.jb_tree.specs.Value.{array_items, object_members, is_null}
-use Rattle.gql_collect.specs.declared.group.Group.{Group as FieldsOfKey}
 use Rattle.gql_document_types.specs.declared.selection.Selection.{Selection}
-use Rattle.gql_exec_fields.proofs.Views.{views}
 use Rattle.gql_exec_fields.specs.Executed.{IsEnough}
 use Rattle.gql_exec_fields.specs.Group.{Group}
-use Rattle.gql_exec_fields.specs.Request.{Request}
-use Rattle.gql_exec_fields.specs.RequestWorld.{plain_world}
 use Rattle.gql_resolvers.specs.Depth.{AllGroups}
 use Rattle.gql_resolvers.specs.Execute.{Member}
-use Rattle.gql_resolvers.specs.Meaning.{meanings_by}
-use Rattle.gql_resolvers.specs.Resolved.{Meaning, Meanings, no_answer, answer_then, answered}
+use Rattle.gql_resolvers.specs.Resolved.{Meaning, Meanings, no_answer, answer_then}
 use Rattle.gql_resolvers.specs.Spot.{Spot, item_spot, field_spot}
 use Rattle.gql_resolvers.specs.Trail.{Trail}
 use Rattle.gql_resolvers.specs.World.{World}
-use Rattle.gql_resolvers.specs.declared.resolve_error.FieldError.{FieldError}
-use Rattle.gql_resolvers.specs.declared.resolved_value.ResolvedValue.{ResolvedValue}
 use Rattle.gql_response.specs.declared.path.ResponseDataPathSegment.TheVariants.{Field, ListIndex}
 use Rattle.gql_schema_types.specs.declared.types.ObjectType.{ObjectType}
-use Rattle.gql_verdict.specs.Claims.{Claim, Found, both, nothing, share}
-use Rattle.gql_verdict.specs.Walk.{Below, array_for, behind, count, first, fitting, groups_found, items_found, kept_if, object_for, of_keys, of_length, outcome_found, same_keys, same_length, second, set_found, settled, unless_idle, value_found}
+use Rattle.gql_verdict.specs.Claims.{Claim, both, nothing, share}
+use Rattle.gql_verdict.specs.Walk.{behind, first, groups_found, items_found, outcome_found, second, set_found}
 use Rattle.gql_check_laws.proofs.Finding.{found-as, found-both, found-nothing}
 use Rattle.gql_check_laws.specs.Found.{FindsBelow, FindsGroups, IsFound}
 use Rattle.gql_check_laws.specs.Places.{item_found}
-use Rattle.gql_check_laws.specs.Reported.{have_keys, key_in, item_at, items_of, member_at, members_of, with_keys}
+use Rattle.gql_check_laws.specs.Reported.{item_at, member_at}
 use Rattle.gql_check_laws.specs.Walked.{IsVisiting, IsWalking, from, groups_left, items_left}
 use Rattle.gql_check_laws.specs.Findings.{Findings}
 

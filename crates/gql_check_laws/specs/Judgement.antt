@@ -10,7 +10,7 @@ use Rattle.gql_schema_types.specs.declared.types.ObjectType.{ObjectType}
 use Rattle.gql_verdict.specs.Claims.{Found}
 use Rattle.gql_verdict.specs.Tells.{AreExplained}
 use Rattle.gql_verdict.specs.Verdict.{IsBadAt, IsFirstFalse}
-use Rattle.gql_verdict.specs.Walk.{is_none, of_keys, whole_found}
+use Rattle.gql_verdict.specs.Walk.{of_keys, whole_found}
 
 -- that it is explained, or the index of the first false error, or the path of the first bad value
 pub data Judgement : Type 0 where
