@@ -23,7 +23,7 @@ pub struct Case {
 }
 
 /// What a step tells: the asks, the response or the refusal, as JSON.
-fn told(alloc: Global, round: Result<Round, AnswerError>) -> Result<Bytes, Fail> {
+fn text_of_round(alloc: Global, round: Result<Round, AnswerError>) -> Result<Bytes, Fail> {
     match round {
         Ok(Round::Asks(asks)) => Ok(asks_bytes(alloc, &asks)?),
         Ok(Round::Answer(response)) => Ok(response),
@@ -46,7 +46,7 @@ pub fn first_other(alloc: Global, service: &Service, case: &Case) -> Result<Opti
     };
     let mut answers = Answers::new(alloc);
     for round in case.rounds {
-        let asks = told(alloc, step(alloc, service, &document, &question, &answers))?;
+        let asks = text_of_round(alloc, step(alloc, service, &document, &question, &answers))?;
         if asks.as_slice() != round.asks.as_bytes() {
             return Ok(Some(asks));
         }
@@ -55,7 +55,7 @@ pub fn first_other(alloc: Global, service: &Service, case: &Case) -> Result<Opti
             return Ok(Some(text));
         }
     }
-    let last = told(alloc, step(alloc, service, &document, &question, &answers))?;
+    let last = text_of_round(alloc, step(alloc, service, &document, &question, &answers))?;
     if last.as_slice() == case.last.as_bytes() {
         Ok(None)
     } else {
