@@ -1,7 +1,9 @@
 //! A request with what each of its rounds asks, and what it is answered.
 
+ghost use Rattle.gql_engine.specs.AtHand.{IsDocumentOver};
+
 use bytes::Bytes;
-use gql_engine::{AnswerError, Question, Service};
+use gql_engine::{AnswerError, ExecutableDocument, Question, Service, Valid};
 use gql_rounds::{Answers, Round, asks_bytes, read_answers, step};
 use std::alloc::Global;
 use std::mem::ManuallyDrop;
@@ -38,15 +40,29 @@ pub fn first_other(alloc: Global, service: &Service, case: &Case) -> Result<Opti
     };
     let document = ManuallyDrop::new(prepared.into_document());
     let variables = Bytes::from_static(case.variables.as_bytes());
+    first_other_of(alloc, service, &document, case.query, &variables, case)
+}
+
+/// The same of a query that is checked.
+fn first_other_of<'q>(
+    alloc: Global,
+    service: &Service,
+    document: &Valid<ExecutableDocument>,
+    query: &'q str,
+    variables: &'q Bytes,
+    case: &Case,
+) -> Result<Option<Bytes>, Fail>
+    requires { IsDocumentOver service.now query.now document.now }
+{
     let question = Question {
-        query: case.query,
+        query,
         operation_name: None,
-        variables: &variables,
+        variables,
         introspection: case.introspection,
     };
     let mut answers = Answers::new(alloc);
     for round in case.rounds {
-        let asks = text_of_round(alloc, step(alloc, service, &document, &question, &answers))?;
+        let asks = text_of_round(alloc, step(alloc, service, document, &question, &answers))?;
         if asks.as_slice() != round.asks.as_bytes() {
             return Ok(Some(asks));
         }
@@ -55,7 +71,7 @@ pub fn first_other(alloc: Global, service: &Service, case: &Case) -> Result<Opti
             return Ok(Some(text));
         }
     }
-    let last = text_of_round(alloc, step(alloc, service, &document, &question, &answers))?;
+    let last = text_of_round(alloc, step(alloc, service, document, &question, &answers))?;
     if last.as_slice() == case.last.as_bytes() {
         Ok(None)
     } else {
