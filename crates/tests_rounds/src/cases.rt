@@ -10,18 +10,18 @@ use std::mem::ManuallyDrop;
 use std::test::Fail;
 
 /// What a round asks, and what it is answered.
-pub struct Told {
-    pub asks: &'static str,
-    pub answers: &'static str,
+pub(crate) struct Told {
+    pub(crate) asks: &'static str,
+    pub(crate) answers: &'static str,
 }
 
 /// A request, its rounds, and what is told last: the response or the refusal.
-pub struct Case {
-    pub query: &'static str,
-    pub variables: &'static str,
-    pub introspection: bool,
-    pub rounds: &'static [Told],
-    pub last: &'static str,
+pub(crate) struct Case {
+    pub(crate) query: &'static str,
+    pub(crate) variables: &'static str,
+    pub(crate) introspection: bool,
+    pub(crate) rounds: &'static [Told],
+    pub(crate) last: &'static str,
 }
 
 /// What a step tells: the asks, the response or the refusal, as JSON.
@@ -34,7 +34,11 @@ fn text_of_round(alloc: Global, round: Result<Round, AnswerError>) -> Result<Byt
 }
 
 /// The first step of a request that tells something else than its case says, as it was told; `None` where there is none.
-pub fn first_other(alloc: Global, service: &Service, case: &Case) -> Result<Option<Bytes>, Fail> {
+pub(crate) fn first_other(
+    alloc: Global,
+    service: &Service,
+    case: &Case,
+) -> Result<Option<Bytes>, Fail> {
     let Ok(prepared) = service.prepare(alloc, case.query) else {
         return Err("the query is wrong")?;
     };

@@ -1,7 +1,8 @@
 //! Tests of requests in rounds as their callers have them: what each round asks, as JSON, and the response after the last.
 //!
-//! They stand apart because a crate with tests is proved once with them and once without. Each round and each response was worked out
-//! by hand. What is parsed is held in a `ManuallyDrop` and not dropped: a test ends with its process.
+//! They stand apart because a crate with tests is proved once with them and once without. Each round and each response was looked over
+//! by hand, and most were worked out before they were run. What is parsed is held in a `ManuallyDrop` and not dropped: a test ends with
+//! its process.
 #![tactic(auto)]
 
 #[cfg(test)]
