@@ -1,5 +1,5 @@
 -- What the definitions of a document say.
-use Rattle.std.specs.Prelude.{[], map}
+use Rattle.std.specs.Prelude.{map}
 use Rattle.std.specs.Option.{option_map}
 use Rattle.gql_ast.specs.ValueText.{value_text}
 use Rattle.gql_ast.specs.declared.definition.Definition.{Definition}
@@ -23,7 +23,7 @@ use Rattle.gql_ast_laws.specs.Printed.{unplaced}
 use Rattle.gql_print_laws.specs.Literal.{literal_in}
 use Rattle.gql_sdl.specs.declared.shown.TypeKind.TheVariants.{Scalar, Object, Interface, Union, Enum, InputObject}
 use Rattle.gql_sdl_laws.specs.Plain as plain
-use Rattle.gql_sdl_laws.specs.Plain.{Text, Use, Input, Field, EnumValue, NamedType, Roots, Plain}
+use Rattle.gql_sdl_laws.specs.Plain.{Text, Use, Input, Field, EnumValue, NamedType, bare_type, Roots, Plain}
 
 abbrev pub name_text : Named → Text
 name_text name = name.text
@@ -56,82 +56,28 @@ abbrev pub enum_value_says : EnumValueDefinition → EnumValue
 enum_value_says it = record { description = it.description; name = it.value.text; uses = map use_says it.directives }
 
 abbrev pub scalar_says : ScalarTypeDefinition → NamedType
-scalar_says it = record {
-  kind = Scalar;
-  description = it.description;
-  name = it.name.text;
-  uses = map use_says it.directives;
-  interfaces = [];
-  fields = [];
-  members = [];
-  values = [];
-  inputs = [];
-}
+scalar_says it = bare_type Scalar it.description it.name.text (map use_says it.directives)
 
 abbrev pub object_says : ObjectTypeDefinition → NamedType
-object_says it = record {
-  kind = Object;
-  description = it.description;
-  name = it.name.text;
-  uses = map use_says it.directives;
+object_says it = record (bare_type Object it.description it.name.text (map use_says it.directives)) {
   interfaces = map name_text it.implements_interfaces;
   fields = map field_says it.fields;
-  members = [];
-  values = [];
-  inputs = [];
 }
 
 abbrev pub interface_says : InterfaceTypeDefinition → NamedType
-interface_says it = record {
-  kind = Interface;
-  description = it.description;
-  name = it.name.text;
-  uses = map use_says it.directives;
+interface_says it = record (bare_type Interface it.description it.name.text (map use_says it.directives)) {
   interfaces = map name_text it.implements_interfaces;
   fields = map field_says it.fields;
-  members = [];
-  values = [];
-  inputs = [];
 }
 
 abbrev pub union_says : UnionTypeDefinition → NamedType
-union_says it = record {
-  kind = Union;
-  description = it.description;
-  name = it.name.text;
-  uses = map use_says it.directives;
-  interfaces = [];
-  fields = [];
-  members = map name_text it.members;
-  values = [];
-  inputs = [];
-}
+union_says it = record (bare_type Union it.description it.name.text (map use_says it.directives)) { members = map name_text it.members }
 
 abbrev pub enum_says : EnumTypeDefinition → NamedType
-enum_says it = record {
-  kind = Enum;
-  description = it.description;
-  name = it.name.text;
-  uses = map use_says it.directives;
-  interfaces = [];
-  fields = [];
-  members = [];
-  values = map enum_value_says it.values;
-  inputs = [];
-}
+enum_says it = record (bare_type Enum it.description it.name.text (map use_says it.directives)) { values = map enum_value_says it.values }
 
 abbrev pub input_object_says : InputObjectTypeDefinition → NamedType
-input_object_says it = record {
-  kind = InputObject;
-  description = it.description;
-  name = it.name.text;
-  uses = map use_says it.directives;
-  interfaces = [];
-  fields = [];
-  members = [];
-  values = [];
-  inputs = map input_says it.fields;
-}
+input_object_says it = record (bare_type InputObject it.description it.name.text (map use_says it.directives)) { inputs = map input_says it.fields }
 
 abbrev pub directive_says : DirectiveDefinition → plain.Directive
 directive_says it = record {

@@ -1,5 +1,5 @@
 -- What definitions say, the places aside that they were read from: section 3 of GraphQL October 2021.
-use Rattle.std.specs.Prelude.{ℕ, Bool, List, Option}
+use Rattle.std.specs.Prelude.{ℕ, Bool, List, [], Option}
 use Rattle.gql_ast_base.specs.declared.operation_type.OperationType.{OperationType}
 use Rattle.gql_ast_base.specs.declared.type_ref.TypeRef.{TypeRef}
 use Rattle.gql_ast_definitions.specs.declared.schema_definition.DirectiveLocation.{DirectiveLocation}
@@ -49,6 +49,20 @@ pub record NamedType : Type 0 where
   pub members : List Text
   pub values : List EnumValue
   pub inputs : List Input
+
+-- a type of the kind without any of the parts that only some kinds have
+abbrev pub bare_type : TypeKind → Option Text → Text → List Use → NamedType
+bare_type kind description name uses = record {
+  kind = kind;
+  description = description;
+  name = name;
+  uses = uses;
+  interfaces = [];
+  fields = [];
+  members = [];
+  values = [];
+  inputs = [];
+}
 
 pub record Directive : Type 0 where
   pub description : Option Text

@@ -19,7 +19,7 @@ use Rattle.gql_sdl.specs.declared.shown.ShownType.{ShownType}
 use Rattle.gql_sdl.specs.declared.shown.TypeKind.{TypeKind}
 use Rattle.gql_sdl.specs.declared.shown.TypeKind.TheVariants.{Scalar, Object, Interface, Union, Enum, InputObject}
 use Rattle.gql_sdl_laws.specs.Plain as plain
-use Rattle.gql_sdl_laws.specs.Plain.{Text, Use, Input, Field, EnumValue, NamedType, Directive, Roots, Plain}
+use Rattle.gql_sdl_laws.specs.Plain.{Text, Use, Input, Field, EnumValue, NamedType, bare_type, Directive, Roots, Plain}
 
 abbrev pub reason_value : Option Text → Literal
 reason_value None = null
@@ -65,17 +65,7 @@ enum_value_told it = record { description = it.description; name = it.name.text;
 
 -- a type of the kind, with the parts that are not empty
 abbrev pub type_of : TypeKind → ShownType → NamedType
-type_of kind it = record {
-  kind = kind;
-  description = it.description;
-  name = it.name.text;
-  uses = [];
-  interfaces = [];
-  fields = [];
-  members = [];
-  values = [];
-  inputs = [];
-}
+type_of kind it = bare_type kind it.description it.name.text []
 
 abbrev pub type_told : TypeKind → ShownType → NamedType
 type_told Scalar it = record (type_of Scalar it) { uses = url_uses it.specified_by_url }
