@@ -1,0 +1,4 @@
+mod Judging
+mod Leaves
+mod Returning
+mod Verdicts

@@ -1,1 +1,4 @@
-pub mod Reads
+pub mod Views
+pub mod Finds
+pub mod Shares
+pub mod Verdict

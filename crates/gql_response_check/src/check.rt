@@ -1,10 +1,14 @@
 //! The verdict on a response.
 
-ghost use Rattle.std.specs.Prelude.{◌≡◌, ◌<◌, is_some, true, IfOk};
+ghost use Rattle.std.specs.Prelude.{◌≡◌, ◌<◌, is_some, true, IfOk, Ok};
 ghost use Rattle.gql_document_types.specs.Spreads.{AreAcyclic};
+ghost use Rattle.gql_exec_fields.specs.Executing.{request_by};
 ghost use Rattle.gql_response.specs.Reading.{response_read};
 ghost use Rattle.gql_schema_types.specs.Schemas.{object_of};
-ghost use Rattle.gql_response_check.specs.Reads.{IsJudgement, IsOfRead};
+ghost use Rattle.gql_verdict.specs.Claims.{first_missing};
+ghost use Rattle.gql_verdict.specs.Walk.{is_none};
+ghost use Rattle.gql_check_laws.specs.Judgement.{judgement_by};
+ghost use Rattle.gql_response_check.specs.Verdict.{IsVerdictBy, IsVerdictOn, IsVerdictOver, verdict_of};
 
 use crate::claim::claims;
 use crate::findings::Findings;
@@ -46,7 +50,8 @@ pub fn check_response<O: ObjectValue>(
 ) -> Result<Verdict, Memory>
     requires acyclic { AreAcyclic document.now.fragments }
     requires root { is_some (object_of schema.now operation.now.selection_set.ty.text) ≡ true }
-    ensures { IfOk result (IsOfRead (response_read response.now)) }
+    ensures verdict { IfOk result (IsVerdictBy introspection schema.now document.now operation.now variables.now O.type_of O.resolves (O.seen root.now)
+        (response_read response.now)) }
 {
     let response = match ExecutionResponse::from_bytes(alloc, response) {
         Ok(response) => response,
@@ -88,7 +93,8 @@ impl<'a> Request<'a> {
     ) -> Result<Verdict, Memory>
         requires acyclic { AreAcyclic self.now.document.now.fragments }
         requires root { is_some (object_of self.now.schema.now self.now.operation.now.selection_set.ty.text) ≡ true }
-        ensures { IfOk result IsJudgement }
+        ensures { IfOk result (IsVerdictOver self.now.introspection self.now.schema.now self.now.document.now self.now.operation.now self.now.variables.now
+            O.type_of O.resolves (O.seen root.now) (Ok response.now)) }
     {
         self.check_alone::<O, Brand>(alloc, root, response, Blank::new(1))
     }
@@ -106,7 +112,8 @@ impl<'a> Request<'a> {
         requires name { blank.name ≡ L.name }
         requires parts { blank.parts ≡ L.parts }
         requires some { 0 < blank.parts }
-        ensures { IfOk result IsJudgement }
+        ensures { IfOk result (IsVerdictOver self.now.introspection self.now.schema.now self.now.document.now self.now.operation.now self.now.variables.now
+            O.type_of O.resolves (O.seen root.now) (Ok response.now)) }
     {
         let mut steps = Steps::<L>::open(blank);
         let name = self.operation.object_type().as_str();
@@ -126,7 +133,8 @@ impl<'a> Request<'a> {
         steps: &mut Steps<L>,
     ) -> Result<Verdict, Memory>
         requires acyclic { AreAcyclic self.now.document.now.fragments }
-        ensures { IfOk result IsJudgement }
+        ensures { IfOk result (IsVerdictOn (request_by self.now.introspection self.now.schema.now self.now.document.now self.now.variables.now O.type_of O.resolves)
+            object_type.now (O.seen root.now) self.now.operation.now.selection_set.selections response.now) }
     {
         let implementers_map = self.schema.as_ref().implementers_map(alloc)?;
         self.run(
@@ -152,7 +160,8 @@ impl<'a> Request<'a> {
         steps: &mut Steps<L>,
     ) -> Result<Verdict, Memory>
         requires acyclic { AreAcyclic self.now.document.now.fragments }
-        ensures { IfOk result IsJudgement }
+        ensures { IfOk result (IsVerdictOn (request_by self.now.introspection self.now.schema.now self.now.document.now self.now.variables.now O.type_of O.resolves)
+            object_type.now (O.seen root.now) operation.now.selection_set.selections response.now) }
     {
         graph_laws::acyclic_graphs_have_ranks();
         let executing = Executing {
@@ -196,7 +205,7 @@ fn verdict(
     passes: bool,
     findings: Findings,
 ) -> Verdict
-    ensures { IsJudgement result }
+    ensures { result ≡ verdict_of (judgement_by (is_none response.now.root) given passes (first_missing findings.told) findings.bad) }
 {
     if let Some(index) = findings.first_untold() {
         return Verdict::FalseError { index };

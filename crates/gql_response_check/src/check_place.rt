@@ -1,6 +1,13 @@
 //! What is found at one place.
 
-ghost use Rattle.gql_exec_fields.specs.Trails.{IsNamed};
+ghost use Rattle.std.specs.Prelude.{◌≡◌, ◌&&◌, IfOk, OnOk};
+ghost use Rattle.gql_resolvers.specs.Fault.{told_at};
+ghost use Rattle.gql_resolvers.specs.Resolved.{fails_with, gives_leaf, gives_skip};
+ghost use Rattle.gql_resolvers.specs.Seen.{seen};
+ghost use Rattle.gql_exec_fields.specs.Asks.{fault_of};
+ghost use Rattle.gql_exec_fields.specs.Trails.{IsNamed, spot_of};
+ghost use Rattle.gql_response_check.specs.Finds.{FindsAnswer, FindsFault, FindsOwn, NotesValue};
+ghost use Rattle.gql_response_check.specs.Views.{fault_in};
 
 use crate::error_at_place::tell_fault;
 use crate::findings::Findings;
@@ -9,14 +16,14 @@ use crate::reported::Reported;
 use crate::walk::Checking;
 use gql_coerce::ArgumentFault;
 use gql_exec_fields::Place;
-use gql_resolvers::{FieldError, Misfit, leaf_misfit, resolver_error};
+use gql_resolvers::{FieldError, Misfit, ObjectValue, leaf_misfit, resolver_error};
 use gql_response::RequestError;
 use jb_text::Memory;
 use jb_tree::Value;
 
 impl<'s> Checking<'s> {
     /// Looks at a leaf at a place.
-    pub(crate) fn check_leaf(
+    pub(crate) fn check_leaf<O: ObjectValue>(
         &self,
         place: &Place<'_, '_>,
         leaf: &Value,
@@ -24,6 +31,8 @@ impl<'s> Checking<'s> {
         findings: &mut Findings,
     ) -> Result<bool, Memory>
         requires { IsNamed self.now.executing.request.schema.now place.now }
+        ensures { IfOk result (FindsAnswer self.now.executing O.type_of O.resolves (spot_of place.now) (gives_leaf leaf.now)
+            reported.now findings.old findings.new) }
     {
         match leaf_misfit(self.executing.alloc, place.named, place.ty, leaf)? {
             None => self.settle_place(place, false, reported.is_leaf(leaf), reported, findings),
@@ -32,12 +41,15 @@ impl<'s> Checking<'s> {
     }
 
     /// Looks at a place that is left out: whatever value the response has there is bad.
-    pub(crate) fn check_skip(
+    pub(crate) fn check_skip<O: ObjectValue>(
         &self,
         place: &Place<'_, '_>,
         reported: &Reported<'_, '_>,
         findings: &mut Findings,
-    ) -> Result<bool, Memory> {
+    ) -> Result<bool, Memory>
+        ensures { IfOk result (FindsAnswer self.now.executing O.type_of O.resolves (spot_of place.now) gives_skip
+            reported.now findings.old findings.new) }
+    {
         self.settle_place(place, false, false, reported, findings)
     }
 
@@ -48,7 +60,10 @@ impl<'s> Checking<'s> {
         misfit: Misfit,
         reported: &Reported<'_, '_>,
         findings: &mut Findings,
-    ) -> Result<bool, Memory> {
+    ) -> Result<bool, Memory>
+        ensures { IfOk result (FindsFault self.now.executing.request.document.now.sources (spot_of place.now) (told_at place.now.group.now.first.now.name.location (seen misfit))
+            reported.now findings.old findings.new) }
+    {
         let fault = RequestError {
             message: misfit.message,
             location: place.group.first.name.location(),
@@ -58,13 +73,16 @@ impl<'s> Checking<'s> {
     }
 
     /// Looks at a place whose resolver fails.
-    pub(crate) fn check_failure(
+    pub(crate) fn check_failure<O: ObjectValue>(
         &self,
         place: &Place<'_, '_>,
         error: &FieldError,
         reported: &Reported<'_, '_>,
         findings: &mut Findings,
-    ) -> Result<bool, Memory> {
+    ) -> Result<bool, Memory>
+        ensures { IfOk result (FindsAnswer self.now.executing O.type_of O.resolves (spot_of place.now) (fails_with error.now.message)
+            reported.now findings.old findings.new) }
+    {
         let fault = RequestError {
             message: resolver_error(self.executing.alloc, error.message.as_str())?,
             location: place.group.first.name.location(),
@@ -80,7 +98,10 @@ impl<'s> Checking<'s> {
         fault: ArgumentFault,
         reported: &Reported<'_, '_>,
         findings: &mut Findings,
-    ) -> Result<bool, Memory> {
+    ) -> Result<bool, Memory>
+        ensures { IfOk result (FindsFault self.now.executing.request.document.now.sources (spot_of place.now) (fault_of fault)
+            reported.now findings.old findings.new) }
+    {
         let fault = RequestError {
             message: fault.message,
             location: fault.location,
@@ -96,7 +117,10 @@ impl<'s> Checking<'s> {
         fault: &RequestError,
         reported: &Reported<'_, '_>,
         findings: &mut Findings,
-    ) -> Result<bool, Memory> {
+    ) -> Result<bool, Memory>
+        ensures { IfOk result (FindsFault self.now.executing.request.document.now.sources (spot_of place.now) (fault_in fault.now)
+            reported.now findings.old findings.new) }
+    {
         let sources = &self.executing.document().sources;
         let comes = tell_fault(sources, fault, reported.claims, findings);
         self.settle_place(place, comes, false, reported, findings)
@@ -111,14 +135,36 @@ impl<'s> Checking<'s> {
         given: bool,
         reported: &Reported<'_, '_>,
         findings: &mut Findings,
-    ) -> Result<bool, Memory> {
+    ) -> Result<bool, Memory>
+        ensures { IfOk result (FindsOwn (spot_of place.now) comes given reported.now findings.old findings.new) }
+    {
         let strict = place.ty.is_non_null();
-        if let Some(value) = reported.value {
-            let held = comes && !strict && value.is_null();
-            if !held && !given {
-                findings.note_bad(path_to(self.executing.alloc, place)?);
-            }
-        }
-        Ok(comes && strict)
+        self.judge_value(place, both(comes, !strict), given, reported, findings)?;
+        Ok(both(comes, strict))
     }
+
+    /// Notes the value at a place as bad, unless it is as it is given or a null that is held there. `Err` only when out of memory.
+    fn judge_value(
+        &self,
+        place: &Place<'_, '_>,
+        held: bool,
+        given: bool,
+        reported: &Reported<'_, '_>,
+        findings: &mut Findings,
+    ) -> Result<(), Memory>
+        ensures { OnOk result (NotesValue (spot_of place.now) held given reported.now findings.old findings.new) }
+    {
+        if !reported.is_bad(held, given) {
+            return Ok(());
+        }
+        findings.note_bad(path_to(self.executing.alloc, place)?);
+        Ok(())
+    }
+}
+
+/// Whether both hold.
+fn both(one: bool, other: bool) -> bool
+    ensures { result ≡ (one && other) }
+{
+    one && other
 }

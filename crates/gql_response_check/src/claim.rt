@@ -1,5 +1,9 @@
 //! Listed errors on the way to their places.
 
+ghost use Rattle.std.specs.Prelude.{◌≡◌, IfOk};
+ghost use Rattle.gql_verdict.specs.Claims.{claims_from};
+ghost use Rattle.gql_response_check.specs.Views.{claims_of};
+
 use gql_response::{GraphQLError, ResponseDataPathSegment};
 use jb_text::{Listed, Memory};
 use std::alloc::Global;
@@ -16,7 +20,9 @@ pub(crate) struct Claim<'r> {
 pub(crate) fn claims<'r>(
     alloc: Global,
     errors: &'r [GraphQLError],
-) -> Result<Listed<Claim<'r>>, Memory> {
+) -> Result<Listed<Claim<'r>>, Memory>
+    ensures { IfOk result (λ claims. claims_of claims ≡ claims_from 0 errors.now) }
+{
     let mut claims = Listed::with_capacity(alloc, errors.len())?;
     for number in 0..errors.len() {
         let error = &errors[number];

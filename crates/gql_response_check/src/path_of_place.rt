@@ -1,5 +1,10 @@
 //! The path of a place, as a response tells it.
 
+ghost use Rattle.std.specs.Prelude.{◌≡◌, IfOk};
+ghost use Rattle.gql_resolvers.specs.Spot.{trail};
+ghost use Rattle.gql_resolvers.specs.Trail.{path_of};
+ghost use Rattle.gql_exec_fields.specs.Trails.{segment_of, spot_of, trail_of};
+
 use gql_ast_base::Copying;
 use gql_exec_fields::{Path, Place, Step};
 use gql_response::ResponseDataPathSegment;
@@ -10,13 +15,17 @@ use std::alloc::Global;
 pub(crate) fn path_to(
     alloc: Global,
     place: &Place<'_, '_>,
-) -> Result<Listed<ResponseDataPathSegment>, Memory> {
+) -> Result<Listed<ResponseDataPathSegment>, Memory>
+    ensures { IfOk result (λ path. path ≡ path_of (trail (spot_of place.now))) }
+{
     let mut path = steps_of(alloc, place.around)?;
     path.push(segment(alloc, &place.step)?)?;
     Ok(path)
 }
 
-fn steps_of(alloc: Global, path: &Path<'_>) -> Result<Listed<ResponseDataPathSegment>, Memory> {
+fn steps_of(alloc: Global, path: &Path<'_>) -> Result<Listed<ResponseDataPathSegment>, Memory>
+    ensures { IfOk result (λ steps. steps ≡ path_of (trail_of path.now)) }
+{
     match path {
         Path::Root => Ok(Listed::new(alloc)),
         Path::Below(around, step, _) => {
@@ -27,7 +36,9 @@ fn steps_of(alloc: Global, path: &Path<'_>) -> Result<Listed<ResponseDataPathSeg
     }
 }
 
-fn segment(alloc: Global, step: &Step<'_>) -> Result<ResponseDataPathSegment, Memory> {
+fn segment(alloc: Global, step: &Step<'_>) -> Result<ResponseDataPathSegment, Memory>
+    ensures { IfOk result (λ segment. segment ≡ segment_of step.now) }
+{
     match step {
         Step::Key(name) => Ok(ResponseDataPathSegment::Field(name.copy(alloc)?)),
         Step::Item(index) => Ok(ResponseDataPathSegment::ListIndex(*index)),

@@ -1,5 +1,12 @@
 //! Claims shared out by their next step.
 
+ghost use Rattle.std.specs.Prelude.{◌≡◌, ◌<◌, ℕ, List, [], ◌++◌, length, replicate, IfOk, OnOk};
+ghost use Rattle.gql_check_laws.specs.Shares.{added};
+ghost use Rattle.gql_response.specs.declared.path.ResponseDataPathSegment.TheVariants.{ListIndex};
+ghost use Rattle.gql_verdict.specs.Claims.{share_one};
+ghost use Rattle.gql_response_check.specs.Shares as spec;
+ghost use Rattle.gql_response_check.specs.Views.{claim_of, claims_of};
+
 use crate::claim::Claim;
 use gql_ast_base::Name;
 use gql_response::ResponseDataPathSegment;
@@ -41,7 +48,9 @@ impl Drop for KeyShares<'_> {
 
 impl<'r> KeyShares<'r> {
     /// The shares of these claims. `Err` only when out of memory.
-    pub(crate) fn new(alloc: Global, claims: &[Claim<'r>]) -> Result<KeyShares<'r>, Memory> {
+    pub(crate) fn new(alloc: Global, claims: &[Claim<'r>]) -> Result<KeyShares<'r>, Memory>
+        ensures { IfOk result (λ shares. spec.AreKeyShares shares (claims_of claims.now)) }
+    {
         let mut shares = KeyShares {
             names: Table::new(alloc),
             shares: Listed::new(alloc),
@@ -56,7 +65,10 @@ impl<'r> KeyShares<'r> {
     }
 
     /// Those that go on by the key.
-    pub(crate) fn of(&self, key: &Name) -> &[Claim<'r>] {
+    pub(crate) fn of(&self, key: &Name) -> &[Claim<'r>]
+        requires { spec.AreEven self.now }
+        ensures { claims_of result.now ≡ spec.key_share self.now key.now.text }
+    {
         let Some(number) = self.names.find(key.as_str()) else {
             return self.none.as_slice();
         };
@@ -64,15 +76,19 @@ impl<'r> KeyShares<'r> {
     }
 
     /// Puts a claim into the share of the name, or begins one.
-    fn put(&mut self, alloc: Global, name: &'r Name, claim: Claim<'r>) -> Result<(), Memory> {
+    fn put(&mut self, alloc: Global, name: &'r Name, claim: Claim<'r>) -> Result<(), Memory>
+        requires { spec.AreEven self.old }
+        ensures even { OnOk result (spec.AreEven self.new) }
+        ensures put { OnOk result ((key : List ℕ) → spec.key_share self.new key ≡ spec.key_share self.old key ++ spec.if_called name.now.text claim.entry key) }
+    {
         match self.names.find(name.as_str()) {
             Some(number) => add(&mut self.shares, number, claim),
             None => {
                 let mut share = Listed::new(alloc);
                 share.push(claim)?;
                 self.shares.push(share)?;
-                match self.names.insert(StepName { name }) {
-                    Ok(_) => Ok(()),
+                match self.names.insert_new(StepName { name }) {
+                    Ok(()) => Ok(()),
                     Err(_) => Err(AllocError),
                 }
             }
@@ -99,7 +115,9 @@ impl<'r> IndexShares<'r> {
         alloc: Global,
         claims: &[Claim<'r>],
         count: usize,
-    ) -> Result<IndexShares<'r>, Memory> {
+    ) -> Result<IndexShares<'r>, Memory>
+        ensures { IfOk result (spec.AreIndexShares count (claims_of claims.now)) }
+    {
         if claims.is_empty() {
             return Ok(IndexShares {
                 shares: Listed::new(alloc),
@@ -108,12 +126,7 @@ impl<'r> IndexShares<'r> {
         }
         let mut shares = no_shares(alloc, count)?;
         for claim in claims {
-            if let Some((ResponseDataPathSegment::ListIndex(index), rest)) = claim
-                .rest
-                .split_first()
-            {
-                add(&mut shares, *index, Claim { rest, ..*claim })?;
-            }
+            share_by_index(&mut shares, claim)?;
         }
         Ok(IndexShares {
             shares,
@@ -122,13 +135,35 @@ impl<'r> IndexShares<'r> {
     }
 
     /// Those that go on by the index.
-    pub(crate) fn of(&self, index: usize) -> &[Claim<'r>] {
+    pub(crate) fn of(&self, index: usize) -> &[Claim<'r>]
+        requires { self.now.none ≡ [] }
+        ensures { claims_of result.now ≡ spec.share_at self.now.shares index }
+    {
         at(&self.shares, index, &self.none)
     }
 }
 
+/// Puts a claim into the share of its next step, where that is an index of a share. `Err` only when out of memory.
+fn share_by_index<'r>(
+    shares: &mut Listed<Listed<Claim<'r>>>,
+    claim: &Claim<'r>,
+) -> Result<(), Memory>
+    ensures length { OnOk result (length shares.new ≡ length shares.old) }
+    ensures shared { OnOk result ((index : ℕ) → index < length shares.old → spec.share_at shares.new index
+        ≡ spec.share_at shares.old index ++ share_one (ListIndex index) (claim_of claim.now) claim.now.rest.now) }
+{
+    match claim.rest.split_first() {
+        Some((ResponseDataPathSegment::ListIndex(index), rest)) => {
+            add(shares, *index, Claim { rest, ..*claim })
+        }
+        Some((ResponseDataPathSegment::Field(_), _)) | None => Ok(()),
+    }
+}
+
 /// So many shares with no claims. `Err` only when out of memory.
-fn no_shares<'r>(alloc: Global, count: usize) -> Result<Listed<Listed<Claim<'r>>>, Memory> {
+fn no_shares<'r>(alloc: Global, count: usize) -> Result<Listed<Listed<Claim<'r>>>, Memory>
+    ensures { IfOk result (λ shares. shares ≡ replicate count []) }
+{
     let mut shares = Listed::with_capacity(alloc, count)?;
     for _number in 0..count {
         shares.push(Listed::new(alloc))?;
@@ -141,7 +176,10 @@ fn at<'p, 'r>(
     shares: &'p Listed<Listed<Claim<'r>>>,
     number: usize,
     none: &'p Listed<Claim<'r>>,
-) -> &'p [Claim<'r>] {
+) -> &'p [Claim<'r>]
+    requires { none.now ≡ [] }
+    ensures { claims_of result.now ≡ spec.share_at shares.now number }
+{
     let Some(share) = shares.get(number) else {
         return none.as_slice();
     };
@@ -153,7 +191,9 @@ fn add<'r>(
     shares: &mut Listed<Listed<Claim<'r>>>,
     number: usize,
     claim: Claim<'r>,
-) -> Result<(), Memory> {
+) -> Result<(), Memory>
+    ensures { OnOk result (shares.new ≡ added shares.old number claim.entry) }
+{
     match shares.get_mut(number) {
         Some(share) => share.push(claim),
         None => Ok(()),

@@ -1,17 +1,22 @@
 //! The walk along data and along the paths of listed errors, beside the cycle of execution: ExecuteSelectionSet, ExecuteField and
 //! CompleteValue (GraphQL October 2021, sections 6.3 and 6.4).
 
-ghost use Rattle.std.specs.Prelude.{◌≡◌, ℕ, List, is_some, true, OnOk};
+ghost use Rattle.std.specs.Prelude.{◌≡◌, ℕ, List, is_some, true, IfOk, OnOk};
+ghost use Rattle.std.specs.Option.{option_copied};
 ghost use Rattle.gql_document_types.specs.Ranks.{AreRanked};
 ghost use Rattle.gql_document_types.specs.declared.selection.Selection.{Selection};
 ghost use Rattle.gql_resolvers.specs.Lists.{is_list};
-ghost use Rattle.gql_collect.specs.Plan.{AreNodes, ArePartsOf, HaveNodes, IsPlanned, IsTyped, fields_in, sets_below};
+ghost use Rattle.gql_resolvers.specs.Meaning.{item_by, meaning_by, meanings_by};
+ghost use Rattle.gql_resolvers.specs.Resolved.{gives_list, gives_object};
+ghost use Rattle.gql_collect.specs.Plan.{AreNodes, ArePartsOf, HaveNodes, IsPlanned, IsTyped, fields_in, groups_in, sets_below};
 ghost use Rattle.gql_exec_fields.specs.Planning.{ground_in};
-ghost use Rattle.gql_exec_fields.specs.Trails.{IsNamed};
+ghost use Rattle.gql_exec_fields.specs.Trails.{IsNamed, group_of, spot_of, trail_of};
 ghost use Rattle.gql_schema_types.specs.Schemas.{field_of};
+ghost use Rattle.gql_response_check.specs.Finds.{FindsAnswer, FindsField, FindsItem, FindsItems, FindsMembers, FindsParts};
+ghost use Rattle.gql_response_check.specs.Views.{claims_of};
 
 use crate::claim::Claim;
-use crate::findings::Findings;
+use crate::findings::{Findings, either};
 use crate::reported::{Reported, item_at, member_at};
 use crate::shares::{IndexShares, KeyShares};
 use gql_collect::{Node, Part, PlannedField, Steps};
@@ -46,6 +51,8 @@ impl<'s> Checking<'s> {
     ) -> Result<bool, Memory>
         requires ranked { (rank : ℕ → ℕ) × AreRanked self.now.executing.request.document.now.fragments rank }
         requires planned { (sets : List (List Selection)) × ArePartsOf (ground_in self.now.executing) object_type.now sets parts.old }
+        ensures found { IfOk result (FindsParts self.now.executing O.type_of O.resolves object_type.now (O.seen object.now) (trail_of path.now)
+            (groups_in parts.old) (option_copied members.entry) (claims_of claims.now) findings.old findings.new) }
         ensures same { OnOk result (fields_in parts.new ≡ fields_in parts.old) }
         ensures planned { OnOk result (HaveNodes (ground_in self.now.executing) parts.new) }
     {
@@ -70,7 +77,7 @@ impl<'s> Checking<'s> {
                 findings,
                 steps,
             )?;
-            passes |= comes;
+            passes = either(passes, comes);
         }
         Ok(passes)
     }
@@ -92,6 +99,8 @@ impl<'s> Checking<'s> {
         requires planned { AreNodes (ground_in self.now.executing) (sets_below field.now.group) nodes.old }
         requires asked { IsPlanned (ground_in self.now.executing) object_type.now field.now }
         requires defined { is_some (field_of self.now.executing.request.schema.now object_type.now.name.text field.now.group.first.now.name.text) ≡ true }
+        ensures found { IfOk result (FindsField self.now.executing O.type_of O.resolves object_type.now (O.seen object.now) (trail_of path.now)
+            (group_of field.now.group) reported.now findings.old findings.new) }
         ensures planned { OnOk result (AreNodes (ground_in self.now.executing) (sets_below field.now.group) nodes.new) }
     {
         if reported.is_idle() {
@@ -109,7 +118,7 @@ impl<'s> Checking<'s> {
             Asked::Gave(resolved) => {
                 self.check_value(&place, resolved, nodes, reported, findings, steps)
             }
-            Asked::Failed(error) => self.check_failure(&place, &error, reported, findings),
+            Asked::Failed(error) => self.check_failure::<O>(&place, &error, reported, findings),
             Asked::Refused(fault) => self.check_argument(&place, fault, reported, findings),
         }
     }
@@ -128,17 +137,21 @@ impl<'s> Checking<'s> {
         requires ranked { (rank : ℕ → ℕ) × AreRanked self.now.executing.request.document.now.fragments rank }
         requires planned { AreNodes (ground_in self.now.executing) (sets_below place.now.group.now) nodes.old }
         requires named { IsNamed self.now.executing.request.schema.now place.now }
+        ensures found { IfOk result (FindsAnswer self.now.executing O.type_of O.resolves (spot_of place.now) (meaning_by O.seen resolved)
+            reported.now findings.old findings.new) }
         ensures planned { OnOk result (AreNodes (ground_in self.now.executing) (sets_below place.now.group.now) nodes.new) }
     {
         match resolved {
-            ResolvedValue::Leaf(value) => self.check_leaf(place, &value, reported, findings),
+            ResolvedValue::Leaf(value) => self.check_leaf::<O>(place, &value, reported, findings),
             ResolvedValue::Object(object) => {
                 self.check_object(place, &object, nodes, reported, findings, steps)
             }
             ResolvedValue::List(items) => {
                 self.check_list(place, items, nodes, reported, findings, steps)
             }
-            ResolvedValue::SkipForPartialExecution => { self.check_skip(place, reported, findings) }
+            ResolvedValue::SkipForPartialExecution => {
+                self.check_skip::<O>(place, reported, findings)
+            }
         }
     }
 
@@ -156,6 +169,8 @@ impl<'s> Checking<'s> {
         requires ranked { (rank : ℕ → ℕ) × AreRanked self.now.executing.request.document.now.fragments rank }
         requires planned { AreNodes (ground_in self.now.executing) (sets_below place.now.group.now) nodes.old }
         requires named { IsNamed self.now.executing.request.schema.now place.now }
+        ensures found { IfOk result (FindsAnswer self.now.executing O.type_of O.resolves (spot_of place.now) (gives_object (O.seen object.now))
+            reported.now findings.old findings.new) }
         ensures planned { OnOk result (AreNodes (ground_in self.now.executing) (sets_below place.now.group.now) nodes.new) }
     {
         match fitting_object(
@@ -194,6 +209,8 @@ impl<'s> Checking<'s> {
         requires ranked { (rank : ℕ → ℕ) × AreRanked self.now.executing.request.document.now.fragments rank }
         requires planned { AreNodes (ground_in self.now.executing) (sets_below place.now.group.now) nodes.old }
         requires typed { IsTyped self.now.executing.request.schema.now object_type.now }
+        ensures found { IfOk result (FindsMembers self.now.executing O.type_of O.resolves (spot_of place.now) object_type.now (O.seen object.now)
+            reported.now findings.old findings.new) }
         ensures planned { OnOk result (AreNodes (ground_in self.now.executing) (sets_below place.now.group.now) nodes.new) }
     {
         let number = self
@@ -233,6 +250,8 @@ impl<'s> Checking<'s> {
         requires ranked { (rank : ℕ → ℕ) × AreRanked self.now.executing.request.document.now.fragments rank }
         requires planned { AreNodes (ground_in self.now.executing) (sets_below place.now.group.now) nodes.old }
         requires named { IsNamed self.now.executing.request.schema.now place.now }
+        ensures found { IfOk result (FindsAnswer self.now.executing O.type_of O.resolves (spot_of place.now) (gives_list (meanings_by O.seen items))
+            reported.now findings.old findings.new) }
         ensures planned { OnOk result (AreNodes (ground_in self.now.executing) (sets_below place.now.group.now) nodes.new) }
     {
         match list_misfit(self.executing.alloc, place.ty)? {
@@ -270,6 +289,8 @@ impl<'s> Checking<'s> {
         requires planned { AreNodes (ground_in self.now.executing) (sets_below place.now.group.now) nodes.old }
         requires named { IsNamed self.now.executing.request.schema.now place.now }
         requires list { is_list place.now.ty.now ≡ true }
+        ensures found { IfOk result (FindsItems self.now.executing O.type_of O.resolves (spot_of place.now) (meanings_by O.seen items) (option_copied values.entry) (claims_of claims.now)
+            findings.old findings.new) }
         ensures planned { OnOk result (AreNodes (ground_in self.now.executing) (sets_below place.now.group.now) nodes.new) }
     {
         let count = items.len();
@@ -282,7 +303,7 @@ impl<'s> Checking<'s> {
                 claims: shares.of(index),
             };
             let comes = self.check_item(place, index, item, nodes, &reported, findings, steps)?;
-            passes |= comes;
+            passes = either(passes, comes);
             prove!(index < count);
             index += 1;
         }
@@ -305,6 +326,8 @@ impl<'s> Checking<'s> {
         requires planned { AreNodes (ground_in self.now.executing) (sets_below list.now.group.now) nodes.old }
         requires named { IsNamed self.now.executing.request.schema.now list.now }
         requires list { is_list list.now.ty.now ≡ true }
+        ensures found { IfOk result (FindsItem self.now.executing O.type_of O.resolves (spot_of list.now) index (item_by O.seen item)
+            reported.now findings.old findings.new) }
         ensures planned { OnOk result (AreNodes (ground_in self.now.executing) (sets_below list.now.group.now) nodes.new) }
     {
         if reported.is_idle() {
@@ -320,7 +343,7 @@ impl<'s> Checking<'s> {
         };
         match item {
             Ok(resolved) => self.check_value(&place, resolved, nodes, reported, findings, steps),
-            Err(error) => self.check_failure(&place, &error, reported, findings),
+            Err(error) => self.check_failure::<O>(&place, &error, reported, findings),
         }
     }
 }

@@ -1,10 +1,16 @@
-use Rattle.std.proofs.Common.{◌≡◌, ◌+◌, ◌*◌, length}
+use Rattle.std.proofs.Common.{◌≡◌, ◌+◌, ◌*◌, drop, length}
+use Rattle.std.specs.Option.{option_copied}
 use Rattle.gql_collect.specs.Plan.{AreNodes, HaveNodes, fields_in, groups_in, sets_below}
+use Rattle.gql_resolvers.specs.Meaning.{meanings_by}
 use Rattle.gql_resolvers.proofs.Height.{height}
 use Rattle.gql_exec_fields.specs.Planning.{ground_in}
-use Rattle.gql_exec_fields.specs.Trails.{group_of}
+use Rattle.gql_exec_fields.specs.Executing.{world_of}
+use Rattle.gql_exec_fields.specs.Trails.{group_of, spot_of, trail_of}
 use Rattle.gql_exec_fields.proofs.Heights.{top}
 use Rattle.gql_exec_fields.proofs.Measures.{schema_in, fragments_in, room, measure, deepest}
+use Rattle.gql_exec_fields.proofs.Views.{views}
+use Rattle.gql_check_laws.specs.Walked.{IsVisiting, IsWalking}
+use Rattle.gql_response_check.specs.Views.{claims_of, findings_of}
 use Rattle.gql_response_check.proofs.walk.Checking.+check.Given as goal
 
 abbrev pub decreases-check_parts : goal.decreases-check_parts
@@ -36,6 +42,9 @@ invariant-check_parts-loop-number g l =
     record {
       same : fields_in l.parts ≡ fields_in l.fn.parts;
       planned : HaveNodes (ground_in l.self.executing) l.parts;
+      visiting : IsVisiting (world_of l.self.executing g.O.ObjectValue.type_of g.O.ObjectValue.resolves) l.object_type (g.O.ObjectValue.seen l.object)
+          (trail_of l.path) (option_copied l.members) (claims_of l.claims) l.passes (findings_of l.findings) (findings_of l.fn.findings) l.number
+          (views (drop l.number (groups_in l.fn.parts))) (views (groups_in l.fn.parts));
     }
 
 abbrev pub invariant-check_items-loop-item : goal.invariant-check_items-loop-item
@@ -43,4 +52,7 @@ invariant-check_items-loop-item g l =
     record {
       counted : l.index + length l.item-iterator ≡ length l.fn.items;
       planned : AreNodes (ground_in l.self.executing) (sets_below l.place.group.now) l.nodes;
+      walking : IsWalking (world_of l.self.executing g.O.ObjectValue.type_of g.O.ObjectValue.resolves) (spot_of l.place) (option_copied l.values)
+          (claims_of l.claims) l.passes (findings_of l.findings) (findings_of l.fn.findings) l.index
+          (meanings_by g.O.ObjectValue.seen l.item-iterator) (meanings_by g.O.ObjectValue.seen l.fn.items);
     }
