@@ -1,0 +1,5 @@
+mod Roots
+mod One
+mod Exact
+mod Lines
+mod Own

@@ -1,0 +1,14 @@
+use Rattle.std.proofs.Common.{ap, refl, sym, ◌∙◌}
+use Rattle.gql_request.specs.Request.{asked_in}
+use Rattle.gql_engine.specs.AtHand.{TwoTexts}
+use Rattle.gql_engine.specs.Reply.{wanted_of}
+use Rattle.gql_checker.proofs.command.check_by.Goals as goal
+
+pub check_out_of_data-requires-clause-schema : goal.check_out_of_data-requires-clause-schema
+check_out_of_data-requires-clause-schema c = ap (λ (two : TwoTexts). two.schema) c.in-Ok.ensures.made.is ∙ c.requires
+
+pub check_out_of_data-requires-clause-query : goal.check_out_of_data-requires-clause-query
+check_out_of_data-requires-clause-query c = ap (λ (two : TwoTexts). two.query) c.in-Ok.ensures.made.is
+
+pub returns-in-Err-clause-refused : goal.returns-in-Err-clause-refused
+returns-in-Err-clause-refused c = c.in-Err.ensures.refused (wanted_of (asked_in c.args.request.now)) (sym c.requires) refl

@@ -1,0 +1,4 @@
+pub mod Judged
+pub mod Told
+pub mod Command
+pub mod Program
