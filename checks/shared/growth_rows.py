@@ -19,6 +19,7 @@ class Row(NamedTuple):
     instructions: int
     memory: int
     status: int = ANSWERED
+    program: str = "gql_program"
 
 
 def numbered(form, count):
