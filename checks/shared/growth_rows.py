@@ -1,6 +1,7 @@
 """Hostile requests whose cost grows with their size: what is made of many, and by how much its cost may grow."""
 from typing import Callable, NamedTuple
 
+from shared import checked_responses as checked
 from shared import hostile_requests as requests
 from shared import hostile_texts as texts
 from shared.hostile_requests import ANSWERED, REFUSED, fields, request
@@ -183,6 +184,7 @@ def defined_twice(count):
 # Twice the size takes about twice as much, or about four times where things are looked at in pairs. Bounds are a quarter above what was
 # measured.
 LINEAR, PAIRS = 2.2, 4.8
+CHECKER = "gql_checker_program"
 ROWS = [
     Row("fields", requests.many_fields, 1_000, LINEAR, 890, 49),
     Row("items", requests.many_items, 4_000, LINEAR, 370, 45),
@@ -225,4 +227,9 @@ ROWS = [
     Row("operations-with-uses", operations_with_uses, 80, PAIRS, 7_500, 42),
     Row("long-name-told", long_name_told, 300, PAIRS, 1_700, 810, REFUSED),
     Row("long-name-given", long_name_given, 300, PAIRS, 970, 800),
+    Row("checked-items", checked.explained_items, 2_000, LINEAR, 400, 29, program=CHECKER),
+    Row("checked-item-errors", checked.failing_items, 2_000, LINEAR, 300, 24, program=CHECKER),
+    Row("checked-field-errors", checked.failing_fields, 2_000, LINEAR, 520, 28, program=CHECKER),
+    Row("checked-far-errors", checked.far_errors, 3_000, LINEAR, 280, 24, REFUSED, CHECKER),
+    Row("checked-one-place", checked.one_place, 2_000, LINEAR, 280, 24, program=CHECKER),
 ]
