@@ -15,8 +15,11 @@ out. Each value has a lock, so any thread may use it, and one thread may make it
 same time each thread takes a value of its own by ``share()``, which copies nothing.
 """
 
-from ._api import VERSION, Data, Query, Schema, answer, check
+from ._api import VERSION, Schema, answer, check
+from ._base import Data
 from ._errors import QueryRefused, Refused, RequestRefused, SchemaRefused, TooCostly
+from ._query import Query
+from ._resolvers import Resolvers, many
 
 __all__ = [
     "VERSION",
@@ -25,9 +28,11 @@ __all__ = [
     "QueryRefused",
     "Refused",
     "RequestRefused",
+    "Resolvers",
     "Schema",
     "SchemaRefused",
     "TooCostly",
     "answer",
     "check",
+    "many",
 ]

@@ -7,8 +7,9 @@ import os
 from ctypes import POINTER, c_char_p, c_size_t, c_uint32, c_void_p
 from typing import Any
 
-ANSWERED, REFUSED, NO_MEMORY, WRONG_HANDLE, UNREAD, TOO_COSTLY = 0, 1, 3, 8, 9, 10
+ANSWERED, REFUSED, NO_MEMORY, WRONG_HANDLE, UNREAD, TOO_COSTLY, ASKS = 0, 1, 3, 8, 9, 10, 11
 NAMED, INTROSPECTION = 1, 2
+MUTATION = 2
 KINDS = {1: "query", 2: "mutation", 3: "subscription"}
 
 
@@ -48,6 +49,8 @@ schema_new = _declare("gql_schema_new", c_uint32, *_TEXT, _HANDLE, _HANDLE)
 query_new = _declare("gql_query_new", c_uint32, _HANDLE, *_TEXT, _HANDLE, _HANDLE)
 data_new = _declare("gql_data_new", c_uint32, *_TEXT, _HANDLE)
 execute = _declare("gql_execute", c_uint32, _HANDLE, _HANDLE, *_TEXT, *_TEXT, c_uint32, _HANDLE)
+answers_add = _declare("gql_answers_add", c_uint32, _HANDLE, *_TEXT)
+step = _declare("gql_step", c_uint32, _HANDLE, _HANDLE, *_TEXT, *_TEXT, c_uint32, _HANDLE)
 operation_kind = _declare("gql_operation_kind", c_uint32, _HANDLE, *_TEXT, c_uint32, POINTER(c_uint32))
 operation_cost = _declare("gql_operation_cost", c_uint32, _HANDLE, *_TEXT, c_uint32, POINTER(Limit), POINTER(c_uint32), _HANDLE)
 check = _declare("gql_check", c_uint32, *_TEXT, *_TEXT, _HANDLE)

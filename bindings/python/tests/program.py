@@ -1,6 +1,6 @@
 #!/usr/bin/env python3
 """The program `gql_program` once more, over the package: `program.py answer` and `program.py check` read a request from standard input,
-write what the program writes, and end with its status."""
+write what the program writes, and end with its status. `program.py resolve` answers by resolvers, those that take what the data have."""
 
 import json
 import pathlib
@@ -8,7 +8,7 @@ import sys
 
 sys.path.insert(0, str(pathlib.Path(__file__).resolve().parent.parent))
 
-from sunwaket import QueryRefused, RequestRefused, Schema, SchemaRefused, check
+from sunwaket import Query, QueryRefused, RequestRefused, Schema, SchemaRefused, check
 
 ANSWERED, REFUSED, MISUSED, NO_MEMORY, TOO_LONG = 0, 1, 2, 3, 6
 LIMIT = 16_777_216
@@ -42,26 +42,30 @@ def read(text):
     return request
 
 
-def answer(request):
+def answer(request, call):
     query = Schema(request["schema"]).query(request["query"])
-    return query.execute(
-        request.get("data"),
+    return call(
+        query,
+        request.get("data") or {},
         operation_name=request.get("operationName"),
         variables=request.get("variables"),
         introspection=request.get("introspection") or False,
     )
 
 
+CALLS = {"answer": Query.execute, "resolve": Query.resolve}
+
+
 def run(words, text):
     """The status, and what is written."""
-    if words not in (["answer"], ["check"]):
+    if words not in (["answer"], ["check"], ["resolve"]):
         return MISUSED, USAGE
     if len(text) > LIMIT:
         return TOO_LONG, b""
     try:
         request = read(text)
-        if words == ["answer"]:
-            return ANSWERED, answer(request) + b"\n"
+        if words[0] in CALLS:
+            return ANSWERED, answer(request, CALLS[words[0]]) + b"\n"
         found = check(request["schema"], request["query"])
         return (REFUSED, found.encode("utf-8")) if found else (ANSWERED, b"ok\n")
     except NoRequest as fault:

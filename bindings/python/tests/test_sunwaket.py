@@ -8,7 +8,7 @@ import unittest
 
 import sunwaket
 from sunwaket import Data, Query, QueryRefused, Refused, RequestRefused, Schema, SchemaRefused, TooCostly, answer, check
-from sunwaket import _api
+from sunwaket import _api, _base, _errors
 
 BOOKS = "type Query { book(title: String!): Book } type Mutation { add: Int } type Book { title: String! year: Int by: [String!] }"
 QUERY = "query ($title: String!) { book(title: $title) { title year } }"
@@ -197,8 +197,9 @@ class Lives(unittest.TestCase):
 
 def load_tests(loader, tests, pattern):
     """The examples of the docstrings are tests too."""
-    for module in (sunwaket, _api):
-        tests.addTests(doctest.DocTestSuite(module))
+    known = {"Schema": Schema, "Data": Data, "Refused": Refused}
+    for module in (sunwaket, _api, _base, _errors):
+        tests.addTests(doctest.DocTestSuite(module, extraglobs=known))
     return tests
 
 

@@ -1,0 +1,172 @@
+"""Requests in rounds: all that can be asked, answered by resolvers, until there is a response."""
+
+from __future__ import annotations
+
+import json
+from typing import Any, Callable, Dict, List, Mapping, Tuple
+
+from . import _library as library
+from ._base import Value, encode, refuse
+from ._field_types import FieldType, FieldTypes
+from ._resolvers import PLAIN, Ask, Many, Resolver
+from ._told import Teller
+
+#: Whether something is asked, and the JSON of the asks or of the response.
+Step = Callable[[], Tuple[bool, bytes]]
+
+
+class Rounds:
+    """A request by resolvers. ``step`` makes a step by all that ``answers`` has.
+
+    Where it is ``serial``, as a mutation is, a field of the root is asked once nothing else is."""
+
+    def __init__(self, step: Step, answers: Value, types: FieldTypes, teller: Teller, serial: bool):
+        self._step, self._answers, self._types, self._teller, self._serial = step, answers, types, teller, serial
+        self._response = b""
+        self._last = b""
+
+    def run(self) -> bytes:
+        """The response, where no resolver gives what is to be awaited."""
+        while True:
+            groups = self._next()
+            if not groups:
+                return self._response
+            for group in groups:
+                group.start()
+                group.expect_values()
+            self._tell(groups)
+
+    async def run_async(self) -> bytes:
+        """The response, where what resolvers give in a round is awaited at once."""
+        while True:
+            groups = self._next()
+            if not groups:
+                return self._response
+            for group in groups:
+                group.start()
+            await _await_all(groups)
+            self._tell(groups)
+
+    def _next(self) -> List[_Group]:
+        """What the next round asks, field by field; nothing where there is the response."""
+        asked, told = self._step()
+        if not asked:
+            self._response = told
+            return []
+        if told == self._last:
+            raise RuntimeError("the library asks once more for what it was told")
+        self._last = told
+        return self._groups(self._due(json.loads(told)))
+
+    def _due(self, asks: List[Dict[str, Any]]) -> List[Dict[str, Any]]:
+        """Those asks that may be answered now."""
+        if not self._serial:
+            return asks
+        below = [ask for ask in asks if ask["object"] != 0]
+        if below:
+            return below
+        # What was read of an object before this field is resolved may be another value after it.
+        self._teller.forget()
+        return asks[:1]
+
+    def _groups(self, asks: List[Dict[str, Any]]) -> List[_Group]:
+        groups: Dict[Tuple[str, str], _Group] = {}
+        for ask in asks:
+            key = (ask["type"], ask["field"])
+            group = groups.get(key)
+            if group is None:
+                groups[key] = group = _Group(key, self._teller.resolvers._of(*key), self._types[key[0]][key[1]])
+            group.add(ask["object"], self._teller.objects[ask["object"]], ask["arguments"])
+        return list(groups.values())
+
+    def _tell(self, groups: List[_Group]) -> None:
+        """Adds the answers of a round."""
+        told = ",".join([answer for group in groups for answer in group.answers(self._teller)])
+        text = f"[{told}]".encode("utf-8")
+        with self._answers._lock:
+            status = library.answers_add(self._answers._at, text, len(text))
+        if status != library.ANSWERED:
+            raise refuse(status, "the library does not read these answers")
+
+
+class _Group:
+    """All that a round asks of one field, and what came of it."""
+
+    __slots__ = ("_asks", "_key", "_resolver", "_starts", "_type", "outcomes")
+
+    def __init__(self, key: Tuple[str, str], resolver: Resolver, ty: FieldType):
+        self._key, self._resolver, self._type = key, resolver, ty
+        # How the answers begin.
+        self._starts: List[str] = []
+        self._asks: List[Ask] = []
+        #: What each call of the resolver gave: a value, an exception, or what is to be awaited.
+        self.outcomes: List[Any] = []
+
+    def add(self, number: int, value: Any, arguments: Dict[str, Any]) -> None:
+        # The resolver may change its arguments, and so they are told as they were.
+        told = encode(arguments) if arguments else "{}"
+        self._starts.append(f'{{"object":{number},"field":"{self._key[1]}","arguments":{told},"value":')
+        self._asks.append((value, arguments))
+
+    def start(self) -> None:
+        """Calls the resolver."""
+        if isinstance(self._resolver, Many):
+            self.outcomes = [_called(self._resolver.function, self._asks)]
+        else:
+            self.outcomes = [_called(self._resolver, *ask) for ask in self._asks]
+
+    def expect_values(self) -> None:
+        """Raises where something is to be awaited."""
+        late = [outcome for outcome in self.outcomes if is_awaitable(outcome)]
+        if late:
+            for outcome in late:
+                getattr(outcome, "close", _nothing)()
+            raise TypeError(f"the resolver of {'.'.join(self._key)} gives what is to be awaited: use resolve_async")
+
+    def answers(self, teller: Teller) -> List[str]:
+        """The answers, once nothing is awaited."""
+        values = self._values() if isinstance(self._resolver, Many) else self.outcomes
+        return [f"{start}{teller.told(value, self._type)}}}" for start, value in zip(self._starts, values)]
+
+    def _values(self) -> List[Any]:
+        """What a resolver for many gave, one by one."""
+        given, count = self.outcomes[0], len(self._asks)
+        if isinstance(given, Exception):
+            return [given] * count
+        try:
+            values = [] if isinstance(given, (str, bytes, Mapping)) else list(given)
+        except Exception as error:
+            return [error] * count
+        if len(values) == count:
+            return values
+        return [ValueError(f"the resolver of {'.'.join(self._key)} gives {len(values)} values for {count}")] * count
+
+
+def _nothing() -> None:
+    pass
+
+
+def _called(function: Callable[..., Any], *given: Any) -> Any:
+    """What a function gives, or the exception that it raises."""
+    try:
+        return function(*given)
+    except Exception as error:
+        return error
+
+
+def is_awaitable(value: Any) -> bool:
+    return type(value) not in PLAIN and hasattr(type(value), "__await__")
+
+
+async def _await_all(groups: List[_Group]) -> None:
+    """Puts what is awaited in its place, or the exception that comes of it."""
+    import asyncio
+
+    places = [(group.outcomes, at) for group in groups for at, outcome in enumerate(group.outcomes) if is_awaitable(outcome)]
+    if not places:
+        return
+    found = await asyncio.gather(*[outcomes[at] for outcomes, at in places], return_exceptions=True)
+    for (outcomes, at), outcome in zip(places, found):
+        if isinstance(outcome, BaseException) and not isinstance(outcome, Exception):
+            raise outcome
+        outcomes[at] = outcome
