@@ -246,7 +246,7 @@ static napi_value close_value(napi_env env, napi_callback_info info) {
     return NULL;
 }
 
-/* An execution: two values, and what is asked. */
+/* An execution: two values, and what is asked. For a step the second value is the table of answers. */
 struct execution {
     struct value *query, *data;
     struct bytes name, variables;
@@ -254,11 +254,13 @@ struct execution {
     gql_handle reply;
 };
 
-static void perform(struct execution *asked) {
+typedef uint32_t call_of_execution(gql_handle *, gql_handle *, const uint8_t *, size_t, const uint8_t *, size_t, uint32_t, gql_handle *);
+
+static void perform(struct execution *asked, call_of_execution *call) {
     pthread_mutex_lock(&asked->query->lock);
     pthread_mutex_lock(&asked->data->lock);
-    asked->status = gql_execute(&asked->query->handle, &asked->data->handle, asked->name.at, asked->name.length, asked->variables.at,
-                                asked->variables.length, asked->flags, &asked->reply);
+    asked->status = call(&asked->query->handle, &asked->data->handle, asked->name.at, asked->name.length, asked->variables.at,
+                         asked->variables.length, asked->flags, &asked->reply);
     pthread_mutex_unlock(&asked->data->lock);
     pthread_mutex_unlock(&asked->query->lock);
 }
@@ -290,8 +292,55 @@ static napi_value execute(napi_env env, napi_callback_info info) {
     if (!read_execution(env, arguments, &asked)) {
         return NULL;
     }
-    perform(&asked);
+    perform(&asked, gql_execute);
     return asked.status == GQL_ANSWERED ? take(env, &asked.reply) : refuse(env, asked.status, &asked.reply);
+}
+
+/* newAnswers(): a table of answers that has none yet. */
+static napi_value new_answers(napi_env env, napi_callback_info info) {
+    (void)info;
+    struct value *answers = new_value();
+    return answers == NULL ? refuse(env, GQL_NO_MEMORY, NULL) : wrap(env, answers);
+}
+
+/* addAnswers(answers, text) */
+static napi_value add_answers(napi_env env, napi_callback_info info) {
+    size_t count = 2;
+    napi_value arguments[2];
+    struct bytes text;
+    TRY(napi_get_cb_info(env, info, &count, arguments, NULL, NULL));
+    struct value *answers = unwrap(env, arguments[0]);
+    if (answers == NULL || !bytes_of(env, arguments[1], &text)) {
+        return NULL;
+    }
+    pthread_mutex_lock(&answers->lock);
+    uint32_t status = gql_answers_add(&answers->handle, text.at, text.length);
+    pthread_mutex_unlock(&answers->lock);
+    return status == GQL_ANSWERED ? NULL : refuse(env, status, NULL);
+}
+
+/* step(query, answers, name, variables, flags): what is asked, as a text, or the response, as a buffer. */
+static napi_value step(napi_env env, napi_callback_info info) {
+    size_t count = 5;
+    napi_value arguments[5], made, text;
+    void *at;
+    size_t length;
+    struct execution asked = {0};
+    TRY(napi_get_cb_info(env, info, &count, arguments, NULL, NULL));
+    if (!read_execution(env, arguments, &asked)) {
+        return NULL;
+    }
+    perform(&asked, gql_step);
+    if (asked.status != GQL_ASKS) {
+        return asked.status == GQL_ANSWERED ? take(env, &asked.reply) : refuse(env, asked.status, &asked.reply);
+    }
+    made = take(env, &asked.reply);
+    if (made == NULL) {
+        return NULL;
+    }
+    TRY(napi_get_buffer_info(env, made, &at, &length));
+    TRY(napi_create_string_utf8(env, at, length, &text));
+    return text;
 }
 
 /* An execution on the pool: it keeps its arguments alive, and tells its end to a promise. */
@@ -304,7 +353,7 @@ struct job {
 
 static void work(napi_env env, void *at) {
     (void)env;
-    perform(&((struct job *)at)->asked);
+    perform(&((struct job *)at)->asked, gql_execute);
 }
 
 static void complete(napi_env env, napi_status ended, void *at) {
@@ -445,6 +494,9 @@ NAPI_MODULE_INIT() {
         {"close", NULL, close_value, NULL, NULL, NULL, napi_enumerable, NULL},
         {"execute", NULL, execute, NULL, NULL, NULL, napi_enumerable, NULL},
         {"executeAsync", NULL, execute_async, NULL, NULL, NULL, napi_enumerable, NULL},
+        {"newAnswers", NULL, new_answers, NULL, NULL, NULL, napi_enumerable, NULL},
+        {"addAnswers", NULL, add_answers, NULL, NULL, NULL, napi_enumerable, NULL},
+        {"step", NULL, step, NULL, NULL, NULL, napi_enumerable, NULL},
         {"operationKind", NULL, operation_kind, NULL, NULL, NULL, napi_enumerable, NULL},
         {"operationCost", NULL, operation_cost, NULL, NULL, NULL, napi_enumerable, NULL},
         {"check", NULL, check, NULL, NULL, NULL, napi_enumerable, NULL},

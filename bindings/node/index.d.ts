@@ -73,6 +73,40 @@ export interface RequestOptions {
   introspection?: boolean;
 }
 
+/** The values of a field's arguments, by their names. Whole numbers beyond 2^53 are only near. */
+export type Arguments = Record<string, any>;
+
+/** A resolver of a field: its value, or a promise of it. */
+export type Resolver = (object: any, given: Arguments) => unknown;
+
+/** A resolver of a field for all objects of a round at once, which `many` makes. */
+declare class Many {
+  private constructor();
+}
+
+/** Resolvers of fields, by the names of their object types. */
+export type Resolvers = Record<string, Record<string, Resolver | Many>>;
+
+/**
+ * A resolver that is called once for all that is asked of its field in a round: a list of objects, each with the arguments. It gives as
+ * many values in the same order, or a promise of them; a value that is an `Error` is the error of its field.
+ *
+ * ```js
+ * const author = many(async (asks) => {
+ *   const names = await namesOf(asks.map(([book]) => book.by)); // one look for all of them
+ *   return asks.map(([book]) => names.get(book.by));
+ * });
+ * ```
+ */
+export function many(resolve: (asks: [object: any, given: Arguments][]) => unknown): Many;
+
+export interface ResolveOptions extends RequestOptions {
+  /** The name of an object's type at an interface or a union type; `null` leaves it to the object. */
+  typeOf?: (object: any) => string | null | undefined;
+  /** The text that clients are told of an error; its own unless told. */
+  errorMessage?: (error: Error) => string;
+}
+
 /** A query that `Schema.query` read and checked. */
 export class Query extends Value {
   private constructor();
@@ -80,6 +114,33 @@ export class Query extends Value {
   execute(data?: Data | Json, options?: RequestOptions): Promise<Buffer>;
   /** The same at once, on this thread. */
   executeSync(data?: Data | Json, options?: RequestOptions): Buffer;
+  /**
+   * The JSON of the response, by resolvers over any objects.
+   *
+   * ```js
+   * const schema = new Schema('type Query { book(title: String!): Book } type Book { title: String years: Int }');
+   * const query = schema.query('{ book(title: "Emma") { title years } }');
+   * const books = [{ title: 'Emma', year: 1815 }];
+   * const response = await query.resolve(null, {
+   *   Query: { book: async (root, { title }) => books.find((book) => book.title === title) },
+   *   Book: { years: (book) => 2015 - book.year },
+   * });
+   * response.toString(); // {"data":{"book":{"title":"Emma","years":200}}}
+   * ```
+   *
+   * A field without a resolver is the member of its name, called with the arguments where it is a function. All fields that can be
+   * resolved are resolved in one round, and what they promise is awaited at once; the root fields of a mutation wait until those before
+   * them are whole (GraphQL October 2021, section 6.2.2).
+   *
+   * A resolver gives a text, a whole number, a truth value, `null`, or what JSON is of these; at an object, an interface or a union type any
+   * value, which is the object that the fields below are asked of; at a list type anything that can be gone through, of these. A text or
+   * a number is an object of a type only where that type has resolvers. What a resolver throws, or an `Error` that it gives, stands in the
+   * response as the error of its field. Without `typeOf` the type of an object at an interface or a union type is its `__typename`, and
+   * else the name of its class.
+   *
+   * Rejected with `RequestRefused` where there is no response, and with `TypeError` for a resolver of a field that the schema lacks.
+   */
+  resolve(root?: unknown, resolvers?: Resolvers, options?: ResolveOptions): Promise<Buffer>;
   /** The kind of the operation of the name, or of the only one; null where there is none. */
   kind(operationName?: string | null): 'query' | 'mutation' | 'subscription' | null;
   /**

@@ -2,6 +2,8 @@
 // GraphQL requests answered by a proved engine. `index.d.ts` says what each call gives, with an example.
 
 const library = require('./sunwaket.node');
+const { askTypes } = require('./field_types.js');
+const { Rounds, many } = require('./rounds.js');
 
 const NAMED = 1;
 const INTROSPECTION = 2;
@@ -64,7 +66,8 @@ const MADE = Symbol('made');
 
 class Value {
   constructor(held) {
-    Object.defineProperty(this, 'held', { value: held });
+    // Beside what the library holds, what a schema and its queries know of its fields.
+    Object.defineProperties(this, { held: { value: held }, fields: { writable: true } });
   }
 
   share() {
@@ -88,7 +91,37 @@ class Schema extends Value {
   }
 
   query(text) {
-    return new Query(attempt(() => library.newQuery(this.held, bytesOf(text)), QueryRefused, 'the query is no UTF-8'), MADE);
+    this.fields ??= new SchemaFields(attempt(() => library.share(this.held)));
+    return new Query(readQuery(this.held, text), MADE, this.fields);
+  }
+
+  share() {
+    return shareOf(this, super.share());
+  }
+
+  close() {
+    this.fields = undefined;
+    super.close();
+  }
+}
+
+const readQuery = (schema, text) => attempt(() => library.newQuery(schema, bytesOf(text)), QueryRefused, 'the query is no UTF-8');
+
+// A share with what the value knows of the schema's fields.
+function shareOf(value, share) {
+  share.fields = value.fields;
+  return share;
+}
+
+// The types of a schema's fields, asked for once, when they are first needed.
+class SchemaFields {
+  constructor(schema) {
+    Object.defineProperty(this, 'schema', { value: schema });
+  }
+
+  types() {
+    this.known ??= askTypes((text) => new Query(readQuery(this.schema, text), MADE).executeSync({}, { introspection: true }));
+    return this.known;
   }
 }
 
@@ -100,34 +133,55 @@ function limitOf(value, name) {
   return value;
 }
 
-// The five arguments of an execution.
-function asked(query, data, options) {
+// The five arguments of an execution over data, or of a step over a table of answers.
+function asked(query, held, options) {
   const { operationName, variables, introspection } = options;
   return [
     query.held,
-    (data instanceof Data ? data : new Data(data)).held,
+    held,
     operationName == null ? NOTHING : Buffer.from(operationName),
     variables == null ? NOTHING : jsonOf(variables),
     (operationName == null ? 0 : NAMED) | (introspection ? INTROSPECTION : 0),
   ];
 }
 
+const rootOf = (data) => (data instanceof Data ? data : new Data(data)).held;
+
 class Query extends Value {
-  constructor(held, made) {
+  constructor(held, made, fields) {
     if (made !== MADE) throw new TypeError('a query is made by Schema.query');
     super(held);
+    this.fields = fields;
+  }
+
+  share() {
+    return shareOf(this, super.share());
   }
 
   executeSync(data = {}, options = {}) {
-    return attempt(() => library.execute(...asked(this, data, options)), RequestRefused, 'the name of the operation is no UTF-8');
+    const given = asked(this, rootOf(data), options);
+    return attempt(() => library.execute(...given), RequestRefused, 'the name of the operation is no UTF-8');
   }
 
   async execute(data = {}, options = {}) {
+    const given = asked(this, rootOf(data), options);
     try {
-      return await library.executeAsync(...asked(this, data, options));
+      return await library.executeAsync(...given);
     } catch (error) {
       throw toldBy(error, RequestRefused, 'the name of the operation is no UTF-8');
     }
+  }
+
+  async resolve(root, resolvers = {}, options = {}) {
+    const answers = library.newAnswers();
+    const given = asked(this, answers, options);
+    const request = {
+      step: () => attempt(() => library.step(...given), RequestRefused, 'the name of the operation is no UTF-8'),
+      add: (text) => attempt(() => library.addAnswers(answers, Buffer.from(text)), Refused, 'the library does not read these answers'),
+      types: this.fields.types(),
+      serial: this.kind(options.operationName) === 'mutation',
+    };
+    return new Rounds(request, root, resolvers, options).run();
   }
 
   kind(operationName) {
@@ -150,4 +204,4 @@ function check(schema, query) {
   return attempt(() => library.check(bytesOf(schema), bytesOf(query)), Refused, 'a text is no UTF-8').toString();
 }
 
-module.exports = { VERSION, Data, Query, QueryRefused, Refused, RequestRefused, Schema, SchemaRefused, TooCostly, answer, check };
+module.exports = { VERSION, Data, Query, QueryRefused, Refused, RequestRefused, Schema, SchemaRefused, TooCostly, answer, check, many };
