@@ -5,7 +5,8 @@
   values that eight threads share and handles that go from one to another, also under helgrind; the example;
 - the package for Python: its tests, from its folder and from the wheel; the wheel's mock server, asked one query;
 - the package for Node, and the one for Go;
-- the worked requests of checks/tables/ and examples/ through C and through Python, whose bytes are those of the program.
+- the worked requests of checks/tables/ and examples/ through C, through Python and through resolvers in Python, whose bytes are those
+  of the program.
 
 It says what it skips: all, where no gate has left the libraries; a language or a tool that is not here."""
 import json
@@ -23,6 +24,7 @@ from shared.trying import ROOT
 BINDINGS = ROOT / "bindings"
 LACKING = 3
 PATIENCE = 1800
+PYTHON_TESTS = ["tests.test_sunwaket", "tests.test_resolvers"]
 CC = os.environ.get("CC", "cc")
 STRICT = ["-std=c11", "-O1", "-g", "-Wall", "-Wextra", "-Werror"]
 HELGRIND = ["valgrind", "--quiet", "--tool=helgrind", "--error-exitcode=9"]
@@ -116,13 +118,13 @@ def run_python(folder):
     """The tests of the package, from its folder and from the wheel, and the wheel's mock server."""
     python = BINDINGS / "python"
     quiet = os.environ | {"PYTHONDONTWRITEBYTECODE": "1"}
-    try_command("Python", [sys.executable, "-m", "unittest", "-q", "tests.test_sunwaket"], cwd=python, env=quiet)
+    try_command("Python", [sys.executable, "-m", "unittest", "-q", *PYTHON_TESTS], cwd=python, env=quiet)
     wheels = sorted((BINDINGS / "out").glob("*.whl"))
     expect("one wheel", len(wheels) == 1)
     words, alone = installed(folder, wheels[0])
     if words is not None:
         shutil.copytree(python / "tests", folder / "tests")
-        try_command("Python, from the wheel", [*words, "-m", "unittest", "-q", "tests.test_sunwaket"], cwd=folder, env=alone)
+        try_command("Python, from the wheel", [*words, "-m", "unittest", "-q", *PYTHON_TESTS], cwd=folder, env=alone)
         run_mock_server(folder, words, alone)
 
 
@@ -177,7 +179,7 @@ def run_node():
     if not (node / "sunwaket.node").is_file():
         skip("the package for Node", "Node is not here with its headers")
         return
-    try_command("Node", ["node", "--test", "tests/sunwaket.test.js"], cwd=node)
+    try_command("Node", ["node", "--test", "tests/sunwaket.test.js", "tests/resolvers.test.js"], cwd=node)
 
 
 def run_go():
@@ -265,6 +267,9 @@ def run_worked(folder):
 
     outputs = [in_python.run([word], compact(request).encode("utf-8"))[1] for _, word, request, _ in rows]
     compare("Python", rows, outputs)
+    rows = [row for row in rows if row[1] == "answer"]
+    outputs = [in_python.run(["resolve"], compact(request).encode("utf-8"))[1] for _, _, request, _ in rows]
+    compare("resolvers in Python", rows, outputs)
 
 
 def main():
