@@ -4,7 +4,7 @@
 - the calls in C, plain, under valgrind, and with AddressSanitizer; with each allocation refused in turn, alone and with all after it;
   values that eight threads share and handles that go from one to another, also under helgrind; the example;
 - the package for Python: its tests, from its folder and from the wheel; the wheel's mock server, asked one query;
-- the package for Node, and the one for Go;
+- the package for Node, and the one for Go; the code on docs/BINDINGS.md;
 - the worked requests of checks/tables/ and examples/ through C, through Python and through resolvers in Python, whose bytes are those
   of the program.
 
@@ -12,6 +12,7 @@ It says what it skips: all, where no gate has left the libraries; a language or 
 import json
 import os
 import pathlib
+import re
 import shutil
 import subprocess
 import sys
@@ -174,6 +175,21 @@ def asked(address, query):
         return None
 
 
+def run_page():
+    """The code for Python and for Node on docs/BINDINGS.md, which prints what its section says."""
+    page = (ROOT / "docs" / "BINDINGS.md").read_text(encoding="utf-8")
+    runners = {"python": (sys.executable, "-c", BINDINGS / "python")}
+    if (BINDINGS / "node" / "sunwaket.node").is_file():
+        runners["js"] = ("node", "-e", BINDINGS / "node")
+    for section in page.split("\n## "):
+        printed = re.search(r"Each of these prints `(.*)`", section)
+        for language, code in re.findall(r"```(python|js)\n(.*?)```", section, re.DOTALL):
+            if printed and language in runners:
+                *words, folder = runners[language]
+                run = try_command(f"the page's {language}", [*words, code], cwd=folder)
+                expect(f"what the page's {language} prints", run.stdout.decode() == printed[1] + "\n")
+
+
 def run_node():
     node = BINDINGS / "node"
     if not (node / "sunwaket.node").is_file():
@@ -290,6 +306,7 @@ def main():
         run_python(folder)
         run_node()
         run_go()
+        run_page()
         run_worked(folder)
     print(f"bindings: {len(passed)} passed, {len(failed)} failed")
     return 1 if failed or not passed else 0
