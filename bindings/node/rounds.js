@@ -72,7 +72,21 @@ function called(resolve, ...given) {
   }
 }
 
-const isPromise = (value) => value != null && typeof value.then === 'function';
+/** Whether a value is a promise, or an item of it, so many lists deep. */
+function isLate(value, levels) {
+  if (Array.isArray(value)) return levels > 0 && value.some((item) => isLate(item, levels - 1));
+  return value != null && typeof value.then === 'function';
+}
+
+/** What comes of a value, and of its items, so many lists deep; of what fails, the error. */
+async function comeOf(value, levels) {
+  try {
+    const made = await value;
+    return isLate(made, levels) ? await Promise.all(made.map((item) => comeOf(item, levels - 1))) : made;
+  } catch (thrown) {
+    return errorOf(thrown);
+  }
+}
 
 /** All that a round asks of one field, and what came of it. */
 class Group {
@@ -92,10 +106,11 @@ class Group {
 
   /** Those outcomes that are awaited, each put in its place. */
   awaited() {
+    const levels = this.fieldType.lists + (this.resolver instanceof Many ? 1 : 0);
     const settle = async (outcome, at) => {
-      this.outcomes[at] = await Promise.resolve(outcome).catch(errorOf);
+      this.outcomes[at] = await comeOf(outcome, levels);
     };
-    return this.outcomes.flatMap((outcome, at) => (isPromise(outcome) ? [settle(outcome, at)] : []));
+    return this.outcomes.flatMap((outcome, at) => (isLate(outcome, levels) ? [settle(outcome, at)] : []));
   }
 
   /** The answers, once nothing is awaited. */

@@ -187,6 +187,16 @@ test('all of a round at once', async () => {
   assert.deepEqual([batches, most], [[[['a', {}], ['b', {}]]], 3]);
 });
 
+test('promises as items of lists', async () => {
+  const gone = async () => {
+    throw new Error('gone');
+  };
+  const root = { shelf: later([[{ title: 'a' }, later({ title: 'b' })], null]), found: [later({ __typename: 'Book' }), gone()] };
+  const told = await booksQuery('{ shelf { title } found { __typename } }').resolve(root);
+  assert.deepEqual(JSON.parse(told).data, { shelf: [[{ title: 'a' }, { title: 'b' }], null], found: [{ __typename: 'Book' }, null] });
+  assert.deepEqual(messages(told), [[['found', 1], 'resolver error: gone']]);
+});
+
 test('mutations: one after the other, and each whole', async () => {
   const schema = new Schema('type Query { x: Int } type Mutation { set(n: Int!): Holder fail: Int } type Holder { n: Int again: Holder }');
   const query = schema.query('mutation { a: set(n: 1) { n again { n } } fail b: set(n: 2) { n again { n } } c: set(n: 3) { n } }');

@@ -133,7 +133,8 @@ class Query(Value):
         variables: Optional[Json] = None,
         introspection: bool = False,
     ) -> bytes:
-        """The same where resolvers may give what is to be awaited: all of a round are awaited at once, under :mod:`asyncio`.
+        """The same where resolvers may give what is to be awaited, itself or as an item of a list: all of a round is awaited at once, under
+        :mod:`asyncio`.
 
         >>> import asyncio
         >>> async def later(root, arguments):

@@ -2,8 +2,9 @@
 
 from __future__ import annotations
 
+import inspect
 import json
-from typing import Any, Callable, Dict, List, Mapping, Tuple
+from typing import Any, Callable, Dict, Iterable, List, Mapping, Tuple
 
 from . import _library as library
 from ._base import Value, encode, refuse
@@ -92,7 +93,7 @@ class Rounds:
 class _Group:
     """All that a round asks of one field, and what came of it."""
 
-    __slots__ = ("_asks", "_key", "_resolver", "_starts", "_type", "outcomes")
+    __slots__ = ("_asks", "_key", "_resolver", "_starts", "_type", "levels", "outcomes")
 
     def __init__(self, key: Tuple[str, str], resolver: Resolver, ty: FieldType):
         self._key, self._resolver, self._type = key, resolver, ty
@@ -101,6 +102,8 @@ class _Group:
         self._asks: List[Ask] = []
         #: What each call of the resolver gave: a value, an exception, or what is to be awaited.
         self.outcomes: List[Any] = []
+        #: How many lists deep, this one of the outcomes among them, something may be awaited.
+        self.levels = 1 + ty.lists + isinstance(resolver, Many)
 
     def add(self, number: int, value: Any, arguments: Dict[str, Any]) -> None:
         # The resolver may change its arguments, and so they are told as they were.
@@ -117,10 +120,8 @@ class _Group:
 
     def expect_values(self) -> None:
         """Raises where something is to be awaited."""
-        late = [outcome for outcome in self.outcomes if is_awaitable(outcome)]
-        if late:
-            for outcome in late:
-                getattr(outcome, "close", _nothing)()
+        if _is_late(self.outcomes, self.levels):
+            _close(self.outcomes, self.levels)
             raise TypeError(f"the resolver of {'.'.join(self._key)} gives what is to be awaited: use resolve_async")
 
     def answers(self, teller: Teller) -> List[str]:
@@ -142,10 +143,6 @@ class _Group:
         return [ValueError(f"the resolver of {'.'.join(self._key)} gives {len(values)} values for {count}")] * count
 
 
-def _nothing() -> None:
-    pass
-
-
 def _called(function: Callable[..., Any], *given: Any) -> Any:
     """What a function gives, or the exception that it raises."""
     try:
@@ -154,19 +151,52 @@ def _called(function: Callable[..., Any], *given: Any) -> Any:
         return error
 
 
-def is_awaitable(value: Any) -> bool:
-    return type(value) not in PLAIN and hasattr(type(value), "__await__")
+def _is_late(value: Any, levels: int) -> bool:
+    """Whether a value is to be awaited, or an item of it, so many lists deep."""
+    kind = type(value)
+    if kind in PLAIN or kind is dict:
+        return False
+    if kind is list or kind is tuple:
+        return levels > 0 and any([_is_late(item, levels - 1) for item in value])
+    return hasattr(kind, "__await__")
+
+
+def _close(values: Iterable[Any], levels: int) -> None:
+    """Lets go of coroutines that nothing awaits."""
+    for value in values:
+        if inspect.iscoroutine(value):
+            value.close()
+        elif levels > 1 and isinstance(value, (list, tuple)):
+            _close(value, levels - 1)
 
 
 async def _await_all(groups: List[_Group]) -> None:
-    """Puts what is awaited in its place, or the exception that comes of it."""
+    """Puts what comes of what is awaited in its place, or the exception that comes of it."""
+    late = [group for group in groups if _is_late(group.outcomes, group.levels)]
+    if late:
+        for group, outcomes in zip(late, await _all_of([(group.outcomes, group.levels) for group in late])):
+            group.outcomes = outcomes
+
+
+async def _all_of(values: List[Tuple[Any, int]]) -> List[Any]:
+    """What comes of each value, or the exception, all awaited at once."""
     import asyncio
 
-    places = [(group.outcomes, at) for group in groups for at, outcome in enumerate(group.outcomes) if is_awaitable(outcome)]
-    if not places:
-        return
-    found = await asyncio.gather(*[outcomes[at] for outcomes, at in places], return_exceptions=True)
-    for (outcomes, at), outcome in zip(places, found):
+    found = await asyncio.gather(*[_come_of(*value) for value in values], return_exceptions=True)
+    for outcome in found:
         if isinstance(outcome, BaseException) and not isinstance(outcome, Exception):
             raise outcome
-        outcomes[at] = outcome
+    return found
+
+
+async def _come_of(value: Any, levels: int) -> Any:
+    """What comes of a value, and of its items, so many lists deep."""
+    if type(value) is not list and type(value) is not tuple and _is_late(value, levels):
+        value = await value
+    if not _is_late(value, levels):
+        return value
+    places = [at for at, item in enumerate(value) if _is_late(item, levels - 1)]
+    made = list(value)
+    for at, outcome in zip(places, await _all_of([(value[at], levels - 1) for at in places])):
+        made[at] = outcome
+    return made

@@ -260,6 +260,8 @@ class Leaves(unittest.TestCase):
         deep = []
         for _ in range(200):
             deep = [deep]
+        endless = []
+        endless.append(endless)
         for field, value, told in (
             ("float", 0.5, "0.5 is no whole number"),
             ("float", float("nan"), "nan is no whole number"),
@@ -269,6 +271,7 @@ class Leaves(unittest.TestCase):
             ("json", {1: 2}, "a key of the type int has no JSON"),
             ("json", {"a": object()}, "a value of the type object has no JSON"),
             ("json", deep, "a value is nested too deep"),
+            ("json", endless, "a value is nested too deep"),
         ):
             self.assertEqual(self.value_of(field, value), told)
         self.assertEqual(self.value_of("text", "\ud800"), "?")
@@ -422,6 +425,26 @@ class Awaited(unittest.TestCase):
             self.assertEqual(messages(told), [(["books", at, "year"], "resolver error: gone") for at in range(2)])
         with self.assertRaises(RequestRefused):
             self.resolve("{ books { title } }", root, None, operation_name="X")
+
+    def test_items_of_lists(self):
+        async def later(value):
+            await asyncio.sleep(0)
+            if value is None:
+                raise LookupError("gone")
+            return value
+
+        async def shelf(root, arguments):
+            return [[{"title": "a"}, later({"title": "b"})], None, later([later({"title": "c"})])]
+
+        told = self.resolve("{ shelf { title } found { __typename } }", {"found": [later({"__typename": "Book"}), later(None)]}, {"Query": {"shelf": shelf}})
+        data = {"shelf": [[{"title": "a"}, {"title": "b"}], None, [{"title": "c"}]], "found": [{"__typename": "Book"}, None]}
+        self.assertEqual(json.loads(told)["data"], data)
+        self.assertEqual(messages(told), [(["found", 1], "resolver error: gone")])
+        batch = many(lambda asks: [later(len(book["title"])) for book, _ in asks])
+        told = self.resolve("{ books { year } }", {"books": [{"title": "a"}, {"title": "bb"}]}, {"Book": {"year": batch}})
+        self.assertEqual(answered(told), {"books": [{"year": 1}, {"year": 2}]})
+        with self.assertRaisesRegex(TypeError, "use resolve_async"):
+            books_query("{ found { __typename } }").resolve({"found": [later(None)]})
 
     def test_cancelled(self):
         stopped = []
