@@ -2,6 +2,7 @@
 
 from __future__ import annotations
 
+from functools import lru_cache
 from typing import Any, Callable, Dict, List, Mapping, Optional, Tuple, Union
 
 from ._field_types import FieldType, FieldTypes
@@ -74,7 +75,7 @@ class Resolvers:
     'resolver error: not found'
     """
 
-    __slots__ = ("_checked", "_error_message", "_found", "_given", "_type_of")
+    __slots__ = ("_checked", "_error_message", "_given", "_type_of")
 
     def __init__(
         self,
@@ -86,12 +87,11 @@ class Resolvers:
         self._given = {name: dict(resolvers) for name, resolvers in (fields or {}).items()}
         self._type_of = type_of
         self._error_message = error_message
-        self._found: Dict[Tuple[str, str], Resolver] = {}
         self._checked: Optional[FieldTypes] = None
 
     def _check(self, types: FieldTypes) -> None:
         """Raises where one is of a field that the schema lacks."""
-        if self._checked is types:
+        if self._checked is types or not self._given:
             return
         for name, resolvers in self._given.items():
             if name not in types:
@@ -103,12 +103,8 @@ class Resolvers:
 
     def _of(self, type_name: str, field: str) -> Resolver:
         """The resolver of a field."""
-        found = self._found.get((type_name, field))
-        if found is None:
-            found = self._given.get(type_name, {}).get(field) or _member(field)
-            self._found[type_name, field] = found
-        return found
-
+        given = self._given.get(type_name)
+        return (given.get(field) if given else None) or _member(field)
 
     def _has(self, type_name: str) -> bool:
         """Whether there are resolvers of a type."""
@@ -137,10 +133,16 @@ class Resolvers:
 GivenResolvers = Union[Resolvers, Mapping[str, Mapping[str, Resolver]], None]
 
 
+_NONE = Resolvers()
+
+
 def as_resolvers(given: GivenResolvers) -> Resolvers:
+    if given is None:
+        return _NONE
     return given if isinstance(given, Resolvers) else Resolvers(given)
 
 
+@lru_cache(maxsize=4096)
 def _member(field: str) -> Resolver:
     """The resolver that gives what the object itself has."""
 

@@ -12,6 +12,9 @@ from ._field_types import FieldType, FieldTypes
 from ._resolvers import PLAIN, Ask, Many, Resolver
 from ._told import Teller
 
+# One decoder for all, as with the encoder.
+_decode = json.JSONDecoder().decode
+
 #: Whether something is asked, and the JSON of the asks or of the response.
 Step = Callable[[], Tuple[bool, bytes]]
 
@@ -57,7 +60,7 @@ class Rounds:
         if told == self._last:
             raise RuntimeError("the library asks once more for what it was told")
         self._last = told
-        return self._groups(self._due(json.loads(told)))
+        return self._groups(self._due(_decode(told.decode("utf-8"))))
 
     def _due(self, asks: List[Dict[str, Any]]) -> List[Dict[str, Any]]:
         """Those asks that may be answered now."""
@@ -72,12 +75,14 @@ class Rounds:
 
     def _groups(self, asks: List[Dict[str, Any]]) -> List[_Group]:
         groups: Dict[Tuple[str, str], _Group] = {}
+        objects = self._teller.objects
         for ask in asks:
             key = (ask["type"], ask["field"])
             group = groups.get(key)
             if group is None:
                 groups[key] = group = _Group(key, self._teller.resolvers._of(*key), self._types[key[0]][key[1]])
-            group.add(ask["object"], self._teller.objects[ask["object"]], ask["arguments"])
+            number = ask["object"]
+            group.add(number, objects[number], ask["arguments"])
         return list(groups.values())
 
     def _tell(self, groups: List[_Group]) -> None:
