@@ -1,5 +1,5 @@
 mod Names
-mod Lists
+pub mod Lists
 mod Parts
 mod OwnTypes
 mod Roots
@@ -8,7 +8,7 @@ mod Rebuilt
 mod LookUps
 mod RootRules
 mod BuiltIns
-mod Given
+pub mod Given
 mod TypeNames
 mod Settled
 mod Steps

@@ -1,0 +1,7 @@
+pub mod Asked
+pub mod FullQuery
+pub mod Selected
+pub mod Introspection
+pub mod Whole
+pub mod Built
+pub mod Data
