@@ -22,3 +22,7 @@ mod Built
 mod Defined
 mod Document
 mod Given
+-- The types of introspection in a schema.
+mod BuiltInFields
+mod BuiltInTypes
+mod Introspecting

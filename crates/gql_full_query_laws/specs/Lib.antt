@@ -5,3 +5,4 @@ pub mod Introspection
 pub mod Whole
 pub mod Built
 pub mod Data
+pub mod OwnText

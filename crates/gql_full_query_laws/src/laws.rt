@@ -1,6 +1,6 @@
 //! Laws of the full query over any schema that has introspection: sections 4 and 6 of GraphQL October 2021.
 
-ghost use Rattle.std.specs.Prelude.{◌≡◌, ◌∷◌, [], List, Option, Some, codes};
+ghost use Rattle.std.specs.Prelude.{◌≡◌, ◌∷◌, [], List, Option, Some, codes, ℕ};
 ghost use Rattle.gql_ast.specs.declared.definition.Definition.{Definition};
 ghost use Rattle.gql_ast_base.specs.Names.{Named};
 ghost use Rattle.gql_ast_laws.specs.Meant.{IsDocumentOf};
@@ -13,6 +13,7 @@ ghost use Rattle.gql_full_query_laws.specs.Asked.{query_file};
 ghost use Rattle.gql_full_query_laws.specs.Data.{IsData};
 ghost use Rattle.gql_full_query_laws.specs.FullQuery.{full_definitions};
 ghost use Rattle.gql_full_query_laws.specs.Introspection.{HasIntrospection};
+ghost use Rattle.gql_full_query_laws.specs.OwnText.{IsOwnText};
 ghost use Rattle.gql_full_query_laws.specs.Selected.{full_document, full_files};
 ghost use Rattle.gql_full_query_laws.specs.Whole.{HasSchemaField, IsWhole};
 ghost use Rattle.gql_parser.specs.DocumentAnswers.{IsBuiltOf};
@@ -61,4 +62,13 @@ pub fn the_full_query_gives_what_is_shown()
     grammar_laws::factored_is_declared();
     tree_laws::texts_have_one_document();
     graph_laws::acyclic_graphs_have_ranks();
+}
+
+/// A schema whose text defines and extends nothing built in has the types of introspection as the standard defines them (section 4.2 of
+/// GraphQL October 2021).
+pub fn schemas_have_introspection()
+    ensures { (text : List ℕ) (schema : Schema) → IsOwnText text schema → HasIntrospection schema }
+{
+    grammar_laws::factored_is_declared();
+    tree_laws::texts_have_one_document();
 }
