@@ -34,11 +34,23 @@ row_types : TypeNames by_rows.types
 unfolding rows.arguments_at rows.fields_at rows.values_at rows.locations_at rows.argument_of rows.field_of rows.enum_value_of rows.object_of rows.enum_of rows.scalar_of rows.directive_of
 row_types = (refl, (refl, (refl, (refl, (refl, (refl, (refl, (refl, (refl, (refl, (refl, (refl, (refl, tt)))))))))))))
 
+module _ (sound : SoundLaw) (once : OneDocument) (built_in : BuiltIn) (is : IsBuiltIn built_in) where
+  known : IsBuiltIn by_rows
+  known = rows_are_built_in sound
+
+  same : is.definitions ≡ known.definitions
+  same = once BUILT_IN_TEXT.now built_in_file is.definitions known.definitions is.text known.text
+
+  -- what is built in is what the rows stand for
+  pub same_directives : by_rows.directives ≡ built_in.directives
+  same_directives = known.directives ∙ ap (λ ds. (with_definitions no_definitions ds).directives) (sym same) ∙ sym is.directives
+
+  pub same_types : by_rows.types ≡ built_in.types
+  same_types = known.types ∙ ap (λ ds. (with_definitions no_definitions ds).types) (sym same) ∙ sym is.types
+
 pub have_names : SoundLaw → OneDocument → (built_in : BuiltIn) → IsBuiltIn built_in → HasBuiltInNames built_in
 have_names sound once built_in is =
-    let known : IsBuiltIn by_rows = rows_are_built_in sound in
-    let same : is.definitions ≡ known.definitions = once BUILT_IN_TEXT.now built_in_file is.definitions known.definitions is.text known.text in
     record {
-      directives = subst DirectiveNames (known.directives ∙ ap (λ ds. (with_definitions no_definitions ds).directives) (sym same) ∙ sym is.directives) row_directives;
-      types = subst TypeNames (known.types ∙ ap (λ ds. (with_definitions no_definitions ds).types) (sym same) ∙ sym is.types) row_types;
+      directives = subst DirectiveNames (same_directives sound once built_in is) row_directives;
+      types = subst TypeNames (same_types sound once built_in is) row_types;
     }

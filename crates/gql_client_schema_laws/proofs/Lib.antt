@@ -9,9 +9,11 @@ mod LookUps
 mod RootRules
 mod BuiltIns
 pub mod Given
-mod TypeNames
 mod Settled
 mod Steps
 mod Levels
 mod ReadBack
 mod Duplicates
+mod Retold
+mod ValidAgain
+mod StandardRows

@@ -13,14 +13,6 @@ use Rattle.gql_schema_types.proofs.Lookups.{put-missing}
 
 -- ---- lists
 
-pub empty_left : {X : Type 0} (xs ys : List X) → xs ++ ys ≡ [] → xs ≡ []
-empty_left [] ys is = refl
-empty_left (x ∷ xs) ys is = absurd cc
-
-pub empty_right : {X : Type 0} (xs ys : List X) → xs ++ ys ≡ [] → ys ≡ []
-empty_right [] ys is = is
-empty_right (x ∷ xs) ys is = absurd cc
-
 pub unmapped : {X Y : Type 0} (f : X → Y) (xs : List X) → map f xs ≡ [] → xs ≡ []
 unmapped f [] is = refl
 unmapped f (x ∷ xs) is = absurd cc

@@ -11,13 +11,14 @@ use Rattle.gql_ast_laws.specs.Printed.{from_nowhere}
 use Rattle.gql_introspection.specs.Deprecation.{default_in, default_reason}
 use Rattle.gql_client_schema_laws.specs.Parts.{said_definition, said_type, shown_directive}
 use Rattle.gql_client_schema_laws.specs.Shown.{Shows, Says, IsOwn, HasBuiltInNames, finished, unfinished, all_finished, is_own_name}
-use Rattle.gql_client_schema_laws.proofs.Names.{empty_left, empty_right, unmapped, none_repeats, stay_joined, distinct_of, all_new, all_put_distinct, texts_shown}
+use Rattle.gql_client_schema_laws.proofs.Names.{unmapped, none_repeats, stay_joined, distinct_of, all_new, all_put_distinct, texts_shown}
 use Rattle.gql_client_schema_laws.proofs.Definitions.{type_text, directive_text, is_own_directive, built_unextended, faults_unextended, extended_type, own_texts, are_own, all_unfinished, are_built_in, not_own_names, kept_own, none_redefined, all_kept, from_nowhere_already, kept_description}
 use Rattle.gql_client_schema_laws.proofs.Lists.{all_mapped, all_unmapped, flat_map_append, filter_none, filter_all, all_put_pass, distinct_both, entry_before}
 use Rattle.gql_client_schema_laws.proofs.OwnTypes.{said_name, own_of}
 use Rattle.gql_client_schema_laws.proofs.Parts.{HasDistinctParts, all_built_distinct, all_faultless, all_said_built}
 use Rattle.gql_client_schema_laws.proofs.Roots.{texts_of, with_said, all_free as free_from, no_roots as no_texts, made, said_all, none_doubled, listed, listed_free}
 use Rattle.gql_diag_messages.specs.declared.diagnostic_data.DiagnosticData.{DiagnosticData}
+use Rattle.gql_schema_alike_laws.proofs.Lists.{empty_left, empty_right}
 use Rattle.gql_schema_build.specs.Build as build
 use Rattle.gql_schema_build.specs.Built.{built, part_faults}
 use Rattle.gql_schema_build.specs.BuiltInScalarTypeRedefinition.{built_in_scalar_type_redefinitions, without_redefinitions}
@@ -201,7 +202,7 @@ module _ (sources : Files) (built_in : BuiltIn) (first : TypeSystem) (own : IsOw
     all_first_again : firsts (built_ins ++ us) ≡ built_ins ++ us
     all_first_again = stay_joined definition_name [] (built_ins ++ us) distinct
 
-    types_again : build.all_types false built_in user ≡ map built built_ins ++ map built us
+    pub types_again : build.all_types false built_in user ≡ map built built_ins ++ map built us
     types_again =
         ap (types (built_ins ++ without_redefinitions built_ins us)) says.no_type_extensions ∙ ap (λ l. types l []) considered
         ∙ ap (map built) all_first_again ∙ map-append built built_ins us
@@ -242,7 +243,7 @@ module _ (sources : Files) (built_in : BuiltIn) (first : TypeSystem) (own : IsOw
         (subst (AllByRecursion (λ n. is_directive_name n ≡ false)) (sym same_directive_names)
         (all_mapped (λ n. is_directive_name n ≡ false) (λ d. (directive_name d).text) first.directives own.directives))
 
-    directives_again : directives built_in.directives user.directives ≡ table built_in.directives names.directives ++ user.directives
+    pub directives_again : directives built_in.directives user.directives ≡ table built_in.directives names.directives ++ user.directives
     directives_again = behind_table built_in.directives names.directives user.directives own_again distinct_again
 
     shown_directives_again : shown.directives ≡ map (shown_directive why) (directives built_in.directives user.directives)

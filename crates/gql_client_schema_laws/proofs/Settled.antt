@@ -13,9 +13,9 @@ use Rattle.gql_client_schema_laws.specs.Settled as shown
 use Rattle.gql_client_schema_laws.specs.Settled.{PartsAre, FieldsAre, InputsAre, IsInPlace, IsDirectiveInPlace, IsPlaced, settled, left, all_left, others}
 use Rattle.gql_client_schema_laws.specs.Shown.{Shows, unfinished, all_finished}
 use Rattle.gql_client_schema_laws.proofs.LookUps.{its_name, all_unfinished}
-use Rattle.gql_client_schema_laws.proofs.TypeNames.{same_name}
 use Rattle.gql_introspection.specs.Deprecation.{default_reason}
 use Rattle.gql_rules_values.specs.Written.{is_written}
+use Rattle.gql_schema_alike_laws.proofs.References.{name_unplaced}
 use Rattle.gql_schema_rules.specs.Scalars.{names, field_names, type_names, directive_names, is_named, built_in_scalars, new_scalar, with_missing, unless_unused, validated_types, validated}
 use Rattle.gql_schema_types.specs.Entries.{is_called, without}
 use Rattle.gql_schema_types.specs.Types.{type_name, type_called}
@@ -54,12 +54,12 @@ any_written written test shown_test f same b (x ∷ xs) all =
 module _ (why : Option Value) where
   module _ (name : List ℕ) where
     input_said : (input : InputValueDefinition) → names name input ≡ shown.input_names name (shown_input why input)
-    input_said input = ap (bytes_eq name) (sym (same_name input.ty))
+    input_said input = ap (bytes_eq name) (sym (name_unplaced input.ty))
 
     field_said : (field : FieldDefinition)
         → (bytes_eq name (named_type field.ty).text || list_any (names name) field.arguments) ≡ shown.field_names name (shown_field why field)
     field_said field =
-        λ i. bytes_eq name (sym (same_name field.ty) i) || any_mapped (names name) (shown.input_names name) (shown_input why) input_said field.arguments i
+        λ i. bytes_eq name (sym (name_unplaced field.ty) i) || any_mapped (names name) (shown.input_names name) (shown_input why) input_said field.arguments i
 
     abbrev names_by_field : FieldDefinition → Bool
     names_by_field field = bytes_eq name (named_type field.ty).text || list_any (names name) field.arguments

@@ -5,3 +5,5 @@ pub mod Answer
 pub mod Given
 pub mod Settled
 pub mod Proper
+pub mod Throughout
+pub mod AsPrinted

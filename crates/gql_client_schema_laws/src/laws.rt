@@ -11,19 +11,24 @@ ghost use Rattle.gql_ast_definitions.specs.declared.schema_definition.DirectiveD
 ghost use Rattle.gql_client_schema.specs.Parts.{read_answer};
 ghost use Rattle.gql_client_schema.specs.Reading.{Gives};
 ghost use Rattle.gql_client_schema_laws.specs.Alike.{FindAlike};
+ghost use Rattle.gql_client_schema_laws.specs.AsPrinted.{AreConstantDefaults, UsesAsPrinted};
 ghost use Rattle.gql_client_schema_laws.specs.Given as given;
 ghost use Rattle.gql_client_schema_laws.specs.Answer.{Pairs, data_value};
 ghost use Rattle.gql_client_schema_laws.specs.Proper.{IsProper};
 ghost use Rattle.gql_client_schema_laws.specs.Settled.{IsPlaced, settled};
 ghost use Rattle.gql_client_schema_laws.specs.Shown as spec;
+ghost use Rattle.gql_client_schema_laws.specs.Throughout.{IsPlacedThroughout};
+ghost use Rattle.gql_diag_messages.specs.declared.diagnostic_data.DiagnosticData.{DiagnosticData};
 ghost use Rattle.gql_rules_types.specs.DuplicateRootOperationType.{duplicate_root_operation_type};
 ghost use Rattle.gql_rules_types.specs.QueryRootOperationType.{query_root_operation_type};
 ghost use Rattle.gql_rules_types.specs.SchemaRules.{roots_faults};
 ghost use Rattle.gql_schema.specs.BuiltInSchema.{IsBuiltIn};
+ghost use Rattle.gql_schema_alike_laws.specs.Standard.{HasStandard};
 ghost use Rattle.gql_schema_build.specs.Build.{built, build_faults};
 ghost use Rattle.gql_schema_build.specs.declared.built_in.BuiltIn.{BuiltIn};
 ghost use Rattle.gql_schema_build.specs.declared.type_system.TypeSystem.{TypeSystem};
 ghost use Rattle.gql_schema_rules.specs.Scalars.{validated};
+ghost use Rattle.gql_schema_rules.specs.SchemaFaults.{AreSchemaFaults};
 ghost use Rattle.gql_schema_types.specs.declared.schema.Schema.{Schema};
 ghost use Rattle.gql_schema_types.specs.declared.types.ExtendedType.{ExtendedType};
 ghost use Rattle.gql_schema_types.specs.declared.types.InterfaceType.{InterfaceType};
@@ -34,6 +39,8 @@ ghost use Rattle.jb_tree.specs.declared.value.Value.{Object};
 
 use gql_ast_laws::laws as tree_laws;
 use gql_grammar::laws as grammar_laws;
+use gql_print_laws::laws as print_laws;
+use gql_schema_alike_laws::laws as alike_laws;
 
 /// Definitions that say what is shown of a schema build without a fault a schema of which the same is shown (sections 3 and 4 of
 /// GraphQL October 2021).
@@ -61,6 +68,18 @@ pub fn built_in_definitions_have_known_names()
     tree_laws::texts_have_one_document();
 }
 
+/// What is built of definitions that say what is shown of a schema has what the standard builds in: `String`, `@deprecated`, `@specifiedBy`
+/// and `@oneOf` (sections 3.5 and 3.13 of GraphQL October 2021, and section 3.10.1 of September 2025).
+pub fn rebuilt_schemas_have_the_standard()
+    ensures { (sources files : Files) (built_in : BuiltIn) (first user : TypeSystem) (shown : ShownSchema)
+        → IsBuiltIn built_in → spec.IsOwn first → build_faults false built_in first ≡ []
+        → spec.Shows (built sources false built_in first) shown → spec.Says (default_reason (built sources false built_in first)) user shown
+        → HasStandard (built files false built_in user) }
+{
+    grammar_laws::factored_is_declared();
+    tree_laws::texts_have_one_document();
+}
+
 /// Whatever a rule asks of the type of a name, it is answered alike in two schemas of which the same is shown: whether there is one, and
 /// whether it is of another kind than object types, composite, or an input object (sections 3.4 and 3.3.1 of GraphQL October 2021).
 pub fn shown_types_are_found_alike()
@@ -80,6 +99,46 @@ pub fn shown_roots_are_right_alike()
         → duplicate_root_operation_type schema.types schema.schema_definition ≡ []
         → duplicate_root_operation_type other.types other.schema_definition ≡ [] }
 {}
+
+/// Where no rule of section 3 of GraphQL October 2021 finds a fault in a schema, none finds one in another schema of which the same is
+/// shown.
+///
+/// Of both, what is built in stands in the file of built-in definitions and all else in others, and defaults are constant. The other one
+/// uses directives only to tell what is shown, as printing does, and has what the standard builds in. Uses of directives are not shown, so
+/// without this it could use one where that may not stand.
+pub fn shown_schemas_stay_valid()
+    ensures { (schema other : Schema) (shown : ShownSchema) → spec.Shows schema shown → spec.Shows other shown
+        → IsPlacedThroughout schema → IsPlacedThroughout other → AreConstantDefaults schema → AreConstantDefaults other
+        → UsesAsPrinted other → HasStandard other
+        → (faults told : List DiagnosticData) → AreSchemaFaults schema faults → AreSchemaFaults other told → faults ≡ [] → told ≡ [] }
+{
+    print_laws::printed_values_are_read_back();
+    alike_laws::types_stay_right();
+    alike_laws::directives_stay_right();
+    alike_laws::interfaces_stay_implemented();
+    alike_laws::nothing_comes_to_lead_back();
+}
+
+/// Definitions that say what is shown of a schema in which no rule of section 3 of GraphQL October 2021 finds a fault build one in which
+/// none finds a fault.
+///
+/// The first schema is built without a fault of definitions and extensions of nothing built in. Both are placed as texts place them, their
+/// defaults are constant, and the definitions use directives only to tell what is shown, as printing does.
+pub fn rebuilt_schemas_stay_valid()
+    ensures { (sources files : Files) (built_in : BuiltIn) (first user : TypeSystem) (shown : ShownSchema)
+        → IsBuiltIn built_in → spec.IsOwn first → build_faults false built_in first ≡ []
+        → spec.Shows (built sources false built_in first) shown → spec.Says (default_reason (built sources false built_in first)) user shown
+        → IsPlacedThroughout (built sources false built_in first) → IsPlacedThroughout (built files false built_in user)
+        → AreConstantDefaults (built sources false built_in first) → AreConstantDefaults (built files false built_in user)
+        → UsesAsPrinted (built files false built_in user)
+        → (faults told : List DiagnosticData) → AreSchemaFaults (built sources false built_in first) faults
+        → AreSchemaFaults (built files false built_in user) told → faults ≡ [] → told ≡ [] }
+{
+    built_in_definitions_have_known_names();
+    rebuilt_definitions_show_the_same();
+    rebuilt_schemas_have_the_standard();
+    shown_schemas_stay_valid();
+}
 
 /// What each field that the full query asks for gives on each object of introspection, by what is shown of the thing that it tells of
 /// (section 4.2 of GraphQL October 2021): the very leaf, null where the kind of a type has no such part, or the objects of all its parts

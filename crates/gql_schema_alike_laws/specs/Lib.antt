@@ -1,0 +1,4 @@
+pub mod Pairs
+pub mod Uses
+pub mod Retold
+pub mod Standard
