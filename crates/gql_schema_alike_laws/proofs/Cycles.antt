@@ -1,6 +1,6 @@
 -- Cycles of interfaces and of input objects, in a schema and in one that tells it again: their graphs are the same.
-use Rattle.std.proofs.Common.{◌≡◌, ℕ, Option, Some, None, List, [], ◌∷◌, length, map, refl, sym, ap, ◌∙◌}
-use Rattle.std.specs.List.{slice_get, position, flat_map}
+use Rattle.std.proofs.Common.{◌≡◌, ℕ, Option, Some, None, List, [], length, refl, sym, ap, ◌∙◌}
+use Rattle.std.specs.List.{slice_get, position}
 use Rattle.std.specs.Option.{option_map_or}
 use Rattle.std.specs.Str.{bytes_eq}
 use Rattle.gql_ast_base.specs.Names.{Named}

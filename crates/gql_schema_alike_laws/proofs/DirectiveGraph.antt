@@ -1,21 +1,17 @@
 -- Where directives are used as they are printed, none leads back to itself, and chains of them are short.
-use Rattle.std.proofs.Common.{◌≡◌, ℕ, zero, suc, ◌+◌, ◌<◌, nat_lt, Bool, true, false, not, cond, Option, Some, None, List, [], ◌∷◌, ◌++◌, length, map, codes, refl, sym, ap, ◌∙◌, subst, arith}
+use Rattle.std.proofs.Common.{◌≡◌, ℕ, zero, suc, ◌+◌, nat_lt, Bool, true, false, not, cond, Option, Some, None, List, [], ◌∷◌, ◌++◌, length, map, codes, refl, sym, ap, ◌∙◌, subst, arith}
 use Rattle.std.specs.Prelude.{option_to_list}
-use Rattle.std.specs.List.{AllByRecursion, slice_get, find, position, position_or_len, prefix_len, flat_map}
+use Rattle.std.specs.List.{AllByRecursion, slice_get, find, position, position_or_len}
 use Rattle.std.specs.Option.{option_map_or, unwrap_or}
-use Rattle.std.specs.Str.{bytes_eq}
 use Rattle.gql_ast_base.specs.Names.{Named}
 use Rattle.gql_ast_base.specs.TypeParts.{named_type}
 use Rattle.gql_ast_base.specs.declared.directive.Directive.{Directive}
-use Rattle.gql_ast_base.specs.declared.type_ref.TypeRef.{TypeRef}
-use Rattle.gql_ast_base.specs.declared.type_ref.TypeRef.TheVariants as ref
 use Rattle.gql_ast_definitions.specs.declared.field_definition.InputValueDefinition.{InputValueDefinition}
 use Rattle.gql_ast_definitions.specs.declared.schema_definition.DirectiveDefinition.{DirectiveDefinition}
 use Rattle.gql_ast_definitions.specs.declared.schema_definition.DirectiveLocation.{DirectiveLocation}
-use Rattle.gql_ast_laws.specs.Printed.{unplaced}
 use Rattle.gql_diag_messages.specs.declared.diagnostic_data.DiagnosticData.{DiagnosticData}
 use Rattle.gql_diag_messages.specs.declared.rule.Rule.TheVariants as rule
-use Rattle.gql_graph.specs.Chains.{AreJudged, has_chain, mark_of, is_marked}
+use Rattle.gql_graph.specs.Chains.{has_chain, is_marked}
 use Rattle.gql_graph.specs.Cycles.{IsOnCycle, ReachesCycle}
 use Rattle.gql_graph.specs.Graph.{Graph, row}
 use Rattle.gql_rules_values.specs.Written.{is_written}
@@ -24,12 +20,13 @@ use Rattle.gql_schema_alike_laws.specs.Retold.{IsRetoldInput, IsRetoldType, IsRe
 use Rattle.gql_schema_alike_laws.specs.Standard.{Parameter, said_parameter, string_name, reason_parameter, url_parameter, HasDirective, HasScalar, HasStandard}
 use Rattle.gql_schema_alike_laws.specs.Uses.{said_use, AreUses, deprecation_uses, url_uses, one_of_uses, text_or_null}
 use Rattle.gql_schema_alike_laws.proofs.Found.{by_kind}
+use Rattle.gql_schema_alike_laws.proofs.Lists.{all_append, all_mapped, all_flat, all_weaker}
 use Rattle.gql_schema_alike_laws.proofs.Marks.{marked_holds, fewer_marks}
-use Rattle.gql_schema_alike_laws.proofs.Ranks.{all_at, all_append, all_mapped, all_flat, all_weaker, EndsWithin, longer, on_no_cycle, no_chain}
+use Rattle.gql_schema_alike_laws.proofs.Ranks.{all_at, EndsWithin, longer, on_no_cycle, no_chain}
 use Rattle.gql_schema_alike_laws.proofs.References.{name_unplaced, name_Named, name_NonNullNamed}
 use Rattle.gql_schema_alike_laws.proofs.Uses.{one_mapped, none_mapped}
-use Rattle.gql_schema_rules.specs.CycleFaults.{IsTold, faults_from}
-use Rattle.gql_schema_rules.specs.RecursiveDirectiveDefinition.{directive_name, input_directives, directive_node, directive_nodes, type_edges, type_node, argument_edges, directive_edges, directive_graph, AreRecursiveDirectives}
+use Rattle.gql_schema_rules.specs.CycleFaults.{faults_from}
+use Rattle.gql_schema_rules.specs.RecursiveDirectiveDefinition.{directive_name, directive_node, directive_nodes, type_edges, type_node, argument_edges, directive_edges, directive_graph, AreRecursiveDirectives}
 use Rattle.gql_schema_types.specs.Entries.{entry, is_called}
 use Rattle.gql_schema_types.specs.Types.{type_name, type_called, is_one_of}
 use Rattle.gql_schema_types.specs.declared.schema.Schema.{Schema}

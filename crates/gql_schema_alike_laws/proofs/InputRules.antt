@@ -1,15 +1,12 @@
 -- What is wrong with arguments and input fields, in a schema and in one that tells it again.
-use Rattle.std.proofs.Common.{◌≡◌, ℕ, Bool, true, false, not, Option, Some, None, List, [], ◌∷◌, ◌++◌, refl, sym, ap, ◌∙◌}
-use Rattle.std.specs.List.{flat_map}
+use Rattle.std.proofs.Common.{◌≡◌, true, not, Option, Some, None, List, [], refl, ap}
 use Rattle.std.specs.Option.{option_map, option_map_or}
 use Rattle.gql_ast_base.specs.Names.{Named, is_reserved}
-use Rattle.gql_ast_base.specs.TypeParts.{named_type, is_non_null}
-use Rattle.gql_ast_base.specs.declared.type_ref.TypeRef.{TypeRef}
+use Rattle.gql_ast_base.specs.TypeParts.{named_type}
 use Rattle.gql_ast_base.specs.declared.value.Value.{Value}
 use Rattle.gql_ast_definitions.specs.declared.field_definition.InputValueDefinition.{InputValueDefinition}
 use Rattle.gql_ast_definitions.specs.declared.schema_definition.DirectiveLocation.{DirectiveLocation}
 use Rattle.gql_ast_definitions.specs.declared.schema_definition.DirectiveLocation.TheVariants as at
-use Rattle.gql_ast_laws.specs.Printed.{unplaced}
 use Rattle.gql_diag_messages.specs.declared.rule.Rule.TheVariants as rule
 use Rattle.gql_print_laws.specs.Literal.{literal_in}
 use Rattle.gql_rules_types.specs.InputType.{input_type}

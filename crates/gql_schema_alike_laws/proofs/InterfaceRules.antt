@@ -10,7 +10,6 @@ use Rattle.gql_ast_base.specs.declared.type_ref.TypeRef.{TypeRef}
 use Rattle.gql_ast_definitions.specs.declared.field_definition.FieldDefinition.{FieldDefinition}
 use Rattle.gql_ast_definitions.specs.declared.field_definition.InputValueDefinition.{InputValueDefinition}
 use Rattle.gql_ast_laws.specs.Printed.{unplaced}
-use Rattle.gql_diag_messages.specs.declared.diagnostic_data.DiagnosticData.{DiagnosticData}
 use Rattle.gql_rules_types.specs.Arguments.{argument_name, argument_called}
 use Rattle.gql_rules_types.specs.ExtraRequiredImplementationFieldArgument.{is_extra, extra_required_implementation_field_argument}
 use Rattle.gql_rules_types.specs.InterfaceRules.{extra_argument_faults, extra_after, wanted_argument_faults, wanted_after, arguments_faults, both_faults, field_faults, implementation_faults, listed_faults, implementations_faults, type_faults, interfaces_faults}
@@ -20,7 +19,6 @@ use Rattle.gql_rules_types.specs.MissingInterfaceField.{missing_interface_field}
 use Rattle.gql_rules_types.specs.MissingInterfaceFieldArgument.{missing_interface_field_argument}
 use Rattle.gql_rules_types.specs.Subtypes.{is_subtype, is_same_type, are_known}
 use Rattle.gql_rules_types.specs.TransitiveImplementedInterfaces.{must_implement, interfaces_of, interfaces_by, is_new, told_with, told_after, missing, missing_by, transitive_implemented_interfaces}
-use Rattle.gql_rules_values.specs.TypeShape.{is_required}
 use Rattle.gql_rules_values.specs.Written.{is_written}
 use Rattle.gql_schema_alike_laws.specs.Pairs.{Paired, Both}
 use Rattle.gql_schema_alike_laws.specs.Retold.{IsRetoldName, IsRetoldInput, IsRetoldField, IsRetoldType}
@@ -32,7 +30,6 @@ use Rattle.gql_schema_alike_laws.proofs.ValueRules.{required_alike}
 use Rattle.gql_schema_types.specs.Entries.{entry, is_called}
 use Rattle.gql_schema_types.specs.Types.{type_called, field_name}
 use Rattle.gql_schema_types.specs.declared.types.ExtendedType.{ExtendedType}
-use Rattle.gql_schema_types.specs.declared.types.ExtendedType.TheVariants as type
 
 unless_alike : {X : Type 0} (b c : Bool) (xs ys : List X) → b ≡ c → (xs ≡ [] → ys ≡ []) → (if b then [] else xs) ≡ [] → (if c then [] else ys) ≡ []
 unless_alike true true xs ys same h none = refl

@@ -1,6 +1,6 @@
 -- Things in pairs, and what is told of them.
 use Rattle.std.proofs.Common.{◌≡◌, ℕ, zero, suc, ◌+◌, nat_lt, Bool, true, false, not, ◌||◌, cond, if◌then◌else◌, Option, Some, None, is_some, List, [], ◌∷◌, ◌++◌, length, map, refl, sym, ap, ◌∙◌}
-use Rattle.std.specs.List.{slice_get, find, position, position_or_len, prefix_len, list_any, flat_map}
+use Rattle.std.specs.List.{AllByRecursion, slice_get, find, position, position_or_len, list_any, flat_map}
 use Rattle.std.specs.Option.{option_map_or}
 use Rattle.gql_diag_messages.specs.declared.diagnostic_data.DiagnosticData.{DiagnosticData}
 use Rattle.gql_rules_values.specs.Faults.{only_if}
@@ -134,3 +134,21 @@ module _ {X Y : Type 0} (R : X → Y → Type 0) where
   pairs_weaker S h (x ∷ xs) (y ∷ ys) pairs = (h x y pairs.0, pairs_weaker S h xs ys pairs.1)
   pairs_weaker S h [] (y ∷ ys) pairs = absurd pairs
   pairs_weaker S h (x ∷ xs) [] pairs = absurd pairs
+
+-- ---- something holds of each item
+
+pub all_weaker : {X : Type 0} (P Q : X → Type 0) → ((x : X) → P x → Q x) → (xs : List X) → AllByRecursion P xs → AllByRecursion Q xs
+all_weaker P Q h [] all = tt
+all_weaker P Q h (x ∷ xs) all = (h x all.0, all_weaker P Q h xs all.1)
+
+pub all_append : {X : Type 0} (P : X → Type 0) (xs ys : List X) → AllByRecursion P xs → AllByRecursion P ys → AllByRecursion P (xs ++ ys)
+all_append P [] ys one two = two
+all_append P (x ∷ xs) ys one two = (one.0, all_append P xs ys one.1 two)
+
+pub all_mapped : {X Y : Type 0} (P : Y → Type 0) (f : X → Y) (xs : List X) → AllByRecursion (λ x. P (f x)) xs → AllByRecursion P (map f xs)
+all_mapped P f [] all = tt
+all_mapped P f (x ∷ xs) all = (all.0, all_mapped P f xs all.1)
+
+pub all_flat : {X Y : Type 0} (P : Y → Type 0) (f : X → List Y) (xs : List X) → AllByRecursion (λ x. AllByRecursion P (f x)) xs → AllByRecursion P (flat_map f xs)
+all_flat P f [] all = tt
+all_flat P f (x ∷ xs) all = all_append P (f x) (flat_map f xs) all.0 (all_flat P f xs all.1)

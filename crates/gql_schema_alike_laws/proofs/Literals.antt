@@ -1,5 +1,5 @@
 -- Where nothing is wrong with a literal, nothing is with the same literal in a schema that is told again.
-use Rattle.std.proofs.Common.{◌≡◌, ℕ, Option, Some, None, List, [], ◌∷◌, ◌++◌, map, refl, sym, ap, ◌∙◌}
+use Rattle.std.proofs.Common.{◌≡◌, ℕ, Option, Some, None, List, [], ◌∷◌, map, refl, sym, ap, ◌∙◌}
 use Rattle.std.specs.Prelude.{option_and_then}
 use Rattle.std.specs.List.{flat_map}
 use Rattle.std.specs.Option.{option_map, option_map_or}
@@ -7,7 +7,6 @@ use Rattle.gql_ast_base.specs.Names.{Named}
 use Rattle.gql_ast_base.specs.TypeParts.{named_type, item_type}
 use Rattle.gql_ast_base.specs.declared.type_ref.TypeRef.{TypeRef}
 use Rattle.gql_ast_base.specs.declared.value.Value.{Value}
-use Rattle.gql_ast_base.specs.declared.value.ValueKind.{out-ValueKind}
 use Rattle.gql_ast_base.specs.declared.value.ValueKind.TheOpen.{ValueKind-F}
 use Rattle.gql_ast_definitions.specs.declared.field_definition.InputValueDefinition.{InputValueDefinition}
 use Rattle.gql_ast_laws.specs.Printed.{unplaced}
@@ -24,7 +23,7 @@ use Rattle.gql_rules_values.proofs.Nodes.{at-List, at-Object, at-Null, at-Variab
 use Rattle.gql_schema_alike_laws.specs.Pairs.{Paired, Both}
 use Rattle.gql_schema_alike_laws.specs.Retold.{IsRetoldInputField, IsRetoldType}
 use Rattle.gql_schema_alike_laws.proofs.Found.{by_kind, found_as, known_alike}
-use Rattle.gql_schema_alike_laws.proofs.Tops.{HasTop, top_of, kind_is, seen}
+use Rattle.gql_schema_alike_laws.proofs.Tops.{top_of, kind_is, seen}
 use Rattle.gql_schema_alike_laws.proofs.Lists.{joined_alike, if_alike}
 use Rattle.gql_schema_alike_laws.proofs.References.{item_alike, name_alike}
 use Rattle.gql_schema_alike_laws.proofs.ValueRules.{input_found, at_type_alike, unique_alike}

@@ -1,16 +1,13 @@
 -- What is wrong with directives, with types and with their parts, in a schema and in one that tells it again.
-use Rattle.std.proofs.Common.{◌≡◌, ℕ, Bool, true, false, not, ◌&&◌, Option, Some, None, List, [], ◌∷◌, ◌++◌, refl, sym, ap, ◌∙◌}
-use Rattle.std.specs.Prelude.{is_none}
+use Rattle.std.proofs.Common.{◌≡◌, not, ◌&&◌, Option, List, [], ◌∷◌, ◌++◌, refl}
 use Rattle.std.specs.List.{flat_map}
 use Rattle.gql_source.specs.Span.{Span}
 use Rattle.gql_ast_base.specs.Names.{Named}
-use Rattle.gql_ast_base.specs.TypeParts.{named_type, is_non_null}
+use Rattle.gql_ast_base.specs.TypeParts.{named_type}
 use Rattle.gql_ast_definitions.specs.declared.field_definition.EnumValueDefinition.{EnumValueDefinition}
 use Rattle.gql_ast_definitions.specs.declared.field_definition.FieldDefinition.{FieldDefinition}
 use Rattle.gql_ast_definitions.specs.declared.field_definition.InputValueDefinition.{InputValueDefinition}
-use Rattle.gql_ast_definitions.specs.declared.schema_definition.DirectiveDefinition.{DirectiveDefinition}
 use Rattle.gql_ast_definitions.specs.declared.schema_definition.DirectiveLocation.TheVariants as at
-use Rattle.gql_diag_messages.specs.declared.diagnostic_data.DiagnosticData.{DiagnosticData}
 use Rattle.gql_diag_messages.specs.declared.rule.Rule.TheVariants as rule
 use Rattle.gql_print_laws.specs.Literal.{literal_in}
 use Rattle.gql_rules_types.specs.EmptyFieldSet.{empty_field_set}
@@ -33,7 +30,7 @@ use Rattle.gql_rules_types.specs.TypeRules.{name_faults, if_written, listed_name
 use Rattle.gql_rules_types.specs.UndefinedDefinition.{undefined_definition}
 use Rattle.gql_rules_types.specs.UnionMemberObjectType.{union_member_object_type}
 use Rattle.gql_rules_values.specs.Directives.{directive_faults}
-use Rattle.gql_rules_values.specs.Faults.{fault, name_fault}
+use Rattle.gql_rules_values.specs.Faults.{name_fault}
 use Rattle.gql_rules_values.specs.Written.{is_written}
 use Rattle.gql_rules_values.specs.declared.known.Defined.TheVariants.{TypesAndScalars}
 use Rattle.gql_schema_alike_laws.specs.Pairs.{Paired}
@@ -48,8 +45,6 @@ use Rattle.gql_schema_alike_laws.proofs.ValueRules.{lack_alike}
 use Rattle.gql_schema_types.specs.Types.{is_one_of}
 use Rattle.gql_schema_types.specs.declared.schema.Schema.{Schema}
 use Rattle.gql_schema_types.specs.declared.types.EnumType.{EnumType}
-use Rattle.gql_schema_types.specs.declared.types.ExtendedType.{ExtendedType}
-use Rattle.gql_schema_types.specs.declared.types.ExtendedType.TheVariants as type
 use Rattle.gql_schema_types.specs.declared.types.InputObjectType.{InputObjectType}
 use Rattle.gql_schema_types.specs.declared.types.InterfaceType.{InterfaceType}
 use Rattle.gql_schema_types.specs.declared.types.ObjectType.{ObjectType}

@@ -1,12 +1,12 @@
 -- Graphs whose walks are short: no node is on a cycle, and chains end.
-use Rattle.std.proofs.Common.{◌≡◌, ◌⊎◌, inl, inr, ℕ, zero, suc, ◌+◌, ◌<◌, nat_lt, Bool, true, false, ◌||◌, cond, if◌then◌else◌, Option, Some, None, List, [], ◌∷◌, ◌++◌, length, map, refl, sym, ap, ◌∙◌, subst, arith}
+use Rattle.std.proofs.Common.{◌≡◌, ◌⊎◌, inl, inr, ℕ, zero, suc, ◌<◌, nat_lt, Bool, true, false, ◌||◌, if◌then◌else◌, Some, List, [], ◌∷◌, refl, sym, ap, ◌∙◌, subst, arith}
 use Rattle.std.specs.List.{Contains, AllByRecursion, slice_get, list_any, flat_map}
-use Rattle.std.specs.Option.{unwrap_or}
 use Rattle.gql_graph.specs.Chains.{next_names, has_chain}
 use Rattle.gql_graph.specs.Cycles.{Reaches, at_once, along, IsOnCycle}
 use Rattle.gql_graph.specs.Graph.{Graph, row, HasEdge}
 use Rattle.gql_graph.proofs.Flooded.{Contains-cons_cases, none_contained}
 use Rattle.gql_graph.proofs.Walks.{reaches_more}
+use Rattle.gql_schema_alike_laws.proofs.Lists.{all_weaker, all_flat}
 
 -- ---- something holds of each item
 
@@ -22,22 +22,6 @@ pub all_at : {X : Type 0} (P : X → Type 0) (xs : List X) (v : ℕ) (x : X) →
 all_at P [] v x all is = absurd cc
 all_at P (y ∷ xs) zero x all is = let e : y ≡ x = cc in subst P e all.0
 all_at P (y ∷ xs) (suc v) x all is = all_at P xs v x all.1 is
-
-pub all_weaker : {X : Type 0} (P Q : X → Type 0) → ((x : X) → P x → Q x) → (xs : List X) → AllByRecursion P xs → AllByRecursion Q xs
-all_weaker P Q h [] all = tt
-all_weaker P Q h (x ∷ xs) all = (h x all.0, all_weaker P Q h xs all.1)
-
-pub all_append : {X : Type 0} (P : X → Type 0) (xs ys : List X) → AllByRecursion P xs → AllByRecursion P ys → AllByRecursion P (xs ++ ys)
-all_append P [] ys one two = two
-all_append P (x ∷ xs) ys one two = (one.0, all_append P xs ys one.1 two)
-
-pub all_mapped : {X Y : Type 0} (P : Y → Type 0) (f : X → Y) (xs : List X) → AllByRecursion (λ x. P (f x)) xs → AllByRecursion P (map f xs)
-all_mapped P f [] all = tt
-all_mapped P f (x ∷ xs) all = (all.0, all_mapped P f xs all.1)
-
-pub all_flat : {X Y : Type 0} (P : Y → Type 0) (f : X → List Y) (xs : List X) → AllByRecursion (λ x. AllByRecursion P (f x)) xs → AllByRecursion P (flat_map f xs)
-all_flat P f [] all = tt
-all_flat P f (x ∷ xs) all = all_append P (f x) (flat_map f xs) all.0 (all_flat P f xs all.1)
 
 pub none_of : {X : Type 0} (test : X → Bool) (xs : List X) → AllByRecursion (λ x. test x ≡ false) xs → list_any test xs ≡ false
 none_of test [] all = refl

@@ -16,18 +16,17 @@ use Rattle.gql_ast_base.specs.declared.value.ValueKind.TheOpen.{ValueKind-F}
 use Rattle.gql_ast_definitions.specs.declared.field_definition.InputValueDefinition.{InputValueDefinition}
 use Rattle.gql_ast_definitions.specs.declared.schema_definition.DirectiveDefinition.{DirectiveDefinition}
 use Rattle.gql_ast_definitions.specs.declared.schema_definition.DirectiveLocation.{DirectiveLocation}
-use Rattle.gql_ast_definitions.specs.declared.schema_definition.DirectiveLocation.TheVariants as at
 use Rattle.gql_ast_laws.specs.Printed.{unplaced}
 use Rattle.gql_diag_messages.specs.declared.diagnostic_data.DiagnosticData.{DiagnosticData}
 use Rattle.gql_print_laws.specs.Literal as lit
 use Rattle.gql_print_laws.specs.Literal.{Literal, literal_in}
 use Rattle.gql_rules_values.specs.Arguments.{argument_type, one_argument, argument_faults}
 use Rattle.gql_rules_values.specs.Directives.{undefined_use, defined_use, use_faults, directive_faults}
-use Rattle.gql_rules_values.specs.Faults.{fault, only_if}
+use Rattle.gql_rules_values.specs.Faults.{only_if}
 use Rattle.gql_rules_values.specs.IntCoercionError.{int_level, int_coercion_error}
 use Rattle.gql_rules_values.specs.Known.{is_known}
 use Rattle.gql_rules_values.specs.Literals.{keys_level, keys, at_type, at_defined, literal_faults}
-use Rattle.gql_rules_values.specs.RequiredArgument.{is_given, lacking, required_arguments}
+use Rattle.gql_rules_values.specs.RequiredArgument.{lacking, required_arguments}
 use Rattle.gql_rules_values.specs.TypeShape.{is_required}
 use Rattle.gql_rules_values.specs.UndefinedArgument.{defined, undefined_argument}
 use Rattle.gql_rules_values.specs.UndefinedEnumValue.{enum_level, undefined_enum_value}
@@ -43,7 +42,6 @@ use Rattle.gql_schema_alike_laws.specs.Uses.{said_argument, said_use, AreUses, t
 use Rattle.gql_schema_alike_laws.proofs.Tops.{top_of, kind_is}
 use Rattle.gql_schema_alike_laws.proofs.References.{name_unplaced, non_null_unplaced, out_Named, name_Named, name_NonNullNamed}
 use Rattle.gql_schema_types.specs.Entries.{entry}
-use Rattle.gql_schema_types.specs.Types.{type_called}
 use Rattle.gql_schema_types.specs.declared.types.ExtendedType.{ExtendedType}
 
 -- ---- lists of one item

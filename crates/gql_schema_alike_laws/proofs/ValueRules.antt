@@ -1,43 +1,40 @@
 -- What is wrong with a value by itself, in a schema and in one that tells it again.
-use Rattle.std.proofs.Common.{◌≡◌, ℕ, ◌-◌, Bool, true, false, not, ◌&&◌, ◌||◌, Option, Some, None, is_some, List, [], ◌∷◌, ◌++◌, length, map, codes, refl, sym, ap, ◌∙◌}
+use Rattle.std.proofs.Common.{◌≡◌, ℕ, ◌-◌, Bool, true, false, not, ◌&&◌, ◌||◌, Option, Some, None, is_some, List, [], ◌∷◌, ◌++◌, length, codes, refl, sym, ap, ◌∙◌}
 use Rattle.std.specs.Prelude.{is_none}
 use Rattle.std.specs.List.{slice_get, list_any, list_all}
 use Rattle.std.specs.Option.{option_map, option_map_or}
 use Rattle.std.specs.Str.{bytes_eq}
 use Rattle.gql_ast_base.specs.Names.{Named}
-use Rattle.gql_ast_base.specs.TypeParts.{named_type, item_type, is_non_null}
+use Rattle.gql_ast_base.specs.TypeParts.{named_type, item_type}
 use Rattle.gql_ast_base.specs.declared.type_ref.TypeRef.{TypeRef}
 use Rattle.gql_ast_base.specs.declared.value.Value.{Value}
 use Rattle.gql_ast_base.specs.declared.value.ValueKind.{out-ValueKind}
 use Rattle.gql_ast_base.specs.declared.value.ValueKind.TheOpen.{ValueKind-F}
-use Rattle.gql_ast_definitions.specs.declared.field_definition.EnumValueDefinition.{EnumValueDefinition}
 use Rattle.gql_ast_definitions.specs.declared.field_definition.InputValueDefinition.{InputValueDefinition}
 use Rattle.gql_ast_laws.specs.Printed.{unplaced}
-use Rattle.gql_diag_messages.specs.declared.diagnostic_data.DiagnosticData.{DiagnosticData}
 use Rattle.gql_diag_messages.specs.declared.rule.Rule.TheVariants as rule
 use Rattle.gql_print_laws.specs.Literal as lit
 use Rattle.gql_print_laws.specs.Literal.{Literal, literal_in}
-use Rattle.gql_rules_values.specs.Faults.{fault, only_if}
+use Rattle.gql_rules_values.specs.Faults.{fault}
 use Rattle.gql_rules_values.specs.IntCoercionError.{is_scalar, is_int_type, is_32_bits, int_level, int_coercion_error}
 use Rattle.gql_rules_values.specs.Literals.{keys_at, keys_level, keys, at_type}
-use Rattle.gql_rules_values.specs.OneOfValue.{has_one_key, are_called, null_level, is_null, ends_in_null, has_one_member, one_of_fault, one_of_value}
+use Rattle.gql_rules_values.specs.OneOfValue.{has_one_key, null_level, is_null, ends_in_null, has_one_member, one_of_fault, one_of_value}
 use Rattle.gql_rules_values.specs.RequiredField.{required_field, required_fields}
 use Rattle.gql_rules_values.specs.TypeShape.{is_required}
 use Rattle.gql_rules_values.specs.UndefinedEnumValue.{value_name, not_among, enum_level, undefined_enum_value}
 use Rattle.gql_rules_values.specs.UndefinedInputValue.{input_name, undefined_key, undefined_input_values}
 use Rattle.gql_rules_values.specs.UniqueInputValue.{key, key_place, unique_level, unique_keys}
-use Rattle.gql_rules_values.specs.UnsupportedValueType.{told, unsupported_value_type}
+use Rattle.gql_rules_values.specs.UnsupportedValueType.{unsupported_value_type}
 use Rattle.gql_rules_values.specs.ValueTypes.{form_level, form_of, scalar_accepts, type_accepts, accepts, fits}
 use Rattle.gql_schema_alike_laws.specs.Pairs.{Paired, Both}
-use Rattle.gql_schema_alike_laws.specs.Retold.{IsRetoldInput, IsRetoldInputField, IsRetoldValue, IsRetoldType, IsRetoldEnum, IsRetoldInputObject}
-use Rattle.gql_schema_alike_laws.proofs.Found.{by_kind, kind_alike, found_as, tested}
+use Rattle.gql_schema_alike_laws.specs.Retold.{IsRetoldInput, IsRetoldInputField, IsRetoldValue, IsRetoldType, IsRetoldInputObject}
+use Rattle.gql_schema_alike_laws.proofs.Found.{by_kind, kind_alike, found_as}
 use Rattle.gql_schema_alike_laws.proofs.Tops.{Level, HasTop, top_of, SameMember, same_members}
 use Rattle.gql_schema_alike_laws.proofs.Lists.{joined_alike, only_alike, told_alike, value_alike, some_alike, flat_alike, any_alike, find_alike, length_alike, get_alike, pairs_weaker}
 use Rattle.gql_schema_alike_laws.proofs.References.{non_null_alike, item_alike, name_alike}
 use Rattle.gql_schema_alike_laws.proofs.Seconds.{seconds_alike}
 use Rattle.gql_schema_types.specs.Entries.{entry, is_called}
 use Rattle.gql_schema_types.specs.Types.{type_called, is_one_of}
-use Rattle.gql_schema_types.specs.declared.types.EnumType.{EnumType}
 use Rattle.gql_schema_types.specs.declared.types.ExtendedType.{ExtendedType}
 use Rattle.gql_schema_types.specs.declared.types.InputObjectType.{InputObjectType}
 
@@ -65,9 +62,6 @@ all_alike R p q h [] [] pairs = refl
 all_alike R p q h (x ∷ xs) (y ∷ ys) pairs = λ i. h x y pairs.0 i && all_alike R p q h xs ys pairs.1 i
 all_alike R p q h [] (y ∷ ys) pairs = absurd pairs
 all_alike R p q h (x ∷ xs) [] pairs = absurd pairs
-
-abbrev SameInputName : InputValueDefinition → InputValueDefinition → Type 0
-SameInputName x y = x.name.text ≡ y.name.text
 
 pub input_found : (one other : List ℕ) (fields again : List InputValueDefinition) → one ≡ other → Paired IsRetoldInputField fields again
     → Both IsRetoldInputField (entry input_name one fields) (entry input_name other again)

@@ -1,6 +1,6 @@
 -- A schema that tells another one again: the same types and directives, places aside, with no uses of directives but those that tell what
 -- introspection shows. What no rule of section 3 of GraphQL October 2021 asks for, such as descriptions, may differ.
-use Rattle.std.specs.Prelude.{◌≡◌, ℕ, Bool, List, [], Option}
+use Rattle.std.specs.Prelude.{◌≡◌, ℕ, List, [], Option}
 use Rattle.std.specs.Option.{option_map}
 use Rattle.gql_ast_base.specs.Names.{Named}
 use Rattle.gql_ast_definitions.specs.declared.field_definition.EnumValueDefinition.{EnumValueDefinition}

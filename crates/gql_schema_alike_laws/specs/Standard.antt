@@ -27,9 +27,9 @@ abbrev pub said_parameter : InputValueDefinition → Parameter
 said_parameter argument = (argument.name.text, unplaced argument.ty)
 
 -- the first directive of a name may stand at these places, has these parameters, and no directive is used on any of them
-pub record HasDirective (definitions : List DirectiveDefinition) (name : List ℕ) (places : List DirectiveLocation) (parameters : List Parameter) : Type 0 where
+pub record HasDirective (known : List DirectiveDefinition) (name : List ℕ) (places : List DirectiveLocation) (parameters : List Parameter) : Type 0 where
   pub definition : DirectiveDefinition
-  pub is : entry directive_name name definitions ≡ Some definition
+  pub is : entry directive_name name known ≡ Some definition
   pub stands : AllByRecursion (λ place. allows definition.locations place ≡ true) places
   pub takes : map said_parameter definition.arguments ≡ parameters
   pub plain : AllByRecursion (λ argument. argument.directives ≡ []) definition.arguments
