@@ -17,3 +17,5 @@ mod Duplicates
 mod Retold
 mod ValidAgain
 mod StandardRows
+mod BuiltInParts
+mod PrintedAgain

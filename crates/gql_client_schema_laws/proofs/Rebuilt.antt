@@ -13,12 +13,12 @@ use Rattle.gql_client_schema_laws.specs.Parts.{said_definition, said_type, shown
 use Rattle.gql_client_schema_laws.specs.Shown.{Shows, Says, IsOwn, HasBuiltInNames, finished, unfinished, all_finished, is_own_name}
 use Rattle.gql_client_schema_laws.proofs.Names.{unmapped, none_repeats, stay_joined, distinct_of, all_new, all_put_distinct, texts_shown}
 use Rattle.gql_client_schema_laws.proofs.Definitions.{type_text, directive_text, is_own_directive, built_unextended, faults_unextended, extended_type, own_texts, are_own, all_unfinished, are_built_in, not_own_names, kept_own, none_redefined, all_kept, from_nowhere_already, kept_description}
-use Rattle.gql_client_schema_laws.proofs.Lists.{all_mapped, all_unmapped, flat_map_append, filter_none, filter_all, all_put_pass, distinct_both, entry_before}
+use Rattle.gql_client_schema_laws.proofs.Lists.{all_unmapped, flat_map_append, filter_none, filter_all, all_put_pass, distinct_both, entry_before}
 use Rattle.gql_client_schema_laws.proofs.OwnTypes.{said_name, own_of}
 use Rattle.gql_client_schema_laws.proofs.Parts.{HasDistinctParts, all_built_distinct, all_faultless, all_said_built}
 use Rattle.gql_client_schema_laws.proofs.Roots.{texts_of, with_said, all_free as free_from, no_roots as no_texts, made, said_all, none_doubled, listed, listed_free}
 use Rattle.gql_diag_messages.specs.declared.diagnostic_data.DiagnosticData.{DiagnosticData}
-use Rattle.gql_schema_alike_laws.proofs.Lists.{empty_left, empty_right}
+use Rattle.gql_schema_alike_laws.proofs.Lists.{empty_left, empty_right, all_mapped}
 use Rattle.gql_schema_build.specs.Build as build
 use Rattle.gql_schema_build.specs.Built.{built, part_faults}
 use Rattle.gql_schema_build.specs.BuiltInScalarTypeRedefinition.{built_in_scalar_type_redefinitions, without_redefinitions}
@@ -274,7 +274,7 @@ module _ (sources : Files) (built_in : BuiltIn) (first : TypeSystem) (own : IsOw
     abbrev with_roots : SchemaDefinition
     with_roots = fold with_root no_roots says.schema.root_operations
 
-    definition_again : (ts : List ExtendedType) → schema_definition user.schemas user.schema_extensions ts ≡ with_roots
+    pub definition_again : (ts : List ExtendedType) → schema_definition user.schemas user.schema_extensions ts ≡ with_roots
     definition_again ts =
         ap (λ schemas. schema_definition schemas user.schema_extensions ts) says.only
         ∙ ap (λ extensions. schema_definition (says.schema ∷ []) extensions ts) says.no_schema_extensions

@@ -1,5 +1,5 @@
 -- A schema of which the same is shown tells the other again, where it uses directives as they are printed.
-use Rattle.std.proofs.Common.{◌≡◌, ℕ, Bool, true, false, not, Option, Some, None, List, [], ◌∷◌, map, refl, sym, ap, ◌∙◌, subst}
+use Rattle.std.proofs.Common.{◌≡◌, Bool, not, Option, Some, None, List, [], ◌∷◌, map, refl, sym, ap, ◌∙◌, subst}
 use Rattle.std.specs.List.{AllByRecursion}
 use Rattle.std.specs.Option.{option_map}
 use Rattle.gql_ast.specs.ValueText.{value_text}
@@ -12,11 +12,11 @@ use Rattle.gql_ast_definitions.specs.declared.field_definition.EnumValueDefiniti
 use Rattle.gql_ast_definitions.specs.declared.field_definition.FieldDefinition.{FieldDefinition}
 use Rattle.gql_ast_definitions.specs.declared.field_definition.InputValueDefinition.{InputValueDefinition}
 use Rattle.gql_ast_definitions.specs.declared.schema_definition.DirectiveDefinition.{DirectiveDefinition}
-use Rattle.gql_client_schema_laws.specs.AsPrinted.{reason_of, IsDeprecated, InputUses, FieldUses, ValueUses, TypeUses, DirectiveUses, UsesAsPrinted, IsConstantValue, HasConstantDefault, HasConstantArguments, HasConstantParts, HasConstantParameters, AreConstantDefaults}
-use Rattle.gql_client_schema_laws.specs.Parts.{reference, references, deprecation_in, says_one_of, shown_input, shown_field, shown_enum_value, shown_directive, said_type}
+use Rattle.gql_client_schema_laws.specs.AsPrinted.{reason_of, InputUses, FieldUses, ValueUses, TypeUses, DirectiveUses, UsesAsPrinted, IsConstantValue, HasConstantDefault, HasConstantArguments, HasConstantParts, HasConstantParameters, AreConstantDefaults}
+use Rattle.gql_client_schema_laws.specs.Parts.{reference, references, deprecation_in, shown_input, shown_field, shown_enum_value, shown_directive, said_type}
 use Rattle.gql_client_schema_laws.specs.Settled.{FieldsAre, InputsAre}
 use Rattle.gql_client_schema_laws.specs.Shown.{Shows, unfinished}
-use Rattle.gql_client_schema_laws.specs.Throughout.{NameIs, NamesAre, ValuesAre, ScalarIs, ObjectIs, InterfaceIs, UnionIs, EnumIs, InputObjectIs, TypeIs, DirectiveIs, IsTypeThroughout, IsDirectiveThroughout, IsPlacedThroughout}
+use Rattle.gql_client_schema_laws.specs.Throughout.{NameIs, NamesAre, ValuesAre, TypeIs, DirectiveIs, IsTypeThroughout, IsDirectiveThroughout, IsPlacedThroughout}
 use Rattle.gql_client_schema_laws.proofs.LookUps.{all_unfinished}
 use Rattle.gql_client_schema_laws.proofs.Parts.{referred}
 use Rattle.gql_introspection.specs.Deprecation.{default_reason, specified_by}
@@ -25,7 +25,7 @@ use Rattle.gql_print_laws.specs.ReadBack.{IsValueOf, StandsFor}
 use Rattle.gql_print_laws.specs.Written.{IsConstant}
 use Rattle.gql_rules_values.specs.Written.{is_written}
 use Rattle.gql_schema_alike_laws.specs.Pairs.{Paired}
-use Rattle.gql_schema_alike_laws.specs.Retold.{IsRetoldName, IsRetoldInput, IsRetoldInputField, IsRetoldField, IsRetoldValue, IsRetoldScalar, IsRetoldObject, IsRetoldInterface, IsRetoldUnion, IsRetoldEnum, IsRetoldInputObject, IsRetoldType, IsRetoldDirective, IsRetold}
+use Rattle.gql_schema_alike_laws.specs.Retold.{IsRetoldName, IsRetoldInput, IsRetoldInputField, IsRetoldField, IsRetoldValue, IsRetoldType, IsRetoldDirective, IsRetold}
 use Rattle.gql_schema_types.specs.declared.schema.Schema.{Schema}
 use Rattle.gql_schema_types.specs.declared.types.ExtendedType.{ExtendedType}
 use Rattle.gql_schema_types.specs.declared.types.ExtendedType.TheVariants as type

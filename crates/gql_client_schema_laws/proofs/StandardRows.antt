@@ -1,5 +1,5 @@
 -- What is built of what a text says has what the standard builds in.
-use Rattle.std.proofs.Common.{◌≡◌, ℕ, true, List, [], ◌∷◌, ◌++◌, map, fold, codes, refl, sym, ap, subst, rules}
+use Rattle.std.proofs.Common.{◌≡◌, List, [], ◌∷◌, ◌++◌, map, fold, codes, refl, sym, ap, subst, rules}
 use Rattle.gql_ast_base.specs.Names.{Named}
 use Rattle.gql_ast_base.specs.Types.{non_null}
 use Rattle.gql_ast_base.specs.declared.type_ref.TypeRef.{TypeRef, the_lemmas}
@@ -10,7 +10,7 @@ use Rattle.gql_client_schema_laws.proofs.BuiltIns.{OneDocument, same_directives,
 use Rattle.gql_schema.proofs.Known.{SoundLaw, by_rows}
 use Rattle.gql_schema.specs.BuiltInSchema.{IsBuiltIn}
 use Rattle.gql_schema.specs.Rows as rows
-use Rattle.gql_schema_alike_laws.specs.Standard.{Parameter, IsStandard}
+use Rattle.gql_schema_alike_laws.specs.Standard.{IsStandard}
 use Rattle.gql_schema_build.specs.Built.{built}
 use Rattle.gql_schema_build.specs.DirectiveDefinitionCollision.{directive_name}
 use Rattle.gql_schema_build.specs.declared.built_in.BuiltIn.{BuiltIn}

@@ -1,5 +1,5 @@
 -- Where no rule finds a fault in a schema, none finds one in another of which the same is shown.
-use Rattle.std.proofs.Common.{◌≡◌, List, [], ◌++◌, refl, sym, ap, ◌∙◌}
+use Rattle.std.proofs.Common.{◌≡◌, List, [], ◌++◌, sym, ap, ◌∙◌}
 use Rattle.gql_ast_definitions.specs.declared.schema_definition.DirectiveLocation.TheVariants as at
 use Rattle.gql_client_schema_laws.specs.AsPrinted.{UsesAsPrinted, AreConstantDefaults}
 use Rattle.gql_client_schema_laws.specs.Shown.{Shows}

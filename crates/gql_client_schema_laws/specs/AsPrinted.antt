@@ -1,5 +1,5 @@
 -- A schema as printing leaves it: no uses of directives but those that tell what introspection shows, and defaults that are constant.
-use Rattle.std.specs.Prelude.{◌≡◌, ℕ, List, [], Option, Some, None}
+use Rattle.std.specs.Prelude.{ℕ, List, [], Option, Some, None}
 use Rattle.std.specs.List.{AllByRecursion}
 use Rattle.std.specs.Option.{option_map}
 use Rattle.gql_ast_base.specs.declared.directive.Directive.{Directive}

@@ -7,3 +7,4 @@ pub mod Settled
 pub mod Proper
 pub mod Throughout
 pub mod AsPrinted
+pub mod PrintedDefinitions

@@ -14,6 +14,7 @@ ghost use Rattle.gql_client_schema_laws.specs.Alike.{FindAlike};
 ghost use Rattle.gql_client_schema_laws.specs.AsPrinted.{AreConstantDefaults, UsesAsPrinted};
 ghost use Rattle.gql_client_schema_laws.specs.Given as given;
 ghost use Rattle.gql_client_schema_laws.specs.Answer.{Pairs, data_value};
+ghost use Rattle.gql_client_schema_laws.specs.PrintedDefinitions.{AreAsPrinted};
 ghost use Rattle.gql_client_schema_laws.specs.Proper.{IsProper};
 ghost use Rattle.gql_client_schema_laws.specs.Settled.{IsPlaced, settled};
 ghost use Rattle.gql_client_schema_laws.specs.Shown as spec;
@@ -122,18 +123,20 @@ pub fn shown_schemas_stay_valid()
 /// Definitions that say what is shown of a schema in which no rule of section 3 of GraphQL October 2021 finds a fault build one in which
 /// none finds a fault.
 ///
-/// The first schema is built without a fault of definitions and extensions of nothing built in. Both are placed as texts place them, their
-/// defaults are constant, and the definitions use directives only to tell what is shown, as printing does.
+/// The first schema is built without a fault of definitions and extensions of nothing built in, is placed as texts place schemas, and has
+/// constant defaults. The other definitions stand in other files than the built-in one, have constant defaults, and use directives only to
+/// tell what is shown, as printing does. What is built in is such by itself.
 pub fn rebuilt_schemas_stay_valid()
     ensures { (sources files : Files) (built_in : BuiltIn) (first user : TypeSystem) (shown : ShownSchema)
         → IsBuiltIn built_in → spec.IsOwn first → build_faults false built_in first ≡ []
         → spec.Shows (built sources false built_in first) shown → spec.Says (default_reason (built sources false built_in first)) user shown
-        → IsPlacedThroughout (built sources false built_in first) → IsPlacedThroughout (built files false built_in user)
-        → AreConstantDefaults (built sources false built_in first) → AreConstantDefaults (built files false built_in user)
-        → UsesAsPrinted (built files false built_in user)
+        → IsPlacedThroughout (built sources false built_in first) → AreConstantDefaults (built sources false built_in first)
+        → AreAsPrinted (default_reason (built files false built_in user)) user
         → (faults told : List DiagnosticData) → AreSchemaFaults (built sources false built_in first) faults
         → AreSchemaFaults (built files false built_in user) told → faults ≡ [] → told ≡ [] }
 {
+    grammar_laws::factored_is_declared();
+    tree_laws::texts_have_one_document();
     built_in_definitions_have_known_names();
     rebuilt_definitions_show_the_same();
     rebuilt_schemas_have_the_standard();
