@@ -1,5 +1,5 @@
 -- What the program writes for a request.
-use Rattle.std.proofs.Common.{◌≡◌, ℕ, List, Result, Ok, Err, IfOk, refl, sym, ap, ◌∙◌, subst}
+use Rattle.std.proofs.Common.{◌≡◌, Result, Ok, Err, IfOk, refl, sym, ap, ◌∙◌, subst}
 use Rattle.gql_engine.specs.Reply.{wanted_of}
 use Rattle.gql_engine.specs.Responding.{HasCauseOf}
 use Rattle.gql_engine.specs.Serving.{IsDoneOutput, IsOutput, IsRefusedOutput}

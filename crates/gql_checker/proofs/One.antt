@@ -1,5 +1,5 @@
 -- Where a response is explained, it has no other verdict: what is wanted is ready in one way.
-use Rattle.std.proofs.Common.{◌≡◌, ℕ, Bool, true, false, List, Option, Some, Result, Ok, Err, refl, sym, ap, ◌∙◌, subst}
+use Rattle.std.proofs.Common.{◌≡◌, ℕ, Bool, true, false, List, Some, Result, Ok, Err, refl, sym, ap, ◌∙◌, subst}
 use Rattle.gql_check_laws.specs.Judgement.{IsJudgementOn, Judgement, bad_value, false_error, is_explained}
 use Rattle.gql_document_types.specs.declared.document.ExecutableDocument.{ExecutableDocument}
 use Rattle.gql_document_types.specs.declared.operation.Operation.{Operation}

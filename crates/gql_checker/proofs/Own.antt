@@ -6,7 +6,7 @@ use Rattle.jb_print.specs.Compact.{compact}
 use Rattle.jb_read.specs.Texts.{text_value}
 use Rattle.jb_read.specs.declared.fault.ReadFault.{ReadFault}
 use Rattle.jb_tree.specs.declared.value.Value.{Value}
-use Rattle.gql_check_laws.specs.Judgement.{false_error, is_explained}
+use Rattle.gql_check_laws.specs.Judgement.{is_explained}
 use Rattle.gql_document_types.specs.declared.document.ExecutableDocument.{ExecutableDocument}
 use Rattle.gql_document_types.specs.declared.operation.Operation.{Operation}
 use Rattle.gql_document_types.specs.declared.selection.Selection.{Selection}
