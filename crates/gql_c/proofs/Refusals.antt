@@ -7,7 +7,7 @@ use Rattle.gql_c.specs.Outcomes.{IsRefusal, IsRefusedWith}
 use Rattle.gql_c.specs.Replies.{HoldsReply}
 use Rattle.gql_c.specs.Schemas.{Reads, TellsRefusal}
 use Rattle.gql_c.specs.declared.held.Held.{Held}
-use Rattle.gql_c.specs.declared.held.Held.TheVariants.{Schema, Query, Data, Reply}
+use Rattle.gql_c.specs.declared.held.Held.TheVariants.{Schema, Query, Data, Reply, Answers}
 use Rattle.gql_c.specs.declared.outcome.Outcome.{Outcome}
 use Rattle.gql_c.specs.declared.outcome.Outcome.TheVariants.{Answered, Refused, NoMemory, WrongHandle, Unread}
 
@@ -17,6 +17,7 @@ holds_more P Q more (Schema service) wrong = absurd wrong
 holds_more P Q more (Query query) wrong = absurd wrong
 holds_more P Q more (Data members) wrong = absurd wrong
 holds_more P Q more (Reply bytes) holds = more bytes holds
+holds_more P Q more (Answers table) wrong = absurd wrong
 
 -- the JSON of a refusal that has this cause
 pub refusal_reads : (Holds : Held → Type 0) (Cause : AnswerError → Type 0) (refusal : AnswerError) (outcome : Outcome)

@@ -45,7 +45,7 @@ held_send = variants_send held.enum (
     (search (sendable, crosses, query_send, query_sync) depth 60 fits 20000, tt),
     (
       (search (sendable, crosses, json_send, json_sync, pairs.the_send, pairs.the_sync) depth 60 fits 20000, tt),
-      ((search (sendable, crosses, bytes.the_send) depth 60 fits 20000, tt), tt),
+      ((search (sendable, crosses, bytes.the_send) depth 60 fits 20000, tt), ((search (sendable, crosses, json_send, pairs.the_send) depth 60 fits 20000, tt), tt)),
     ),
   ),
 )

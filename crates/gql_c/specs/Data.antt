@@ -8,7 +8,7 @@ use Rattle.jb_tree.specs.Value.{object_members}
 use Rattle.gql_engine.specs.AnswerError.{IsNoObject, IsObjectText}
 use Rattle.gql_engine.specs.Wanted.{Members}
 use Rattle.gql_c.specs.declared.held.Held.{Held}
-use Rattle.gql_c.specs.declared.held.Held.TheVariants.{Schema, Query, Data, Reply}
+use Rattle.gql_c.specs.declared.held.Held.TheVariants.{Schema, Query, Data, Reply, Answers}
 use Rattle.gql_c.specs.declared.outcome.Outcome.{Outcome}
 use Rattle.gql_c.specs.declared.outcome.Outcome.TheVariants.{Answered, Refused, NoMemory, WrongHandle, Unread}
 
@@ -18,6 +18,7 @@ HoldsData Holds (Schema service) = ⊥
 HoldsData Holds (Query query) = ⊥
 HoldsData Holds (Data members) = Holds (arc_value members)
 HoldsData Holds (Reply bytes) = ⊥
+HoldsData Holds (Answers table) = ⊥
 
 -- the bytes are no JSON text, or one of another value than an object
 pub data IsNoData (bytes : List ℕ) : Type 0 where

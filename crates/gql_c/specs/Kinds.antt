@@ -9,7 +9,7 @@ use Rattle.gql_engine.specs.AtHand.{TwoTexts}
 use Rattle.gql_c.specs.Queries.{IsTextsDocument}
 use Rattle.gql_c.specs.Requests.{IsNameRead, IsNoName, name_given}
 use Rattle.gql_c.specs.declared.held.Held.{Held}
-use Rattle.gql_c.specs.declared.held.Held.TheVariants.{Schema, Query, Data, Reply}
+use Rattle.gql_c.specs.declared.held.Held.TheVariants.{Schema, Query, Data, Reply, Answers}
 use Rattle.gql_c.specs.declared.operation_kind.Choice.{Choice}
 use Rattle.gql_c.specs.declared.operation_kind.Choice.TheVariants as choice
 use Rattle.gql_c.specs.declared.status.TheConstants.{ANSWERED, NO_MEMORY, REFUSED, UNREAD, WRONG_HANDLE}
@@ -53,6 +53,7 @@ IsChoice (Some (Schema service)) name flags told = told ≡ choice.WrongHandle
 IsChoice (Some (Query query)) name flags told = IsChoiceNamed (arc_value query) name flags told
 IsChoice (Some (Data members)) name flags told = told ≡ choice.WrongHandle
 IsChoice (Some (Reply reply)) name flags told = told ≡ choice.WrongHandle
+IsChoice (Some (Answers table)) name flags told = told ≡ choice.WrongHandle
 
 -- a choice of which this holds is told by the status and the number of the kind
 pub record TellsKind (Holds : Choice → Type 0) (status kind : ℕ) : Type 0 where

@@ -10,3 +10,5 @@ pub mod Replies
 pub mod Requests
 pub mod Schemas
 pub mod Shares
+pub mod Steps
+pub mod Tables

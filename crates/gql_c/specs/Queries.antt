@@ -12,7 +12,7 @@ use Rattle.gql_engine.specs.declared.answer_error.AnswerError.{AnswerError}
 use Rattle.gql_engine.specs.declared.answer_error.AnswerError.TheVariants as error
 use Rattle.gql_c.specs.Schemas.{Reads}
 use Rattle.gql_c.specs.declared.held.Held.{Held}
-use Rattle.gql_c.specs.declared.held.Held.TheVariants.{Schema, Query, Data, Reply}
+use Rattle.gql_c.specs.declared.held.Held.TheVariants.{Schema, Query, Data, Reply, Answers}
 use Rattle.gql_c.specs.declared.outcome.Outcome.{Outcome}
 use Rattle.gql_c.specs.declared.outcome.Outcome.TheVariants.{WrongHandle, Unread}
 
@@ -35,6 +35,7 @@ HoldsQuery schema text (Schema service) = ⊥
 HoldsQuery schema text (Query query) = IsOfTexts schema text (arc_value query)
 HoldsQuery schema text (Data members) = ⊥
 HoldsQuery schema text (Reply bytes) = ⊥
+HoldsQuery schema text (Answers table) = ⊥
 
 -- of a text against the schema of this text: the query that it means, or what is wrong with it
 abbrev pub ReadsQueryText : (schema text : List ℕ) → Outcome → Type 0
@@ -52,3 +53,4 @@ ReadsQuery (Some (Schema service)) bytes outcome = ReadsQueryBytes (arc_value se
 ReadsQuery (Some (Query query)) bytes outcome = outcome ≡ WrongHandle
 ReadsQuery (Some (Data members)) bytes outcome = outcome ≡ WrongHandle
 ReadsQuery (Some (Reply reply)) bytes outcome = outcome ≡ WrongHandle
+ReadsQuery (Some (Answers table)) bytes outcome = outcome ≡ WrongHandle

@@ -9,7 +9,7 @@ use Rattle.gql_engine.specs.declared.answer_error.AnswerError.{AnswerError}
 use Rattle.gql_engine.specs.declared.answer_error.AnswerError.TheVariants as error
 use Rattle.gql_c.specs.Replies.{HoldsReply}
 use Rattle.gql_c.specs.declared.held.Held.{Held}
-use Rattle.gql_c.specs.declared.held.Held.TheVariants.{Schema, Query, Data, Reply}
+use Rattle.gql_c.specs.declared.held.Held.TheVariants.{Schema, Query, Data, Reply, Answers}
 use Rattle.gql_c.specs.declared.outcome.Outcome.{Outcome}
 use Rattle.gql_c.specs.declared.outcome.Outcome.TheVariants.{Answered, Refused, NoMemory, WrongHandle, Unread}
 
@@ -33,6 +33,7 @@ HoldsSchema text (Schema service) = IsOfText text (arc_value service)
 HoldsSchema text (Query query) = ⊥
 HoldsSchema text (Data members) = ⊥
 HoldsSchema text (Reply bytes) = ⊥
+HoldsSchema text (Answers table) = ⊥
 
 -- of a text: a value of which this holds, or the JSON of a refusal that has this cause
 abbrev pub Reads : (Held → Type 0) → (AnswerError → Type 0) → Outcome → Type 0

@@ -109,7 +109,7 @@ fn execute(
 }
 
 /// The reply to a request that is answered so.
-fn reply_with(alloc: Global, answer: Result<Bytes, AnswerError>) -> Outcome
+pub(crate) fn reply_with(alloc: Global, answer: Result<Bytes, AnswerError>) -> Outcome
     ensures { IsToldAs answer result }
 {
     match answer {

@@ -3,6 +3,7 @@
 use crate::query::Query;
 use bytes::Bytes;
 use gql_engine::{Map, Service};
+use gql_rounds::Answers;
 use std::sync::Arc;
 
 /// What a handle can hold. Handles that share a value count it together, and none changes it.
@@ -16,4 +17,6 @@ pub enum Held {
     Data(Arc<Map>),
     /// Bytes for the caller.
     Reply(Bytes),
+    /// Answers to what the steps of a request ask. They alone are changed, by the call that adds to them.
+    Answers(Answers),
 }

@@ -5,6 +5,7 @@ ghost use Rattle.gql_c.specs.Executions.{GivesOver, call_to};
 ghost use Rattle.gql_c.specs.Queries.{IsTextsDocument};
 ghost use Rattle.gql_document_types.specs.ChosenOperation.{text_of};
 ghost use Rattle.gql_engine.specs.Service.{IsPreparationOf};
+ghost use Rattle.gql_rounds.specs.Rounds.{GivesRound};
 
 use bytes::Bytes;
 use gql_engine::{
@@ -12,6 +13,7 @@ use gql_engine::{
     Text, Valid, document_of_text,
 };
 use gql_parser::laws;
+use gql_rounds::{Answers, Round, step};
 use std::alloc::Global;
 use std::marker::Model;
 use std::sync::Arc;
@@ -94,5 +96,25 @@ impl Query {
             introspection,
         };
         self.service.answer_document(alloc, &self.document, &question, &DataObject::root(members))
+    }
+
+    /// One step of a request to the query, with these answers: what they leave to be asked, or the response.
+    pub(crate) fn step(
+        &self,
+        alloc: Global,
+        operation_name: Option<&str>,
+        variables: &Bytes,
+        introspection: bool,
+        answers: &Answers,
+    ) -> Result<Round, AnswerError>
+        ensures { GivesRound answers.now (call_to self.now (text_of operation_name.entry) variables.now introspection) result }
+    {
+        let question = Question {
+            query: self.text.as_str(),
+            operation_name,
+            variables,
+            introspection,
+        };
+        step(alloc, &self.service, &self.document, &question, answers)
     }
 }

@@ -53,6 +53,6 @@ fn share(alloc: Global, held: &Held) -> Outcome
             Ok(data) => Outcome::answered(alloc, Held::Data(data)),
             Err(_) => Outcome::NoMemory,
         },
-        Held::Reply(_) => Outcome::WrongHandle,
+        Held::Reply(_) | Held::Answers(_) => Outcome::WrongHandle,
     }
 }
