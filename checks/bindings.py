@@ -2,7 +2,7 @@
 """Builds the C library and the bindings from what the gate has left, and runs their tests: bindings/build, then
 
 - the calls in C, plain, under valgrind, and with AddressSanitizer; with each allocation refused in turn, alone and with all after it;
-  values that eight threads share and handles that go from one to another, also under helgrind; the example;
+  values that eight threads share and handles that go from one to another, also under helgrind; the examples;
 - the package for Python: its tests, from its folder and from the wheel; the wheel's mock server, asked one query;
 - the package for Node, and the one for Go; the code on docs/BINDINGS.md;
 - the worked requests of checks/tables/ and examples/ through C, through Python and through resolvers in Python, whose bytes are those
@@ -65,6 +65,7 @@ def run_c(folder):
     """The tests in C, each plain and with AddressSanitizer, and under valgrind those that count no blocks themselves."""
     programs = {
         "calls": ["tests/calls.c", "heap.c"],
+        "steps": ["tests/steps.c", "heap.c"],
         "refused_memory": ["tests/refused_memory.c", "tests/counted_heap.c"],
         "refused_service": ["tests/refused_service.c", "tests/counted_heap.c"],
         "threads": ["tests/threads.c", "heap.c"],
@@ -85,8 +86,8 @@ def run_c(folder):
             try_command(f"{name} with AddressSanitizer", [watched])
 
 
-def run_example(folder):
-    """The example over the shared library, by its file for pkg-config if that command is here."""
+def run_examples(folder):
+    """The examples over the shared library, by its file for pkg-config if that command is here."""
     out = BINDINGS / "out"
     words = ["-I", out / "include", "-L", out / "lib", "-lgql"]
     if shutil.which("pkg-config") is None:
@@ -100,10 +101,11 @@ def run_example(folder):
             env=os.environ | {"PKG_CONFIG_PATH": str(out / "lib" / "pkgconfig")},
         )
         words = asked.stdout.split()
-    made = try_command("cc example", [CC, *STRICT, BINDINGS / "c" / "example.c", *words, "-o", folder / "example"])
-    if made.returncode == 0:
-        run = try_command("example", [folder / "example"], env=os.environ | {"LD_LIBRARY_PATH": str(out / "lib")})
-        expect("the answer of the example", run.stdout == b'{"data":{"book":{"title":"Emma","year":1815}}}\n')
+    for name in ("example", "example_steps"):
+        made = try_command(f"cc {name}", [CC, *STRICT, BINDINGS / "c" / f"{name}.c", *words, "-o", folder / name])
+        if made.returncode == 0:
+            run = try_command(name, [folder / name], env=os.environ | {"LD_LIBRARY_PATH": str(out / "lib")})
+            expect(f"the answer of {name}", run.stdout == b'{"data":{"book":{"title":"Emma","year":1815}}}\n')
 
 
 def expect(name, holds):
@@ -302,7 +304,7 @@ def main():
     with tempfile.TemporaryDirectory() as room:
         folder = pathlib.Path(room)
         run_c(folder)
-        run_example(folder)
+        run_examples(folder)
         run_python(folder)
         run_node()
         run_go()

@@ -1,6 +1,6 @@
 /* GraphQL requests answered, from bytes to bytes: the C interface of Sunwaket.
  *
- * A handle holds one value of the library: a schema, a query, data, or a reply. It is a struct of one pointer that the caller owns
+ * A handle holds one value of the library: a schema, a query, data, answers, or a reply. It is a struct of one pointer that the caller owns
  * (on the stack, in a struct, in an array), and all bits zero is a handle that holds nothing. A call that makes a value puts it into a
  * handle and lets go of what that held before; gql_free lets go of it and leaves the handle empty.
  *
@@ -21,6 +21,17 @@
  * Threads: a handle may go from one thread to another, whatever it holds. The caller orders that by a lock, by the start or the join of a
  * thread, or by a sequentially consistent atomic. To use one value in several threads at once, each has a handle of its own by gql_share,
  * which copies nothing: no call changes a schema, a query or data.
+ *
+ * Resolvers of the caller's own go by steps. The caller keeps its objects and gives each a number; 0 is the one that an operation begins
+ * at. gql_step tells all at once what is asked of them beyond the answers so far, so that a caller may resolve it together, and the
+ * response once nothing is asked. There are no more rounds than selection sets are nested:
+ *
+ *     gql_handle answers = GQL_EMPTY;
+ *     while ((status = gql_step(&query, &answers, NULL, 0, NULL, 0, 0, &reply)) == GQL_ASKS) {
+ *         .. resolve each item of the reply ..
+ *         status = gql_answers_add(&answers, text, strlen(text));
+ *     }
+ *     gql_free(&answers);
  */
 #ifndef GQL_H
 #define GQL_H
@@ -44,8 +55,9 @@ enum gql_status {
     GQL_REFUSED = 1,      /* The text or the request is refused: the reply tells why. */
     GQL_NO_MEMORY = 3,    /* Memory ran out. */
     GQL_WRONG_HANDLE = 8, /* A handle holds nothing, or another kind of value than the call takes. */
-    GQL_UNREAD = 9,       /* Bytes are no UTF-8, or, as data, no JSON text of an object. */
-    GQL_TOO_COSTLY = 10   /* An operation costs more than the limit: the reply says so. */
+    GQL_UNREAD = 9,       /* Bytes are no UTF-8, or, as data, no JSON text of an object, or tell no answers. */
+    GQL_TOO_COSTLY = 10,  /* An operation costs more than the limit: the reply says so. */
+    GQL_ASKS = 11         /* A step of a request asks: the reply tells what. */
 };
 
 /* Bits of `flags`. */
@@ -85,6 +97,29 @@ uint32_t gql_data_new(const uint8_t *text, size_t length, gql_handle *data);
 uint32_t gql_execute(gql_handle *query, gql_handle *data, const uint8_t *name, size_t name_length, const uint8_t *variables,
                      size_t variables_length, uint32_t flags, gql_handle *reply);
 
+/* One step of a request to a query whose resolvers are the caller's, with `answers` so far; a handle that holds nothing is no answer yet.
+ * `name`, `variables` and `flags` are those of gql_execute. ASKS: `reply` has a JSON list, never an empty one, of all that can be asked
+ * with these answers, each once:
+ *
+ *     {"object":7,"type":"Book","field":"author","arguments":{"first":2}}
+ *
+ * Answer all of it by gql_answers_add, and step again with the same query, name, variables and flags. ANSWERED: `reply` has the response.
+ * REFUSED and UNREAD as gql_execute, at the first step whatever was answered. WRONG_HANDLE also where `answers` holds something else. */
+uint32_t gql_step(gql_handle *query, gql_handle *answers, const uint8_t *name, size_t name_length, const uint8_t *variables,
+                  size_t variables_length, uint32_t flags, gql_handle *reply);
+
+/* Adds answers to those that `answers` holds; a handle that holds nothing comes to hold them. The text is a JSON list, nested at most 127
+ * deep, whose numbers are whole:
+ *
+ *     {"object":7,"field":"author","arguments":{"first":2},"value":{"object":8,"type":"Author"}}
+ *
+ * Arguments may be left out where there are none, and are else those that were asked, in their order; other members are not looked at. A
+ * value is JSON. At an object, an interface or a union type `{"object":8,"type":"Author"}` is the caller's object 8; at a list an array is
+ * a list of such values; {"__error":"text"} is a failure of the field. Of two answers to one ask the first stays. UNREAD: the text tells no
+ * answers; then, and where it tells WRONG_HANDLE, `answers` holds what it held. NO_MEMORY: some of the answers may have been added; the
+ * same text may be added again. */
+uint32_t gql_answers_add(gql_handle *answers, const uint8_t *text, size_t length);
+
 /* The kind of the operation that gql_execute would execute, into `kind`. REFUSED, and GQL_NO_OPERATION, where there is none. */
 uint32_t gql_operation_kind(gql_handle *query, const uint8_t *name, size_t name_length, uint32_t flags, uint32_t *kind);
 
@@ -99,7 +134,7 @@ uint32_t gql_operation_cost(gql_handle *query, const uint8_t *name, size_t name_
  * the reports of the first text that something is wrong with, a line for each place: `schema.graphql:2:9: here`. */
 uint32_t gql_check(const uint8_t *schema, size_t schema_length, const uint8_t *query, size_t query_length, gql_handle *reply);
 
-/* Has `to` hold the same value as `from`: a schema, a query or data. WRONG_HANDLE for a reply. */
+/* Has `to` hold the same value as `from`: a schema, a query or data. WRONG_HANDLE for a reply and for answers. */
 uint32_t gql_share(gql_handle *from, gql_handle *to);
 
 /* Lets go of what a handle holds, if it holds anything. */

@@ -41,4 +41,9 @@ static inline bool is_empty(gql_handle *handle) {
 #define BOOK_TITLE "{\"title\":\"Emma\"}"
 #define BOOK_ANSWER "{\"data\":{\"book\":{\"title\":\"Emma\",\"year\":1815}}}"
 
+/* The same by steps: what is asked first, its answer, and all answers. */
+#define BOOK_ASKS "[{\"object\":0,\"type\":\"Query\",\"field\":\"book\",\"arguments\":{\"title\":\"Emma\"}}]"
+#define BOOK_FIRST "{\"object\":0,\"field\":\"book\",\"arguments\":{\"title\":\"Emma\"},\"value\":{\"object\":1,\"type\":\"Book\"}}"
+#define BOOK_TOLD "[" BOOK_FIRST ",{\"object\":1,\"field\":\"title\",\"value\":\"Emma\"},{\"object\":1,\"field\":\"year\",\"value\":1815}]"
+
 #endif

@@ -3,11 +3,28 @@
 #include "check.h"
 #include "refusing.h"
 
-static gql_handle schema, query, data, share, reply;
+static gql_handle schema, query, data, share, answers, reply;
 
 /* Whether a call that needs these told a status that want of memory explains. */
 static bool is_right(uint32_t status, uint32_t usual, bool has_all) {
     return status == GQL_NO_MEMORY || status == (has_all ? usual : GQL_WRONG_HANDLE);
+}
+
+/* The same request by steps. What was refused while answers were added may be added again, whatever of it was added. */
+static void steps(void) {
+    uint32_t status = gql_step(&query, &answers, NOTHING, TEXT(BOOK_TITLE), 0, &reply);
+    CHECK(is_right(status, GQL_ASKS, !is_empty(&query)));
+    CHECK(status == GQL_ASKS ? says(&reply, BOOK_ASKS) : is_empty(&reply));
+    status = gql_answers_add(&answers, TEXT("[" BOOK_FIRST "]"));
+    CHECK(is_right(status, GQL_ANSWERED, true) && is_empty(&answers) == (status != 0));
+    status = gql_answers_add(&answers, TEXT(BOOK_TOLD));
+    CHECK(is_right(status, GQL_ANSWERED, true));
+    status = gql_answers_add(&answers, TEXT(BOOK_TOLD));
+    CHECK(is_right(status, GQL_ANSWERED, true));
+    bool is_told = status == GQL_ANSWERED;
+    status = gql_step(&query, &answers, NOTHING, TEXT(BOOK_TITLE), 0, &reply);
+    CHECK(is_right(status, GQL_ANSWERED, !is_empty(&query)) || (status == GQL_ASKS && !is_told));
+    CHECK(status == GQL_ANSWERED ? says(&reply, BOOK_ANSWER) : is_empty(&reply) == (status != GQL_ASKS));
 }
 
 /* One request. */
@@ -36,11 +53,13 @@ static void request(void) {
     CHECK(is_right(statuses[8], GQL_ANSWERED, !is_empty(&query)) && is_empty(&reply) && cost == (statuses[8] == 0 ? 4 : 0));
     statuses[9] = gql_operation_cost(&query, NOTHING, 0, &narrow, &cost, &reply);
     CHECK(is_right(statuses[9], GQL_TOO_COSTLY, !is_empty(&query)) && is_empty(&reply) == (statuses[9] != GQL_TOO_COSTLY) && cost == 0);
+    steps();
     left = -1;
     gql_free(&schema);
     gql_free(&query);
     gql_free(&data);
     gql_free(&share);
+    gql_free(&answers);
     gql_free(&reply);
 }
 

@@ -7,7 +7,7 @@
 #define OTHER_TITLE "{\"title\":\"Persuasion\"}"
 #define TYPE_QUERY "query ($title: String!) { book(title: $title) { title } __type(name: \"Book\") { fields { name type { kind } } } }"
 
-static gql_handle schema, query, type_query, data, reply, made;
+static gql_handle schema, query, type_query, data, answers, few, reply, made;
 
 /* A call that is refused memory, and what it tells where it is not. */
 struct call {
@@ -52,6 +52,30 @@ static uint32_t tell_kind(void) {
     return status;
 }
 
+static uint32_t step(void) {
+    return gql_step(&query, &answers, NOTHING, TEXT(BOOK_TITLE), 0, &reply);
+}
+
+static uint32_t step_with_few(void) {
+    return gql_step(&query, &few, NOTHING, TEXT(BOOK_TITLE), 0, &reply);
+}
+
+static uint32_t step_without_title(void) {
+    return gql_step(&query, &answers, NOTHING, TEXT("{\"title\":null}"), 0, &reply);
+}
+
+static uint32_t add_answers(void) {
+    return gql_answers_add(&made, TEXT(BOOK_TOLD));
+}
+
+static uint32_t add_again(void) {
+    return gql_answers_add(&answers, TEXT(BOOK_TOLD));
+}
+
+static uint32_t add_wrong(void) {
+    return gql_answers_add(&answers, TEXT("[" BOOK_FIRST ",1]"));
+}
+
 static const struct call calls[] = {
     { "execute", execute, GQL_ANSWERED, BOOK_ANSWER },
     { "introspect", introspect, GQL_ANSWERED,
@@ -65,12 +89,21 @@ static const struct call calls[] = {
       "{\"errors\":[{\"message\":\"type `Query` does not have a field `nope`\",\"locations\":[{\"line\":1,\"column\":3}]}]}" },
     { "share", share, GQL_ANSWERED, NULL },
     { "tell a kind", tell_kind, GQL_REFUSED, NULL },
+    { "step", step, GQL_ANSWERED, BOOK_ANSWER },
+    { "step with few answers", step_with_few, GQL_ASKS,
+      "[{\"object\":1,\"type\":\"Book\",\"field\":\"title\",\"arguments\":{}},{\"object\":1,\"type\":\"Book\",\"field\":\"year\",\"arguments\":{}}]" },
+    { "step without a title", step_without_title, GQL_REFUSED,
+      "{\"errors\":[{\"message\":\"null value for variable title of non-null type String!\"}]}" },
+    { "add answers", add_answers, GQL_ANSWERED, NULL },
+    { "add answers again", add_again, GQL_ANSWERED, NULL },
+    { "add no answers", add_wrong, GQL_UNREAD, NULL },
 };
 
 /* The first request, and the third. */
 static void answer_as_ever(void) {
     CHECK(gql_execute(&query, &data, NOTHING, TEXT(BOOK_TITLE), 0, &reply) == GQL_ANSWERED);
     CHECK(says(&reply, BOOK_ANSWER));
+    CHECK(step() == GQL_ANSWERED && says(&reply, BOOK_ANSWER));
     gql_free(&reply);
 }
 
@@ -113,6 +146,8 @@ int main(void) {
     CHECK(gql_query_new(&schema, TEXT(BOOK_QUERY), &query, &reply) == GQL_ANSWERED);
     CHECK(gql_query_new(&schema, TEXT(TYPE_QUERY), &type_query, &reply) == GQL_ANSWERED);
     CHECK(gql_data_new(TEXT(BOOK_DATA), &data) == GQL_ANSWERED);
+    CHECK(gql_answers_add(&answers, TEXT(BOOK_TOLD)) == GQL_ANSWERED);
+    CHECK(gql_answers_add(&few, TEXT("[" BOOK_FIRST "]")) == GQL_ANSWERED);
     for (int with_rest = 0; with_rest < 2; with_rest++) {
         all_after = with_rest == 1;
         for (size_t at = 0; at < sizeof calls / sizeof calls[0]; at++) {
@@ -123,6 +158,8 @@ int main(void) {
     gql_free(&query);
     gql_free(&type_query);
     gql_free(&data);
+    gql_free(&answers);
+    gql_free(&few);
     CHECK(live == 0 && refused[0] > 100 && refused[1] > 100);
     printf("refused_service: ok, %ld allocations refused alone, %ld with all after them\n", refused[0], refused[1]);
     return 0;

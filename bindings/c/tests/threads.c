@@ -31,8 +31,8 @@ static void *run(void *at) {
 /* What threads hand on: under the lock a handle is one thread's at a time. */
 static struct {
     pthread_mutex_t lock;
-    gql_handle schema, query, data, reply;
-} passed = {PTHREAD_MUTEX_INITIALIZER, GQL_EMPTY, GQL_EMPTY, GQL_EMPTY, GQL_EMPTY};
+    gql_handle schema, query, data, answers, reply;
+} passed = {PTHREAD_MUTEX_INITIALIZER, GQL_EMPTY, GQL_EMPTY, GQL_EMPTY, GQL_EMPTY, GQL_EMPTY};
 
 static void *pass(void *at) {
     (void)at;
@@ -45,10 +45,14 @@ static void *pass(void *at) {
             gql_free(&passed.schema);
         } else if (is_empty(&passed.data)) {
             CHECK(gql_data_new(TEXT(BOOK_DATA), &passed.data) == GQL_ANSWERED);
-        } else {
+        } else if (is_empty(&passed.answers)) {
             CHECK(gql_execute(&passed.query, &passed.data, NOTHING, TEXT(BOOK_TITLE), 0, &passed.reply) == GQL_ANSWERED);
+            CHECK(gql_answers_add(&passed.answers, TEXT(BOOK_TOLD)) == GQL_ANSWERED);
+        } else {
+            CHECK(gql_step(&passed.query, &passed.answers, NOTHING, TEXT(BOOK_TITLE), 0, &passed.reply) == GQL_ANSWERED);
             gql_free(&passed.query);
             gql_free(&passed.data);
+            gql_free(&passed.answers);
         }
         CHECK(is_empty(&passed.reply) || says(&passed.reply, BOOK_ANSWER));
         pthread_mutex_unlock(&passed.lock);
@@ -86,6 +90,7 @@ int main(void) {
     gql_free(&passed.schema);
     gql_free(&passed.query);
     gql_free(&passed.data);
+    gql_free(&passed.answers);
     gql_free(&passed.reply);
     puts("threads: ok");
     return 0;
