@@ -7,7 +7,7 @@ use Rattle.gql_rounds.specs.declared.answers_json.AnswersFault.{AnswersFault}
 use Rattle.gql_c.specs.declared.answers_add.Adding.{Adding}
 use Rattle.gql_c.specs.declared.answers_add.Adding.TheVariants.{Added, NoMemory, WrongHandle, Unread}
 use Rattle.gql_c.specs.declared.held.Held.{Held}
-use Rattle.gql_c.specs.declared.held.Held.TheVariants.{Schema, Query, Data, Reply, Answers}
+use Rattle.gql_c.specs.declared.held.Held.TheVariants.{Answers}
 use Rattle.gql_c.specs.declared.status.TheConstants.{ANSWERED, NO_MEMORY, UNREAD, WRONG_HANDLE}
 
 -- what was told: values by the texts that they are found by
