@@ -25,7 +25,7 @@ from shared.trying import ROOT
 BINDINGS = ROOT / "bindings"
 LACKING = 3
 PATIENCE = 1800
-PYTHON_TESTS = ["tests.test_sunwaket", "tests.test_resolvers"]
+PYTHON_TESTS = ["tests.test_sunwaket", "tests.test_resolvers", "tests.test_rounds"]
 CC = os.environ.get("CC", "cc")
 STRICT = ["-std=c11", "-O1", "-g", "-Wall", "-Wextra", "-Werror"]
 HELGRIND = ["valgrind", "--quiet", "--tool=helgrind", "--error-exitcode=9"]
