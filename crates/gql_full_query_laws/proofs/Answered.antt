@@ -1,5 +1,5 @@
 -- What the full query is answered with on a schema.
-use Rattle.std.proofs.Common.{◌≡◌, ℕ, zero, suc, Bool, true, false, Option, Some, None, List, [], ◌∷◌, codes, refl, sym, ap, ap₂, ◌∙◌, subst}
+use Rattle.std.proofs.Common.{◌≡◌, ℕ, zero, suc, Option, Some, None, List, [], ◌∷◌, codes, refl, ap, ◌∙◌, subst}
 use Rattle.std.specs.Option.{option_and_then}
 use Rattle.gql_ast_base.specs.Names.{Named}
 use Rattle.gql_client_schema.specs.Answers.{IsAnsweredWith}
@@ -8,14 +8,13 @@ use Rattle.gql_client_schema_laws.specs.Parts.{said_type}
 use Rattle.gql_client_schema_laws.specs.Given.{why}
 use Rattle.gql_client_schema_laws.specs.Shown.{Shows}
 use Rattle.gql_document_types.specs.Ranks.{AreRanked}
-use Rattle.gql_document_types.specs.declared.document.ExecutableDocument.{ExecutableDocument}
 use Rattle.gql_document_types.specs.declared.operation.Operation.{Operation}
 use Rattle.gql_document_types.specs.declared.selection.Selection.{Selection}
 use Rattle.gql_exec.proofs.Depths.{one_more, any-depth}
 use Rattle.gql_exec.specs.Partial.{request_of_schema}
 use Rattle.gql_exec.specs.Thing.{Thing, of_user}
 use Rattle.gql_exec_fields.specs.Group.{Group}
-use Rattle.gql_exec_fields.specs.Response.{IsExecuted, response_at}
+use Rattle.gql_exec_fields.specs.Response.{IsExecuted}
 use Rattle.gql_full_query_laws.specs.Data.{IsData}
 use Rattle.gql_full_query_laws.specs.FullQuery as full
 use Rattle.gql_full_query_laws.specs.Introspection.{HasIntrospection}
@@ -25,7 +24,6 @@ use Rattle.gql_full_query_laws.proofs.Lookups.{its_name, its_kind}
 use Rattle.gql_full_query_laws.proofs.Making.{all_made, world}
 use Rattle.gql_full_query_laws.proofs.References.{raised}
 use Rattle.gql_full_query_laws.proofs.SchemaSet.{root-executed, schema-shown}
-use Rattle.gql_introspection.specs.Meta.{Meta}
 use Rattle.gql_resolvers.specs.Depth.{Suffices}
 use Rattle.gql_resolvers.specs.Execute.{Made, Member, execute}
 use Rattle.gql_resolvers.specs.World.{World}

@@ -1,33 +1,28 @@
 -- The arguments of the full query's fields are coerced.
-use Rattle.std.proofs.Common.{rules, ◌≡◌, ℕ, zero, suc, Bool, true, false, ◌&&◌, ◌∷◌, [], if◌then◌else◌, Option, Some, None, is_some, Result, Ok, List, codes, refl, sym, ap, ◌∙◌}
-use Rattle.std.specs.Str.{bytes_eq}
+use Rattle.std.proofs.Common.{rules, ◌≡◌, ℕ, Bool, true, false, ◌∷◌, [], Option, Some, Ok, List, codes, ap, ◌∙◌}
 use Rattle.gql_ast_base.specs.Names.{Named}
 use Rattle.gql_ast_base.specs.TypeParts.{named_type}
-use Rattle.gql_ast_base.specs.declared.directive.Argument.{Argument}
 use Rattle.gql_ast_base.specs.declared.type_ref.TypeRef.{TypeRef, the_lemmas as type_lemmas}
 use Rattle.gql_ast_base.specs.declared.type_ref.TypeRef.TheVariants as ref
 use Rattle.gql_ast_base.specs.declared.value.Value.{Value}
-use Rattle.gql_ast_base.specs.declared.value.ValueKind.{ValueKind, out-ValueKind, the_lemmas}
+use Rattle.gql_ast_base.specs.declared.value.ValueKind.{out-ValueKind, the_lemmas}
 use Rattle.gql_ast_base.specs.declared.value.ValueKind.TheOpen.{ValueKind-F}
 use Rattle.gql_ast_base.specs.declared.value.ValueKind.TheVariants as kind
 use Rattle.gql_ast_definitions.specs.declared.field_definition.InputValueDefinition.{InputValueDefinition}
-use Rattle.gql_coerce.specs.Arguments.{coerced_arguments, argument_value, argument_given, by_kind, first_named, literal_argument}
+use Rattle.gql_coerce.specs.Arguments.{coerced_arguments, argument_value, argument_given, by_kind, first_named}
 use Rattle.gql_coerce.specs.Filled.{Members, filled, with_value}
-use Rattle.gql_coerce.specs.InputTypes.{field_name, as_input_object}
-use Rattle.gql_coerce.specs.LiteralValue.{coerced_literal, literal_within, literal_level, literal_leaf, at_type, depth, depth_of}
+use Rattle.gql_coerce.specs.InputTypes.{field_name}
+use Rattle.gql_coerce.specs.LiteralValue.{coerced_literal, literal_within, literal_level, at_type, depth}
 use Rattle.gql_coerce.specs.Outcome.{Outcome, and_then, mapped, told_as}
 use Rattle.gql_coerce.specs.Subject.{argument_words}
 use Rattle.gql_coerce.specs.Told.{argument_fault}
-use Rattle.gql_coerce.specs.Translation.{translated, translated_kind}
+use Rattle.gql_coerce.specs.Translation.{translated}
 use Rattle.gql_coerce.specs.Wrapped.{wrap}
-use Rattle.gql_coerce.specs.declared.told.ArgumentFault.{ArgumentFault}
 use Rattle.gql_full_query_laws.specs.Asked.{arguments_at, deprecated_too}
-use Rattle.gql_full_query_laws.specs.Introspection.{Takes, TakesDeprecated, HasScalar, plain, RefersAs}
+use Rattle.gql_full_query_laws.specs.Introspection.{Takes, HasScalar, plain, RefersAs}
 use Rattle.gql_full_query_laws.proofs.Fits.{its_name}
 use Rattle.gql_schema_types.specs.Types.{type_called}
 use Rattle.gql_schema_types.specs.declared.schema.Schema.{Schema}
-use Rattle.gql_schema_types.specs.declared.types.ExtendedType.{ExtendedType}
-use Rattle.gql_schema_types.specs.declared.types.ExtendedType.TheVariants as type
 use Rattle.jb_tree.specs.declared.value.Value.{Value as JsonValue}
 use Rattle.jb_tree.specs.declared.value.Value.TheVariants as json
 

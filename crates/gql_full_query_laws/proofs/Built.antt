@@ -1,5 +1,5 @@
 -- What the full query builds against a schema.
-use Rattle.std.proofs.Common.{rules, ◌≡◌, ℕ, ◌+◌, Bool, true, false, cond, if◌then◌else◌, Option, Some, None, is_some, List, [], ◌∷◌, ◌++◌, map, refl, sym, ap, ap₂, ◌∙◌, subst}
+use Rattle.std.proofs.Common.{rules, ◌≡◌, ℕ, ◌+◌, Bool, false, if◌then◌else◌, Option, Some, None, List, [], ◌∷◌, ◌++◌, map, refl, sym, ap, ap₂, ◌∙◌}
 use Rattle.std.specs.Prelude.{length}
 use Rattle.std.specs.List.{flat_map}
 use Rattle.std.specs.Option.{option_map_or, unwrap_or}
@@ -10,14 +10,14 @@ use Rattle.gql_ast_definitions.specs.declared.selection.Field.{Field as WrittenF
 use Rattle.gql_ast_definitions.specs.declared.selection.FragmentSpread.{FragmentSpread}
 use Rattle.gql_ast_definitions.specs.declared.selection.Selection.{Selection as Written, the_lemmas}
 use Rattle.gql_ast_definitions.specs.declared.selection.Selection.TheVariants as ast
-use Rattle.gql_document.specs.BuiltSelections.{Makes, makes_of, field_step, field_made, is_selected_leaf, set_of, spread_of, built_set}
+use Rattle.gql_document.specs.BuiltSelections.{Makes, makes_of, field_step, field_made, is_selected_leaf, spread_of, built_set}
 use Rattle.gql_document.specs.Nodes.{is_nonempty}
 use Rattle.gql_document_types.specs.declared.selection.Selection.{Selection}
 use Rattle.gql_document_types.specs.declared.selection.Selection.TheVariants as selection
 use Rattle.gql_document_types.specs.declared.selection.SelectionSet.{SelectionSet}
 use Rattle.gql_full_query_laws.specs.Asked.{Asked, asks_nothing, asks_field, asks_fragment, name_at, place, arguments_at, written}
 use Rattle.gql_full_query_laws.specs.Built.{AreDefinedOn}
-use Rattle.gql_full_query_laws.specs.Selected.{field_with, definition_in, selected}
+use Rattle.gql_full_query_laws.specs.Selected.{definition_in, selected}
 use Rattle.gql_schema_types.specs.MetaFields.{type_name_field}
 use Rattle.gql_schema_types.specs.Schemas.{field_of}
 use Rattle.gql_schema_types.specs.declared.schema.Schema.{Schema}

@@ -1,14 +1,13 @@
 -- The built-in types are there as the standard defines them, in a schema that has them as they are built in.
-use Rattle.std.proofs.Common.{◌≡◌, ℕ, Bool, true, false, is_some, Some, List, [], ◌∷◌, slice_get, codes, refl, ap, ◌∙◌}
+use Rattle.std.proofs.Common.{◌≡◌, ℕ, Bool, true, false, Some, List, slice_get, codes, refl, ap, ◌∙◌}
 use Rattle.std.specs.List.{AllByRecursion}
 use Rattle.std.proofs.lemmas.Bool.{false≢true}
 use Rattle.gql_ast_definitions.specs.Schemas.{location_name}
-use Rattle.gql_ast_definitions.specs.declared.field_definition.EnumValueDefinition.{EnumValueDefinition}
 use Rattle.gql_ast_definitions.specs.declared.schema_definition.DirectiveLocation.{DirectiveLocation}
 use Rattle.gql_ast_definitions.specs.declared.schema_definition.DirectiveLocation.TheVariants as at
 use Rattle.gql_ast_laws.proofs.Found.{the, is_found}
 use Rattle.gql_coerce.specs.InputTypes.{is_enum_value}
-use Rattle.gql_full_query_laws.specs.Introspection.{FieldRow, HasField, HasObject, HasScalar, HasEnum, HasIntrospection, schema_rows, type_rows, field_rows, input_rows, value_rows, directive_rows, kind_names}
+use Rattle.gql_full_query_laws.specs.Introspection.{FieldRow, HasField, HasObject, HasScalar, HasEnum, schema_rows, type_rows, field_rows, input_rows, value_rows, directive_rows, kind_names}
 use Rattle.gql_full_query_laws.proofs.BuiltInFields.{name_of, has-field, takes-deprecated, rows_computed}
 use Rattle.gql_schema.proofs.Known.{by_rows}
 use Rattle.gql_schema_build.specs.Built.{built}

@@ -1,12 +1,12 @@
 -- All that the full query asks for is defined on a schema with introspection.
-use Rattle.std.proofs.Common.{◌≡◌, ℕ, zero, suc, ◌+◌, Bool, true, false, ◌&&◌, Option, Some, List, [], map, codes, refl, sym, ap, ◌∙◌, subst}
+use Rattle.std.proofs.Common.{◌≡◌, ℕ, zero, suc, ◌+◌, Bool, true, false, ◌&&◌, Some, List, map, codes, refl, sym, ap, ◌∙◌, subst}
 use Rattle.std.specs.Option.{option_map_or}
 use Rattle.gql_ast_base.specs.Names.{Named}
 use Rattle.gql_ast_base.specs.TypeParts.{named_type}
 use Rattle.gql_ast_definitions.specs.declared.field_definition.FieldDefinition.{FieldDefinition}
 use Rattle.gql_document.specs.BuiltSelections.{is_selected_leaf, makes_of}
 use Rattle.gql_document.specs.Nodes.{is_nonempty, is_leaf}
-use Rattle.gql_full_query_laws.specs.Asked.{Asked, asks_nothing, asks_field, asks_fragment, written}
+use Rattle.gql_full_query_laws.specs.Asked.{Asked, asks_nothing, asks_fragment, written}
 use Rattle.gql_full_query_laws.specs.Built.{AreDefinedOn}
 use Rattle.gql_full_query_laws.specs.FullQuery as full
 use Rattle.gql_full_query_laws.specs.Introspection.{required, RefersAs, HasField, HasObject, FieldRow, HasIntrospection}

@@ -1,15 +1,14 @@
 -- The document that the full query builds against a schema.
-use Rattle.std.proofs.Common.{◌≡◌, ℕ, Bool, true, false, if◌then◌else◌, Option, Some, None, is_some, List, [], ◌∷◌, ◌++◌, codes, refl, sym, ap, ◌∙◌}
+use Rattle.std.proofs.Common.{◌≡◌, ℕ, true, if◌then◌else◌, Option, Some, is_some, List, [], ◌∷◌, ◌++◌, codes, refl, ap, ◌∙◌}
 use Rattle.std.specs.Option.{option_map_or}
 use Rattle.gql_ast.specs.declared.definition.Definition.{Definition}
-use Rattle.gql_ast.specs.declared.document.Document.{Document}
 use Rattle.gql_ast_base.specs.Names.{Named}
 use Rattle.gql_ast_definitions.specs.declared.operation.FragmentDefinition.{FragmentDefinition}
 use Rattle.gql_ast_laws.specs.Meant.{IsDocumentOf}
 use Rattle.gql_client_schema.specs.Query.{full_query}
 use Rattle.gql_document.specs.Build.{built_operations, built_fragments, built_fragment, fragment_on as fragment_built_on, operation_on}
 use Rattle.gql_document.specs.BuiltSelections.{built_set}
-use Rattle.gql_document.specs.Builders.{Taken, built}
+use Rattle.gql_document.specs.Builders.{built}
 use Rattle.gql_document.specs.FragmentNameCollision.{first_fragments}
 use Rattle.gql_document.specs.Nodes.{is_defined}
 use Rattle.gql_document.specs.OperationNameCollision.{first_operations}

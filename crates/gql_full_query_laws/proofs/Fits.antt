@@ -1,15 +1,15 @@
 -- What introspection answers fits the types of its fields.
-use Rattle.std.proofs.Common.{◌≡◌, ℕ, Bool, true, false, cond, if◌then◌else◌, Option, Some, None, is_some, List, codes, refl, sym, ap, ap₂, ◌∙◌}
-use Rattle.std.specs.Option.{option_and_then, option_map_or}
+use Rattle.std.proofs.Common.{◌≡◌, ℕ, Bool, true, false, if◌then◌else◌, Option, Some, None, is_some, List, codes, refl, ap, ◌∙◌}
+use Rattle.std.specs.Option.{option_map_or}
 use Rattle.std.specs.Str.{bytes_eq}
 use Rattle.std.proofs.lemmas.Slice.Eq.{bytes_eq-Decides}
 use Rattle.gql_ast_base.specs.TypeParts.{named_type, is_non_null}
 use Rattle.gql_ast_base.specs.declared.type_ref.TypeRef.{TypeRef}
 use Rattle.gql_ast_definitions.specs.declared.field_definition.EnumValueDefinition.{EnumValueDefinition}
 use Rattle.gql_coerce.specs.InputTypes.{is_enum_value}
-use Rattle.gql_full_query_laws.specs.Introspection.{Form, plain, required, formed, RefersAs, HasObject, HasScalar, HasEnum, FieldRow}
+use Rattle.gql_full_query_laws.specs.Introspection.{Form, RefersAs, HasObject, HasScalar, HasEnum, FieldRow}
 use Rattle.gql_full_query_laws.proofs.Forms.{named-formed, null-formed, many-formed, takes_null, is_many, null-null, text-not_null, truth-not_null, text-text, truth-truth}
-use Rattle.gql_resolvers.specs.Fit.{leaf_misfit, leaf_misfit_at, leaf_at, list_misfit, object_misfit, object_at, scalar_misfit, enum_misfit, null_misfit, unless, wrong}
+use Rattle.gql_resolvers.specs.Fit.{leaf_misfit, leaf_at, list_misfit, object_misfit, object_at, null_misfit, unless, wrong}
 use Rattle.gql_resolvers.specs.Lists.{is_list}
 use Rattle.gql_resolvers.specs.Messages as message
 use Rattle.gql_resolvers.specs.Resolved.{Misfit}
@@ -18,7 +18,7 @@ use Rattle.gql_schema_types.specs.Types.{type_called}
 use Rattle.gql_schema_types.specs.declared.schema.Schema.{Schema}
 use Rattle.gql_schema_types.specs.declared.types.ExtendedType.{ExtendedType}
 use Rattle.gql_schema_types.specs.declared.types.ExtendedType.TheVariants as type
-use Rattle.jb_tree.specs.Value.{is_null, string_text, truth_value}
+use Rattle.jb_tree.specs.Value.{is_null}
 use Rattle.jb_tree.specs.declared.value.Value.{Value}
 use Rattle.jb_tree.specs.declared.value.Value.TheVariants as json
 

@@ -1,5 +1,5 @@
 -- References to types and values, one level at a time.
-use Rattle.std.proofs.Common.{rules, ◌≡◌, ℕ, Bool, true, false, List, Some, None, is_some, ap, ◌∙◌}
+use Rattle.std.proofs.Common.{rules, ◌≡◌, ℕ, Bool, true, false, List, Some, ap, ◌∙◌}
 use Rattle.gql_ast_base.specs.Names.{Named}
 use Rattle.gql_ast_base.specs.TypeParts.{named_type, is_non_null}
 use Rattle.gql_ast_base.specs.declared.type_ref.TypeRef.{TypeRef, out-TypeRef, List as ListOf, NonNullList, the_lemmas as type_lemmas}
@@ -8,9 +8,8 @@ use Rattle.gql_ast_base.specs.declared.type_ref.TypeRef.TheVariants as ref
 use Rattle.gql_full_query_laws.specs.Introspection.{Form, plain, required, list, required_list, formed}
 use Rattle.gql_resolvers.specs.Lists.{is_list}
 use Rattle.gql_resolvers.specs.Types.{item_type, item_level}
-use Rattle.jb_tree.specs.Value.{is_null, string_text, truth_value, text_at, truth_at, null_at}
-use Rattle.jb_tree.specs.declared.value.Value.{Value, out-Value, the_lemmas as value_lemmas}
-use Rattle.jb_tree.specs.declared.value.Value.TheOpen.{Value-F}
+use Rattle.jb_tree.specs.Value.{is_null, string_text, truth_value}
+use Rattle.jb_tree.specs.declared.value.Value.{the_lemmas as value_lemmas}
 use Rattle.jb_tree.specs.declared.value.Value.TheVariants as json
 
 -- ---- references

@@ -1,5 +1,5 @@
 -- Whatever the full query is answered with, it is what is shown.
-use Rattle.std.proofs.Common.{◌≡◌, ℕ, Option, Some, List, [], ◌∷◌, codes, refl, ap, ◌∙◌, subst}
+use Rattle.std.proofs.Common.{◌≡◌, ℕ, Option, Some, [], ◌∷◌, codes, ap, ◌∙◌, subst}
 use Rattle.gql_ast_base.specs.Names.{Named}
 use Rattle.gql_client_schema.specs.Answers.{IsQueryOn, IsAnsweredWith, GivesAgain}
 use Rattle.gql_client_schema_laws.specs.Answer.{data_value, schema_value}

@@ -1,11 +1,9 @@
 -- What is made of an input value.
-use Rattle.std.proofs.Common.{◌≡◌, ℕ, zero, suc, ◌+◌, Bool, true, false, Option, Some, None, is_some, List, [], ◌∷◌, map, codes, refl, sym, ap, ap₂, ◌∙◌, subst}
+use Rattle.std.proofs.Common.{◌≡◌, ℕ, suc, ◌+◌, true, false, Option, Some, None, is_some, List, [], ◌∷◌, codes, refl, ap, ◌∙◌}
 use Rattle.std.specs.Prelude.{length}
 use Rattle.std.specs.List.{AllByRecursion}
 use Rattle.gql_ast_base.specs.Names.{Named}
 use Rattle.gql_ast_base.specs.TypeParts.{named_type}
-use Rattle.gql_ast_base.specs.declared.type_ref.TypeRef.{TypeRef}
-use Rattle.gql_ast_laws.specs.Printed.{unplaced}
 use Rattle.gql_ast_definitions.specs.declared.field_definition.InputValueDefinition.{InputValueDefinition}
 use Rattle.gql_client_schema_laws.specs.Answer.{Pairs, text_or_null, kind_among, reference_pairs, deprecation_pairs, is_deprecated, reason_in}
 use Rattle.gql_client_schema_laws.specs.Parts.{shown_input}

@@ -1,11 +1,10 @@
 -- A schema whose text extends nothing built in has the types of introspection as they are built in.
-use Rattle.std.proofs.Common.{◌≡◌, ℕ, Bool, true, false, not, ◌||◌, cond, filter, Option, Some, List, [], ◌∷◌, ◌++◌, codes, refl, sym, ap, ◌∙◌, subst}
+use Rattle.std.proofs.Common.{◌≡◌, ℕ, Bool, true, false, cond, filter, Some, List, [], ◌∷◌, ◌++◌, codes, refl, sym, ap, ◌∙◌, subst}
 use Rattle.std.specs.List.{AllByRecursion}
 use Rattle.std.specs.Str.{bytes_eq}
 use Rattle.std.proofs.lemmas.Slice.Eq.{bytes_eq-Decides}
 use Rattle.gql_ast.specs.declared.definition.Definition.{Definition}
 use Rattle.gql_ast.specs.declared.document.Document.{Document}
-use Rattle.gql_ast_laws.specs.Meant.{IsDocumentOf}
 use Rattle.gql_client_schema_laws.specs.Shown.{is_own_name}
 use Rattle.gql_full_query_laws.specs.Introspection.{HasIntrospection}
 use Rattle.gql_full_query_laws.specs.OwnText.{IsOwnText}
@@ -36,7 +35,6 @@ use Rattle.gql_schema_types.proofs.Entries.{entry-front, joined-first}
 use Rattle.gql_schema_types.specs.Entries.{entry, is_called}
 use Rattle.gql_schema_types.specs.Types.{type_called}
 use Rattle.gql_schema_types.specs.declared.schema.Schema.{Schema}
-use Rattle.gql_schema_types.specs.declared.types.ExtendedType.{ExtendedType}
 use Rattle.std.proofs.Common.{fold}
 
 -- extensions of what is not built in leave what is built in as it is

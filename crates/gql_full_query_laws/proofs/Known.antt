@@ -5,7 +5,7 @@ use Rattle.std.specs.Str.{IsAscii}
 use Rattle.std.proofs.lemmas.Bool.{ltb-true}
 use Rattle.std.proofs.lemmas.List.Sums.{AllPass-from_list_all}
 use Rattle.std.proofs.lemmas.Str.Ascii.{IsAscii-from_all}
-use Rattle.gql_ast.specs.Documents.{definitions, definition_of, choice_of, executable_definition_of, schema_definition_of, type_definition_of, extension_of}
+use Rattle.gql_ast.specs.Documents.{definition_of, choice_of, executable_definition_of, schema_definition_of, type_definition_of, extension_of}
 use Rattle.gql_ast_base.specs.Directives.{directives, directive_of, arguments, argument_of}
 use Rattle.gql_ast_base.specs.Kinds.{is_kind}
 use Rattle.gql_ast_base.specs.NamedTypes.{named_type_of, named_type_in}

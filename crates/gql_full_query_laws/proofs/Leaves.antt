@@ -1,27 +1,25 @@
 -- What is made of fields that answer with leaves, objects and lists.
-use Rattle.std.proofs.Common.{◌≡◌, ℕ, Bool, true, false, Option, Some, None, List, [], ◌∷◌, map, codes, refl, sym, ap, ◌∙◌}
-use Rattle.std.specs.List.{AllByRecursion}
+use Rattle.std.proofs.Common.{◌≡◌, ℕ, Bool, true, false, Option, Some, None, List, [], ◌∷◌, codes, refl, ap, ◌∙◌}
 use Rattle.gql_ast_base.specs.Names.{Named}
 use Rattle.gql_ast_base.specs.declared.type_ref.TypeRef.{TypeRef}
 use Rattle.gql_ast_definitions.specs.declared.field_definition.EnumValueDefinition.{EnumValueDefinition}
-use Rattle.gql_client_schema_laws.specs.Answer.{Pairs, text_or_null, list_value}
+use Rattle.gql_client_schema_laws.specs.Answer.{text_or_null}
 use Rattle.gql_coerce.specs.InputTypes.{is_enum_value}
 use Rattle.gql_document_types.specs.Ranks.{AreRanked}
 use Rattle.gql_document_types.specs.declared.selection.Selection.{Selection}
 use Rattle.gql_exec_fields.specs.Group.{Group}
-use Rattle.gql_full_query_laws.specs.Introspection.{Form, plain, required, RefersAs, HasObject, HasEnum, HasField, FieldRow, row, row_with, HasIntrospection}
+use Rattle.gql_full_query_laws.specs.Introspection.{Form, plain, RefersAs, HasEnum, HasField, FieldRow, row, HasIntrospection}
 use Rattle.gql_full_query_laws.specs.Selected.{full_fragments}
 use Rattle.gql_full_query_laws.proofs.Arguments.{given}
 use Rattle.gql_full_query_laws.proofs.Fits.{null-fits, text-fits, truth-fits, word-fits}
 use Rattle.gql_full_query_laws.proofs.Forms.{is_many, takes_null}
-use Rattle.gql_full_query_laws.proofs.Making.{Run, Sets, Makes, Completes, EachItem, SetMade, IsOrdinary, the_field, world, completes, field-makes, object-completes, list-completes, objects-each, item-refers}
+use Rattle.gql_full_query_laws.proofs.Making.{Run, Makes, EachItem, IsOrdinary, the_field, world, completes, field-makes, list-completes}
 use Rattle.gql_full_query_laws.proofs.Sets.{single}
-use Rattle.gql_introspection.specs.Answers.{null_leaf, text_leaf, truth_leaf, text_or_null as text_or_null_leaf, all_of, objects, texts}
-use Rattle.gql_introspection.specs.Meta.{Meta, type_name_of}
+use Rattle.gql_introspection.specs.Answers.{null_leaf, text_leaf, truth_leaf, text_or_null as text_or_null_leaf, all_of}
+use Rattle.gql_introspection.specs.Meta.{Meta}
 use Rattle.gql_introspection.specs.MetaMeaning.{meta_row}
-use Rattle.gql_resolvers.specs.Execute.{execute}
-use Rattle.gql_resolvers.specs.Resolved.{Meaning, gives_leaf, gives_object, gives_list}
-use Rattle.gql_resolvers.specs.Spot.{Spot, item_spot}
+use Rattle.gql_resolvers.specs.Resolved.{Meaning, gives_leaf, gives_list}
+use Rattle.gql_resolvers.specs.Spot.{Spot}
 use Rattle.gql_resolvers.specs.Trail.{Trail}
 use Rattle.gql_schema_types.specs.declared.schema.Schema.{Schema}
 use Rattle.gql_schema_types.specs.declared.types.ObjectType.{ObjectType}

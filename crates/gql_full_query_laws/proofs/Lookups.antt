@@ -1,5 +1,5 @@
 -- What is found by name has the name, and is shown as it is.
-use Rattle.std.proofs.Common.{◌≡◌, ℕ, Bool, true, false, cond, if◌then◌else◌, Option, Some, None, List, [], ◌∷◌, map, refl, sym, ap, ◌∙◌}
+use Rattle.std.proofs.Common.{◌≡◌, ℕ, Bool, true, false, cond, if◌then◌else◌, Option, Some, List, [], ◌∷◌, map, refl, sym, ap, ◌∙◌}
 use Rattle.std.specs.List.{find, filter}
 use Rattle.std.specs.Option.{option_map, option_map_or}
 use Rattle.std.specs.Str.{bytes_eq}
@@ -12,7 +12,6 @@ use Rattle.gql_schema_types.specs.Types.{type_called, type_name}
 use Rattle.gql_schema_types.specs.declared.types.ExtendedType.{ExtendedType}
 use Rattle.gql_schema_types.specs.declared.types.ExtendedType.TheVariants as type
 use Rattle.gql_sdl.specs.declared.shown.ShownType.{ShownType}
-use Rattle.gql_sdl.specs.declared.shown.TypeKind.{TypeKind}
 use Rattle.gql_sdl.specs.declared.shown.TypeKind.TheVariants.{Scalar}
 
 some : {X : Type 0} (a b : X) → Some a ≡ Some b → a ≡ b

@@ -1,5 +1,5 @@
 -- What is made of the fields of an object of introspection, each by itself.
-use Rattle.std.proofs.Common.{◌≡◌, ℕ, zero, suc, ◌+◌, Bool, true, false, ◌||◌, ◌&&◌, cond, if◌then◌else◌, Option, Some, None, Ok, List, [], ◌∷◌, ◌++◌, map, codes, refl, sym, ap, ap₂, ◌∙◌, subst}
+use Rattle.std.proofs.Common.{◌≡◌, ℕ, suc, ◌+◌, true, false, ◌||◌, ◌&&◌, if◌then◌else◌, Some, None, List, [], ◌∷◌, map, codes, refl, ap, ◌∙◌}
 use Rattle.std.specs.Prelude.{length}
 use Rattle.std.specs.List.{AllByRecursion}
 use Rattle.std.specs.Option.{option_and_then, unwrap_or}
@@ -15,23 +15,22 @@ use Rattle.gql_exec.specs.Mapped.{mapped, all_mapped}
 use Rattle.gql_exec.specs.Thing.{Thing, of_library}
 use Rattle.gql_exec_fields.specs.Asks.{definition_on, arguments_at, asked}
 use Rattle.gql_exec_fields.specs.Group.{Group}
-use Rattle.gql_full_query_laws.specs.Introspection.{Form, plain, required, formed, RefersAs, HasObject, FieldRow, HasField, HasIntrospection}
+use Rattle.gql_full_query_laws.specs.Introspection.{Form, required, RefersAs, HasObject, FieldRow, HasField, HasIntrospection}
 use Rattle.gql_full_query_laws.specs.Selected.{field_with, full_fragments}
 use Rattle.gql_full_query_laws.proofs.Arguments.{given, given-arguments}
-use Rattle.gql_full_query_laws.proofs.Fits.{list-fits, object-fits, its_name, itself}
-use Rattle.gql_full_query_laws.proofs.Forms.{is_many, item-formed, named-formed}
+use Rattle.gql_full_query_laws.proofs.Fits.{list-fits, object-fits}
+use Rattle.gql_full_query_laws.proofs.Forms.{is_many, item-formed}
 use Rattle.gql_full_query_laws.proofs.Sets.{single, asking, w}
-use Rattle.gql_introspection.specs.Answers.{all_of, objects}
+use Rattle.gql_introspection.specs.Answers.{all_of}
 use Rattle.gql_introspection.specs.Meta.{Meta, type_name_of}
 use Rattle.gql_exec.specs.ThingMeaning.{root_meaning}
 use Rattle.gql_introspection.specs.MetaMeaning.{meta_row, meta_meaning, or_unknown}
-use Rattle.gql_resolvers.specs.Execute.{Made, Member, Below, groups_made, execute, completed, settled, settled_by, value_made, items_made, field_made, unless_misfit, then_rest, then_rest_of, with_key, one_array, one_object, object_made}
-use Rattle.gql_resolvers.specs.Resolved.{Meaning, Meanings, Misfit, Outcome, answered, gives_leaf, gives_object, gives_list, no_answer, answer_then}
+use Rattle.gql_resolvers.specs.Execute.{Made, Member, groups_made, execute, completed, settled, value_made, items_made, field_made, unless_misfit, then_rest, then_rest_of, with_key, one_array, one_object, object_made}
+use Rattle.gql_resolvers.specs.Resolved.{Meaning, answered, gives_leaf, gives_object, gives_list}
 use Rattle.gql_resolvers.specs.Spot.{Spot, trail, item_spot, field_spot}
 use Rattle.gql_resolvers.specs.Trail.{Trail}
 use Rattle.gql_resolvers.specs.Types.{item_type}
 use Rattle.gql_resolvers.specs.World.{World, key_of}
-use Rattle.gql_response.specs.declared.graphql_error.GraphQLError.{GraphQLError}
 use Rattle.gql_resolvers.specs.Fit.{object_misfit}
 use Rattle.gql_schema_types.specs.Schemas.{field_of, object_of, is_query_root}
 use Rattle.gql_schema_types.specs.Types.{as_object}

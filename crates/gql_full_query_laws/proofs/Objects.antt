@@ -1,5 +1,5 @@
 -- What is made of fields that answer with objects of introspection.
-use Rattle.std.proofs.Common.{◌≡◌, ℕ, suc, Bool, true, false, Option, Some, None, List, [], ◌∷◌, map, codes, refl, sym, ap, ◌∙◌}
+use Rattle.std.proofs.Common.{◌≡◌, ℕ, true, false, Some, List, [], ◌∷◌, map, ap}
 use Rattle.std.specs.List.{AllByRecursion}
 use Rattle.gql_ast_base.specs.Names.{Named}
 use Rattle.gql_client_schema_laws.specs.Answer.{Pairs, list_value}
@@ -11,7 +11,7 @@ use Rattle.gql_full_query_laws.specs.Selected.{full_fragments}
 use Rattle.gql_full_query_laws.proofs.Arguments.{given}
 use Rattle.gql_full_query_laws.proofs.Forms.{is_many}
 use Rattle.gql_full_query_laws.proofs.Leaves.{moved, list-made}
-use Rattle.gql_full_query_laws.proofs.Making.{Sets, Makes, SetMade, IsOrdinary, the_field, world, field-makes, object-completes, objects-each}
+use Rattle.gql_full_query_laws.proofs.Making.{Makes, SetMade, IsOrdinary, the_field, world, field-makes, object-completes, objects-each}
 use Rattle.gql_full_query_laws.proofs.Sets.{single}
 use Rattle.gql_introspection.specs.Answers.{objects}
 use Rattle.gql_introspection.specs.Meta.{Meta, type_name_of}
@@ -22,7 +22,6 @@ use Rattle.gql_resolvers.specs.Trail.{Trail}
 use Rattle.gql_schema_types.specs.declared.schema.Schema.{Schema}
 use Rattle.gql_schema_types.specs.declared.types.ObjectType.{ObjectType}
 use Rattle.gql_source.specs.File.{Files}
-use Rattle.jb_tree.specs.declared.value.Value.{Value}
 use Rattle.jb_tree.specs.declared.value.Value.TheVariants as json
 
 module _ (schema : Schema) (files : Files) (rank : ℕ → ℕ) (ranked : AreRanked (full_fragments schema) rank) (known : HasIntrospection schema)

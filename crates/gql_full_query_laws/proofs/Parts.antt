@@ -1,10 +1,8 @@
 -- What is made of fields, values of enum types and directives.
-use Rattle.std.proofs.Common.{◌≡◌, ℕ, zero, suc, ◌+◌, Bool, true, false, cond, if◌then◌else◌, Option, Some, None, is_some, List, [], ◌∷◌, map, codes, refl, sym, ap, ap₂, ◌∙◌, subst}
+use Rattle.std.proofs.Common.{◌≡◌, ℕ, suc, ◌+◌, true, false, Some, List, [], ◌∷◌, map, codes, refl, ap, ◌∙◌}
 use Rattle.std.specs.Prelude.{length}
-use Rattle.std.specs.List.{AllByRecursion}
 use Rattle.gql_ast_base.specs.Names.{Named}
 use Rattle.gql_ast_base.specs.TypeParts.{named_type}
-use Rattle.gql_ast_base.specs.declared.type_ref.TypeRef.{TypeRef}
 use Rattle.gql_ast_definitions.specs.Schemas.{location_name}
 use Rattle.gql_ast_definitions.specs.declared.field_definition.EnumValueDefinition.{EnumValueDefinition}
 use Rattle.gql_ast_definitions.specs.declared.field_definition.FieldDefinition.{FieldDefinition}
@@ -15,7 +13,7 @@ use Rattle.gql_client_schema_laws.specs.Parts.{shown_input, shown_field, shown_e
 use Rattle.gql_client_schema_laws.proofs.Given.{field_given, value_given, directive_given}
 use Rattle.gql_full_query_laws.specs.Asked.{asks_nothing, asks_fragment}
 use Rattle.gql_full_query_laws.specs.FullQuery as full
-use Rattle.gql_full_query_laws.specs.Introspection.{plain, required, required_list, row, row_with, RefersAs, HasIntrospection}
+use Rattle.gql_full_query_laws.specs.Introspection.{required, required_list, row, row_with, RefersAs, HasIntrospection}
 use Rattle.gql_full_query_laws.specs.Whole.{IsFieldKnown, AreArgumentsKnown}
 use Rattle.gql_full_query_laws.proofs.Fits.{word-fits}
 use Rattle.gql_full_query_laws.proofs.Inputs.{input_pairs, inputs-made, same-deprecated}
@@ -29,7 +27,6 @@ use Rattle.gql_exec_fields.specs.Group.{Group}
 use Rattle.gql_introspection.specs.Answers.{text_leaf, truth_leaf}
 use Rattle.gql_introspection.specs.Meta.{enum_value_def, field_def, directive_def, input_value_def}
 use Rattle.gql_resolvers.specs.Execute.{execute}
-use Rattle.gql_resolvers.specs.Resolved.{gives_leaf}
 use Rattle.gql_resolvers.specs.Spot.{Spot, item_spot}
 use Rattle.gql_sdl.specs.declared.shown.ShownDirective.{ShownDirective}
 use Rattle.gql_sdl.specs.declared.shown.ShownEnumValue.{ShownEnumValue}

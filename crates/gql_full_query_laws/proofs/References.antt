@@ -1,7 +1,6 @@
 -- What is made of references to types, level by level.
 use Rattle.std.proofs.Common.{rules, ◌≡◌, ℕ, zero, suc, ◌+◌, Bool, true, false, Option, Some, None, is_some, List, [], ◌∷◌, codes, refl, sym, ap, ap₂, ◌∙◌, subst}
 use Rattle.std.specs.Prelude.{length}
-use Rattle.std.specs.List.{AllByRecursion}
 use Rattle.gql_ast_base.specs.Names.{Named}
 use Rattle.gql_ast_base.specs.TypeParts.{named_type}
 use Rattle.gql_ast_base.specs.declared.type_ref.TypeRef.{TypeRef, out-TypeRef, roll-TypeRef, List as ListOf, NonNullList, the_lemmas}
@@ -14,7 +13,6 @@ use Rattle.gql_client_schema_laws.specs.Parts.{said_type}
 use Rattle.gql_client_schema_laws.proofs.Given.{type_given}
 use Rattle.gql_coerce.specs.InputTypes.{is_enum_value}
 use Rattle.gql_document_types.specs.Ranks.{AreRanked}
-use Rattle.gql_full_query_laws.specs.Asked.{asks_nothing}
 use Rattle.gql_full_query_laws.specs.FullQuery.{levels_asked, levels_length}
 use Rattle.gql_full_query_laws.specs.Introspection.{plain, required, row, HasIntrospection}
 use Rattle.gql_full_query_laws.specs.Selected.{full_fragments, field_with, selected, definition_in}
@@ -29,7 +27,7 @@ use Rattle.gql_introspection.specs.MetaMeaning.{meta_row}
 use Rattle.gql_introspection.specs.NamedTypes.{type_level, type_or_null, type_meaning}
 use Rattle.gql_introspection.specs.Wrapped.{kind_level, inner_level}
 use Rattle.gql_resolvers.specs.Execute.{execute}
-use Rattle.gql_resolvers.specs.Resolved.{Meaning, gives_object}
+use Rattle.gql_resolvers.specs.Resolved.{gives_object}
 use Rattle.gql_resolvers.specs.Trail.{Trail}
 use Rattle.gql_schema_types.specs.Types.{type_called, type_name}
 use Rattle.gql_schema_types.specs.declared.schema.Schema.{Schema}

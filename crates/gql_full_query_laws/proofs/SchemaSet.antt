@@ -1,10 +1,9 @@
 -- What is made of the schema itself, and of the root of the full query.
-use Rattle.std.proofs.Common.{◌≡◌, ℕ, zero, suc, ◌+◌, Bool, true, false, cond, if◌then◌else◌, Option, Some, None, is_some, List, [], ◌∷◌, map, codes, refl, sym, ap, ap₂, ◌∙◌, subst}
+use Rattle.std.proofs.Common.{◌≡◌, ℕ, suc, ◌+◌, true, false, if◌then◌else◌, Option, Some, None, is_some, List, [], ◌∷◌, map, codes, refl, sym, ap, ◌∙◌, subst}
 use Rattle.std.specs.Prelude.{length}
 use Rattle.std.specs.List.{AllByRecursion}
 use Rattle.gql_ast_base.specs.Names.{Named}
 use Rattle.gql_ast_base.specs.TypeParts.{named_type}
-use Rattle.gql_ast_base.specs.declared.type_ref.TypeRef.{TypeRef}
 use Rattle.gql_ast_definitions.specs.declared.schema_definition.DirectiveDefinition.{DirectiveDefinition}
 use Rattle.gql_ast_definitions.specs.declared.field_definition.FieldDefinition.{FieldDefinition}
 use Rattle.gql_ast_laws.specs.Printed.{from_nowhere}
@@ -24,20 +23,19 @@ use Rattle.gql_full_query_laws.specs.Introspection.{Form, plain, required, requi
 use Rattle.gql_full_query_laws.specs.Whole.{IsWhole, IsRootKnown, AreArgumentsKnown, HasSchemaField}
 use Rattle.gql_full_query_laws.proofs.Forms.{is_many, takes_null}
 use Rattle.gql_full_query_laws.proofs.Leaves.{text_or_null-made, null-made, moved}
-use Rattle.gql_full_query_laws.proofs.Making.{all_made, SetMade, GroupMade, Makes, Completes, IsOrdinary, the_field, world, set-made, completes, object-completes}
+use Rattle.gql_full_query_laws.proofs.Making.{all_made, SetMade, GroupMade, Makes, IsOrdinary, world, set-made, object-completes}
 use Rattle.gql_full_query_laws.proofs.Objects.{object-made, objects-made}
 use Rattle.gql_full_query_laws.proofs.Parts.{leaf_at, directive_pairs, directive-made}
 use Rattle.gql_full_query_laws.proofs.References.{raised, found}
 use Rattle.gql_full_query_laws.proofs.Sets.{single, defined, groups-asked, asking}
 use Rattle.gql_full_query_laws.proofs.TypeSets.{type_pairs, types-made}
-use Rattle.gql_introspection.specs.Meta.{Meta, type_def, schema_meta, directive_def, type_name_of}
+use Rattle.gql_introspection.specs.Meta.{type_def, schema_meta, directive_def}
 use Rattle.gql_introspection.specs.MetaMeaning.{meta_row}
 use Rattle.gql_introspection.specs.NamedTypes.{root_type, type_or_null}
-use Rattle.gql_resolvers.specs.Execute.{Made, Member, execute, groups_made, field_made, then_rest, with_key}
+use Rattle.gql_resolvers.specs.Execute.{Made, execute, groups_made, field_made, then_rest, with_key}
 use Rattle.gql_resolvers.specs.Resolved.{answered, gives_object}
-use Rattle.gql_resolvers.specs.Spot.{Spot, field_spot}
+use Rattle.gql_resolvers.specs.Spot.{field_spot}
 use Rattle.gql_resolvers.specs.Trail.{Trail}
-use Rattle.gql_resolvers.specs.World.{key_of}
 use Rattle.gql_schema_types.specs.MetaFields.{schema_field, named as named_text}
 use Rattle.gql_schema_types.specs.Schemas.{field_of, is_query_root}
 use Rattle.gql_sdl.specs.declared.shown.ShownSchema.{ShownSchema}

@@ -1,14 +1,12 @@
 -- The groups of what the full query asks for, set by set.
-use Rattle.std.proofs.Common.{◌≡◌, ℕ, Bool, true, false, ◌||◌, List, [], ◌∷◌, ◌++◌, map, Some, is_some, codes, refl, sym, ap, ◌∙◌}
+use Rattle.std.proofs.Common.{◌≡◌, ℕ, true, ◌||◌, List, [], ◌∷◌, ◌++◌, is_some, codes, ap, ◌∙◌}
 use Rattle.std.specs.Prelude.{length, ◌+◌}
 use Rattle.std.specs.List.{AllByRecursion, filter}
 use Rattle.std.specs.Str.{bytes_eq}
 use Rattle.std.proofs.lemmas.List.{append-nil}
 use Rattle.gql_ast_base.specs.Names.{Named}
-use Rattle.gql_ast_definitions.specs.declared.field_definition.FieldDefinition.{FieldDefinition}
-use Rattle.gql_ast_definitions.specs.declared.operation.FragmentDefinition.{FragmentDefinition}
 use Rattle.gql_collect.specs.Applies.{applies, is_listed, has_member}
-use Rattle.gql_collect.specs.Flat.{flat, flat_sets, body, when}
+use Rattle.gql_collect.specs.Flat.{flat, body, when}
 use Rattle.gql_collect.specs.Groups.{groups_of, is_defined}
 use Rattle.gql_collect.specs.Setting.{Setting}
 use Rattle.gql_client_schema_laws.proofs.Lists.{filter_all}
@@ -25,7 +23,7 @@ use Rattle.gql_exec_laws.proofs.Collected.{flat-none, flat-field, flat-spread}
 use Rattle.gql_full_query_laws.specs.Asked.{Asked, asks_nothing, asks_field, asks_fragment, name_at, place}
 use Rattle.gql_full_query_laws.specs.FullQuery as full
 use Rattle.gql_full_query_laws.specs.Introspection.{FieldRow, HasField}
-use Rattle.gql_full_query_laws.specs.Selected.{definition_in, field_with, selected, fragment_on, full_fragments}
+use Rattle.gql_full_query_laws.specs.Selected.{definition_in, field_with, selected, full_fragments}
 use Rattle.gql_full_query_laws.proofs.Fits.{itself}
 use Rattle.gql_resolvers.specs.World.{World}
 use Rattle.gql_schema_types.specs.Types.{type_called}

@@ -1,7 +1,5 @@
 -- What is made of a set that spreads a fragment, and of references to types.
-use Rattle.std.proofs.Common.{◌≡◌, ℕ, zero, suc, ◌+◌, Bool, true, false, Option, Some, None, is_some, List, [], ◌∷◌, map, codes, refl, sym, ap, ap₂, ◌∙◌, subst}
-use Rattle.std.specs.Prelude.{length}
-use Rattle.std.specs.List.{AllByRecursion}
+use Rattle.std.proofs.Common.{◌≡◌, ℕ, suc, true, Some, is_some, List, [], ◌∷◌, codes, ap, ◌∙◌}
 use Rattle.gql_ast_base.specs.Names.{Named}
 use Rattle.gql_ast_base.specs.TypeParts.{named_type}
 use Rattle.gql_ast_base.specs.declared.type_ref.TypeRef.{TypeRef}
@@ -13,7 +11,7 @@ use Rattle.gql_full_query_laws.specs.Asked.{asks_nothing, asks_fragment}
 use Rattle.gql_full_query_laws.specs.FullQuery as full
 use Rattle.gql_full_query_laws.specs.Introspection.{HasIntrospection}
 use Rattle.gql_full_query_laws.proofs.Making.{SetMade, world, thing}
-use Rattle.gql_full_query_laws.proofs.References.{raised, IsKnown, Referred, referred}
+use Rattle.gql_full_query_laws.proofs.References.{raised, Referred, referred}
 use Rattle.gql_full_query_laws.proofs.Sets.{setting, groups-spread, reference-body}
 use Rattle.gql_introspection.specs.Meta.{Meta, type_name_of}
 use Rattle.gql_introspection.specs.NamedTypes.{type_meaning}
@@ -22,15 +20,13 @@ use Rattle.gql_resolvers.specs.Resolved.{gives_object}
 use Rattle.gql_client_schema_laws.specs.Given.{why}
 use Rattle.gql_client_schema_laws.specs.Parts.{said_type}
 use Rattle.gql_document_types.specs.Ranks.{AreRanked}
-use Rattle.gql_full_query_laws.specs.Selected.{full_fragments, field_with, selected, definition_in}
+use Rattle.gql_full_query_laws.specs.Selected.{full_fragments, selected}
 use Rattle.gql_schema_types.specs.Types.{type_called, type_name}
 use Rattle.gql_schema_types.specs.declared.schema.Schema.{Schema}
 use Rattle.gql_schema_types.specs.declared.types.ExtendedType.{ExtendedType}
 use Rattle.gql_schema_types.specs.declared.types.ObjectType.{ObjectType}
 use Rattle.gql_sdl.specs.declared.shown.ShownType.{ShownType}
 use Rattle.gql_source.specs.File.{Files}
-use Rattle.jb_tree.specs.declared.value.Value.{Value}
-use Rattle.jb_tree.specs.declared.value.Value.TheVariants as json
 
 module _ (schema : Schema) (files : Files) (rank : ℕ → ℕ) (ranked : AreRanked (full_fragments schema) rank) (known : HasIntrospection schema) where
   pub spread-made : (d : ℕ) (U : ObjectType) (object : Meta) (ty : Named) (start : ℕ) (name : List ℕ) (sels : List Selection) (pairs : Pairs)

@@ -1,5 +1,5 @@
 -- The tokens of a text of ASCII characters without strings, where spreads are among them.
-use Rattle.std.proofs.Common.{◌≡◌, ℕ, zero, suc, ◌+◌, ◌<◌, ◌≤◌, inr, Bool, true, false, ◌==◌, nat_lt, nat_le, Option, Some, None, List, [], ◌∷◌, length, drop, refl, ◌∙◌, ap, subst}
+use Rattle.std.proofs.Common.{◌≡◌, ℕ, zero, suc, ◌+◌, inr, true, false, ◌==◌, nat_lt, nat_le, Option, Some, None, [], ◌∷◌, length, drop, refl, ◌∙◌, ap, subst}
 use Rattle.std.specs.List.{prefix_len}
 use Rattle.std.specs.Str.{IsAscii}
 use Rattle.std.proofs.lemmas.Bool.{eqb-true, ltb-true, leb-true}

@@ -1,50 +1,40 @@
 -- What is made of types.
-use Rattle.std.proofs.Common.{◌≡◌, ℕ, zero, suc, ◌+◌, Bool, true, false, cond, if◌then◌else◌, Option, Some, None, is_some, List, [], ◌∷◌, map, codes, refl, sym, ap, ap₂, ◌∙◌, subst}
-use Rattle.std.specs.Prelude.{length}
+use Rattle.std.proofs.Common.{◌≡◌, ℕ, suc, Bool, true, false, cond, Option, Some, None, is_some, List, [], ◌∷◌, map, codes, refl, sym, subst}
 use Rattle.std.specs.List.{AllByRecursion}
 use Rattle.gql_ast_base.specs.Names.{Named}
 use Rattle.gql_ast_base.specs.TypeParts.{named_type}
 use Rattle.gql_ast_base.specs.declared.type_ref.TypeRef.{TypeRef}
-use Rattle.std.proofs.Common.{filter, filter_map, option_map}
+use Rattle.std.proofs.Common.{filter, filter_map}
 use Rattle.std.specs.List.{cons_option}
-use Rattle.gql_ast_definitions.specs.declared.field_definition.EnumValueDefinition.{EnumValueDefinition}
-use Rattle.gql_ast_definitions.specs.declared.field_definition.FieldDefinition.{FieldDefinition}
-use Rattle.gql_client_schema_laws.specs.Answer.{Pairs, text_or_null, kind_text, kind_among, reference_pairs, list_value, list_if, truth_if, has_fields, has_possible_types, is_enum, is_input_object}
-use Rattle.gql_client_schema_laws.specs.Given.{if_has, inputs_of, values_of, its_reference}
-use Rattle.gql_client_schema_laws.specs.Parts.{reference, references, shown_input, shown_field, shown_enum_value}
-use Rattle.gql_client_schema_laws.specs.Shown.{finished, is_interface}
-use Rattle.gql_client_schema_laws.proofs.Given.{type_given, possible_given, members_given}
+use Rattle.gql_client_schema_laws.specs.Answer.{Pairs, kind_among, reference_pairs, list_value, list_if, truth_if}
+use Rattle.gql_client_schema_laws.specs.Given.{if_has, its_reference}
+use Rattle.gql_client_schema_laws.specs.Parts.{reference, references}
 use Rattle.gql_full_query_laws.specs.Asked.{asks_nothing, asks_fragment}
 use Rattle.gql_full_query_laws.specs.FullQuery as full
-use Rattle.gql_full_query_laws.specs.Introspection.{plain, required, list, row, row_with, RefersAs, HasField, HasObject, FieldRow, HasIntrospection}
-use Rattle.gql_full_query_laws.specs.Whole.{IsFieldKnown, AreNamesKnown, ArePartsKnown, IsFirst, members_of}
+use Rattle.gql_full_query_laws.specs.Introspection.{plain, required, list, row, RefersAs, HasField, HasObject, FieldRow, HasIntrospection}
+use Rattle.gql_full_query_laws.specs.Whole.{AreNamesKnown, IsFirst}
 use Rattle.gql_full_query_laws.proofs.Arguments.{given}
 use Rattle.gql_full_query_laws.proofs.Forms.{is_many, takes_null}
-use Rattle.gql_full_query_laws.proofs.Inputs.{input_pairs, inputs-made}
-use Rattle.gql_full_query_laws.proofs.Leaves.{text_or_null-made, truth-made, word-made, list-made, null-made, moved}
-use Rattle.gql_full_query_laws.proofs.Making.{SetMade, GroupMade, Makes, EachItem, IsOrdinary, the_field, world, set-made, object-completes, item-refers}
+use Rattle.gql_full_query_laws.proofs.Leaves.{truth-made, list-made, null-made}
+use Rattle.gql_full_query_laws.proofs.Making.{SetMade, Makes, EachItem, IsOrdinary, the_field, world, object-completes, item-refers}
 use Rattle.gql_full_query_laws.proofs.Objects.{objects-made}
-use Rattle.gql_full_query_laws.proofs.Parts.{leaf_at, field_pairs, field-made, value_pairs, value-made}
-use Rattle.gql_full_query_laws.proofs.References.{raised, type-made, kind-taken}
-use Rattle.gql_full_query_laws.proofs.Sets.{single, defined, groups-asked, reference-body}
+use Rattle.gql_full_query_laws.proofs.References.{raised, type-made}
+use Rattle.gql_full_query_laws.proofs.Sets.{single, reference-body}
 use Rattle.gql_full_query_laws.proofs.Spread.{spread-made}
 use Rattle.gql_exec_fields.specs.Group.{Group}
-use Rattle.gql_introspection.specs.Answers.{null_leaf, truth_leaf, objects}
-use Rattle.gql_introspection.specs.Meta.{Meta, type_def, field_def, input_value_def, enum_value_def, type_name_of}
+use Rattle.gql_introspection.specs.Answers.{truth_leaf, objects}
+use Rattle.gql_introspection.specs.Meta.{Meta, type_def, type_name_of}
 use Rattle.gql_introspection.specs.MetaMeaning.{meta_row}
 use Rattle.gql_introspection.specs.NamedTypes.{named_types}
-use Rattle.gql_introspection.specs.TypeDef.{is_implementing}
 use Rattle.gql_resolvers.specs.Execute.{execute}
 use Rattle.gql_resolvers.specs.Resolved.{gives_object}
 use Rattle.gql_resolvers.specs.Spot.{Spot, item_spot}
 use Rattle.gql_resolvers.specs.Trail.{Trail}
-use Rattle.gql_schema_types.specs.Types.{fields_of, interfaces_of}
-use Rattle.gql_schema_types.specs.declared.types.ExtendedType.TheVariants as type
 use Rattle.gql_client_schema_laws.specs.Given.{why}
 use Rattle.gql_client_schema_laws.specs.Parts.{said_type}
 use Rattle.gql_document_types.specs.Ranks.{AreRanked}
 use Rattle.gql_document_types.specs.declared.selection.Selection.{Selection}
-use Rattle.gql_full_query_laws.specs.Selected.{full_fragments, field_with, selected, definition_in}
+use Rattle.gql_full_query_laws.specs.Selected.{full_fragments, selected, definition_in}
 use Rattle.gql_schema_types.specs.Types.{type_called, type_name}
 use Rattle.gql_schema_types.specs.declared.schema.Schema.{Schema}
 use Rattle.gql_schema_types.specs.declared.types.ExtendedType.{ExtendedType}

@@ -1,22 +1,21 @@
 -- What is made of each type of a schema.
-use Rattle.std.proofs.Common.{◌≡◌, ℕ, zero, suc, ◌+◌, Bool, true, false, cond, if◌then◌else◌, Option, Some, None, is_some, List, [], ◌∷◌, map, codes, refl, sym, ap, ap₂, ◌∙◌, subst}
-use Rattle.std.specs.Prelude.{length, filter}
+use Rattle.std.proofs.Common.{◌≡◌, ℕ, suc, Bool, true, false, if◌then◌else◌, Some, List, [], ◌∷◌, map, codes, refl, sym, subst}
+use Rattle.std.specs.Prelude.{filter}
 use Rattle.std.specs.List.{AllByRecursion}
 use Rattle.gql_ast_base.specs.Names.{Named}
 use Rattle.gql_ast_base.specs.TypeParts.{named_type}
-use Rattle.gql_ast_base.specs.declared.type_ref.TypeRef.{TypeRef}
-use Rattle.gql_client_schema_laws.specs.Answer.{Pairs, text_or_null, kind_text, kind_among, reference_pairs, list_value, list_if, truth_if, has_fields, has_possible_types, is_enum, is_input_object, type_value}
+use Rattle.gql_client_schema_laws.specs.Answer.{Pairs, text_or_null, kind_text, kind_among, reference_pairs, list_value, list_if, truth_if, has_fields, has_possible_types, is_enum, is_input_object}
 use Rattle.gql_client_schema_laws.specs.Given.{inputs_of, values_of, its_reference}
 use Rattle.gql_client_schema_laws.specs.Parts.{shown_input, shown_field, shown_enum_value}
 use Rattle.gql_client_schema_laws.specs.Shown.{finished, is_interface, implements as shows_implementing, its_reference as shown_reference}
 use Rattle.gql_client_schema_laws.proofs.Given.{type_given, possible_given, members_given}
 use Rattle.gql_full_query_laws.specs.Asked.{asks_nothing, asks_fragment}
 use Rattle.gql_full_query_laws.specs.FullQuery as full
-use Rattle.gql_full_query_laws.specs.Introspection.{plain, required, list, row, row_with, HasIntrospection}
+use Rattle.gql_full_query_laws.specs.Introspection.{required, list, row, row_with, HasIntrospection}
 use Rattle.gql_full_query_laws.specs.Whole.{IsFieldKnown, ArePartsKnown, IsFirst}
 use Rattle.gql_full_query_laws.proofs.Inputs.{input_pairs, inputs-made}
-use Rattle.gql_full_query_laws.proofs.Leaves.{text-made, text_or_null-made, word-made, null-made}
-use Rattle.gql_full_query_laws.proofs.Making.{SetMade, GroupMade, Makes, the_field, world, set-made}
+use Rattle.gql_full_query_laws.proofs.Leaves.{text_or_null-made, word-made, null-made}
+use Rattle.gql_full_query_laws.proofs.Making.{SetMade, GroupMade, Makes, world, set-made}
 use Rattle.gql_full_query_laws.proofs.Objects.{objects-made}
 use Rattle.gql_full_query_laws.proofs.Parts.{leaf_at, field_pairs, field-made, value_pairs, value-made}
 use Rattle.gql_full_query_laws.proofs.References.{raised, kind-taken}
@@ -25,10 +24,9 @@ use Rattle.gql_full_query_laws.proofs.Spread.{spread-made}
 use Rattle.gql_full_query_laws.proofs.TypeParts.{some-made, named-made, truth_or_null-made, first-kept}
 use Rattle.gql_ast_definitions.specs.declared.field_definition.EnumValueDefinition.{EnumValueDefinition}
 use Rattle.gql_ast_definitions.specs.declared.field_definition.FieldDefinition.{FieldDefinition}
-use Rattle.gql_exec_fields.specs.Group.{Group}
 use Rattle.gql_introspection.specs.Answers.{null_leaf}
 use Rattle.gql_introspection.specs.MetaMeaning.{meta_row}
-use Rattle.gql_introspection.specs.Meta.{Meta, type_def, field_def, input_value_def, enum_value_def, type_name_of}
+use Rattle.gql_introspection.specs.Meta.{type_def, field_def, input_value_def, enum_value_def, type_name_of}
 use Rattle.gql_introspection.specs.TypeDef.{is_implementing}
 use Rattle.gql_resolvers.specs.Execute.{execute}
 use Rattle.gql_resolvers.specs.Trail.{Trail}
@@ -45,7 +43,6 @@ use Rattle.gql_schema_types.specs.declared.types.ExtendedType.{ExtendedType}
 use Rattle.gql_schema_types.specs.declared.types.ObjectType.{ObjectType}
 use Rattle.gql_sdl.specs.declared.shown.ShownType.{ShownType}
 use Rattle.gql_source.specs.File.{Files}
-use Rattle.jb_tree.specs.declared.value.Value.{Value}
 use Rattle.jb_tree.specs.declared.value.Value.TheVariants as json
 
 -- an interface is finished in one part alone

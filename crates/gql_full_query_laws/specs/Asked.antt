@@ -1,5 +1,5 @@
 -- What the full query asks for, selection by selection, with the places of its text: sections 2.4, 2.5, 2.6 and 2.8 of GraphQL October 2021.
-use Rattle.std.specs.Prelude.{ℕ, zero, suc, ◌+◌, ◌*◌, Bool, true, false, List, [], ◌∷◌, length, Option, Some, None, codes}
+use Rattle.std.specs.Prelude.{ℕ, ◌+◌, Bool, true, false, List, [], ◌∷◌, length, Option, Some, None, codes}
 use Rattle.gql_ast_base.specs.Names.{Named}
 use Rattle.gql_ast_base.specs.declared.directive.Argument.{Argument}
 use Rattle.gql_ast_base.specs.declared.value.ValueKind.TheVariants.{Boolean}

@@ -1,5 +1,5 @@
 -- A schema on which all that is asked for is defined: section 5.3.1 of GraphQL October 2021.
-use Rattle.std.specs.Prelude.{◌≡◌, ℕ, Bool, false, List, map, Some}
+use Rattle.std.specs.Prelude.{◌≡◌, ℕ, false, List, map, Some}
 use Rattle.gql_ast_base.specs.TypeParts.{named_type}
 use Rattle.gql_ast_definitions.specs.declared.field_definition.FieldDefinition.{FieldDefinition}
 use Rattle.gql_document.specs.BuiltSelections.{is_selected_leaf, makes_of}

@@ -1,5 +1,5 @@
 -- The document that the full query builds against a schema: its selections with the definitions of their fields. Sections 2.5 and 2.8 of GraphQL October 2021.
-use Rattle.std.specs.Prelude.{ℕ, ◌+◌, Bool, List, [], ◌∷◌, length, Option, Some, None}
+use Rattle.std.specs.Prelude.{ℕ, ◌+◌, Bool, List, [], ◌∷◌, length, None}
 use Rattle.std.specs.Option.{unwrap_or}
 use Rattle.gql_ast_base.specs.Names.{Named}
 use Rattle.gql_ast_base.specs.TypeParts.{named_type}

@@ -1,5 +1,5 @@
 -- A schema whose types have distinct names, and all of whose references name types that it has: sections 3.3 and 3.6 to 3.13 of GraphQL October 2021.
-use Rattle.std.specs.Prelude.{◌≡◌, ℕ, true, List, [], Option, Some, None, is_some, codes}
+use Rattle.std.specs.Prelude.{◌≡◌, true, List, [], Option, Some, None, is_some, codes}
 use Rattle.std.specs.List.{AllByRecursion}
 use Rattle.gql_ast_base.specs.Names.{Named}
 use Rattle.gql_ast_base.specs.TypeParts.{named_type}
