@@ -1,3 +1,4 @@
+pub mod Blanks
 pub mod BlockLines
 pub mod BlockValue
 pub mod Blocks
@@ -6,7 +7,9 @@ pub mod Choices
 pub mod Cuts
 pub mod Fronts
 pub mod Lengths
+pub mod NameTable
 pub mod Only
 pub mod Runs
 pub mod Steps
+pub mod Strings
 pub mod Values

@@ -1,6 +1,7 @@
 -- The longest row of items: one item and the rest, or none.
-use Rattle.std.proofs.Common.{◌≡◌, ℕ, zero, suc, ◌+◌, ◌-◌, ◌<◌, ◌≤◌, [], ◌∷◌, length, drop, refl, sym, arith}
+use Rattle.std.proofs.Common.{◌≡◌, ℕ, zero, suc, ◌+◌, ◌-◌, ◌<◌, ◌≤◌, Bool, true, false, [], ◌∷◌, length, drop, get_or, refl, sym, arith}
 use Rattle.std.specs.Prelude.{◌==◌, if◌then◌else◌}
+use Rattle.std.specs.List.{prefix_len}
 use Rattle.gql_lexer.specs.Class.{Text}
 use Rattle.gql_lexer.specs.Lex.{run_from, run_len}
 use Rattle.gql_lexer.proofs.Choices.{not_zero}
@@ -53,3 +54,25 @@ stops item fits zero (b ∷ at) = stops_at item b at (λ n. stops item fits n at
 pub run_len-stops : (item : Text → ℕ) → ((s : Text) → item s ≤ length s) → (at : Text) → item (drop (run_len item at) at) ≡ 0
 unfolding run_len
 run_len-stops item fits at = stops item fits 0 at
+
+-- ---- a row that begins with items of one byte each, those that pass `p`
+
+pub prefix_len-first : (p : ℕ → Bool) (at : Text) → 0 < length at → p (get_or at 0 0) ≡ true → prefix_len p at ≡ 1 + prefix_len p (drop 1 at)
+prefix_len-first p [] some h = absurd (omega arith)
+prefix_len-first p (b ∷ at) some h = rw h refl
+
+pub run_len-byte : (item : Text → ℕ) (b : ℕ) (at : Text) → item (b ∷ at) ≡ 1 → run_len item (b ∷ at) ≡ 1 + run_len item at
+run_len-byte item b at e = rw e at (run_len-item item (b ∷ at) (omega (arith, e)) (omega (arith, e)))
+
+bytes_from : (item : Text → ℕ) (p : ℕ → Bool) → ((b : ℕ) (at : Text) → p b ≡ true → item (b ∷ at) ≡ 1) → (b : ℕ) (at : Text)
+    → run_len item at ≡ prefix_len p at + run_len item (drop (prefix_len p at) at) → (q : Bool) → p b ≡ q
+    → run_len item (b ∷ at) ≡ prefix_len p (b ∷ at) + run_len item (drop (prefix_len p (b ∷ at)) (b ∷ at))
+bytes_from item p one b at more true e =
+    let s : 1 + prefix_len p at ≡ suc (prefix_len p at) = omega arith in
+    rw (e, s) (omega (arith, run_len-byte item b at (one b at e), more))
+bytes_from item p one b at more false e = rw e (omega arith)
+
+pub run_len-bytes : (item : Text → ℕ) (p : ℕ → Bool) → ((b : ℕ) (at : Text) → p b ≡ true → item (b ∷ at) ≡ 1) → (at : Text)
+    → run_len item at ≡ prefix_len p at + run_len item (drop (prefix_len p at) at)
+run_len-bytes item p one [] = omega arith
+run_len-bytes item p one (b ∷ at) = bytes_from item p one b at (run_len-bytes item p one at) (p b) refl

@@ -41,6 +41,10 @@ is_line b = nat_le 0x20 b || b == 0x09
 abbrev pub is_plain : ℕ → Bool
 is_plain b = is_line b && not (b == 0x22) && not (b == 0x5C)
 
+-- a byte that stands for itself in a block string, whatever follows
+abbrev pub is_block_plain : ℕ → Bool
+is_block_plain b = is_source b && not (b == 0x22) && not (b == 0x5C)
+
 -- a byte that goes on with a character
 abbrev pub is_continuation : ℕ → Bool
 is_continuation b = is_between 0x80 0xBF b

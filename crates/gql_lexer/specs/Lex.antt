@@ -2,8 +2,8 @@
 use Rattle.std.specs.Prelude.{ℕ, zero, suc, ◌+◌, ◌-◌, ◌*◌, ◌<◌, ◌≤◌, Bool, not, ◌&&◌, ◌||◌, ◌==◌, nat_lt}
 use Rattle.std.specs.Prelude.{if◌then◌else◌, [], ◌∷◌, length, drop, slice_index, Result, Ok, Err}
 use Rattle.std.specs.List.{prefix_len}
-use Rattle.gql_lexer.specs.Class.{Text, is_between, is_name_continue, is_digit, is_blank, is_source, is_line, is_plain, is_continuation, is_space}
-use Rattle.gql_lexer.specs.Class.{is_within_line, class_of}
+use Rattle.gql_lexer.specs.Class.{Text, is_between, is_name_continue, is_digit, is_blank, is_source, is_line, is_plain, is_block_plain, is_continuation}
+use Rattle.gql_lexer.specs.Class.{is_space, is_within_line, class_of}
 use Rattle.gql_lexer.specs.declared.class.ByteClass.{ByteClass}
 use Rattle.gql_lexer.specs.declared.class.ByteClass.TheVariants as class
 use Rattle.gql_lexer.specs.declared.error.SyntaxFault.{SyntaxFault}
@@ -23,10 +23,12 @@ is_in bytes.Name b = is_name_continue b
 is_in bytes.Digit b = is_digit b
 is_in bytes.Line b = is_line b
 is_in bytes.Plain b = is_plain b
+is_in bytes.BlockPlain b = is_block_plain b
 is_in bytes.Continuation b = is_continuation b
 is_in bytes.Space b = is_space b
 is_in bytes.WithinLine b = is_within_line b
 is_in bytes.NoBackslash b = not (b == 0x5C)
+is_in bytes.Blank b = is_blank b
 
 -- the first place from `from` on whose byte is not of the run
 abbrev pub past : ByteRun → Text → ℕ → ℕ

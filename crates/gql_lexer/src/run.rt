@@ -4,8 +4,8 @@ ghost use Rattle.std.specs.Prelude.{◌≡◌, ◌+◌, ◌<◌, ◌≤◌, leng
 ghost use Rattle.gql_lexer.specs.Lex as spec;
 
 use crate::class::{
-    is_blank, is_continuation, is_digit, is_line, is_name_continue, is_plain, is_source, is_space,
-    is_within_line,
+    is_blank, is_block_plain, is_continuation, is_digit, is_line, is_name_continue, is_plain,
+    is_source, is_space, is_within_line,
 };
 use crate::string::{block_len, string_len};
 
@@ -16,10 +16,12 @@ pub(crate) enum ByteRun {
     Digit,
     Line,
     Plain,
+    BlockPlain,
     Continuation,
     Space,
     WithinLine,
     NoBackslash,
+    Blank,
 }
 
 /// The runs of items of several lengths.
@@ -47,10 +49,12 @@ fn is_in(run: ByteRun, b: u8) -> bool
         ByteRun::Digit => is_digit(b),
         ByteRun::Line => is_line(b),
         ByteRun::Plain => is_plain(b),
+        ByteRun::BlockPlain => is_block_plain(b),
         ByteRun::Continuation => is_continuation(b),
         ByteRun::Space => is_space(b),
         ByteRun::WithinLine => is_within_line(b),
         ByteRun::NoBackslash => b != b'\\',
+        ByteRun::Blank => is_blank(b),
     }
 }
 

@@ -1,6 +1,6 @@
 //! The token that a text begins with.
 
-ghost use Rattle.std.specs.Prelude.{◌≡◌, ◌+◌, ◌<◌, ◌≤◌, length};
+ghost use Rattle.std.specs.Prelude.{◌≡◌, ◌+◌, ◌<◌, ◌≤◌, length, drop, slice_index, true};
 ghost use Rattle.gql_lexer.specs.Lex as spec;
 
 use crate::SyntaxFault;
@@ -62,14 +62,30 @@ fn dots(at: &[u8]) -> Lexed
     }
 }
 
-/// A row of white space and byte order marks.
+/// A name, whose first byte is told already.
+fn name(at: &[u8]) -> Lexed
+    requires some { 0 < length at.now }
+    requires start { spec.is_in ByteRun.Name (slice_index at.now 0) ≡ true }
+    ensures value { result ≡ spec.token TokenKind.Name (spec.past ByteRun.Name at.now 0) }
+    ensures within { spec.IsWithin at.now result }
+{
+    Ok((TokenKind::Name, past(ByteRun::Name, at, 1)))
+}
+
+/// A row of white space and byte order marks that begins with white space.
 fn blanks(at: &[u8]) -> Lexed
     requires some { 0 < length at.now }
-    requires blank { 0 < spec.blank_len at.now }
+    requires blank { spec.is_in ByteRun.Blank (slice_index at.now 0) ≡ true }
     ensures value { result ≡ spec.token TokenKind.Ignored (spec.run_len spec.blank_len at.now) }
     ensures within { spec.IsWithin at.now result }
 {
-    Ok((TokenKind::Ignored, past_items(ItemRun::Blank, at, 0)))
+    let end = past(ByteRun::Blank, at, 1);
+    // most rows have no mark, of which this is the first byte
+    if byte(at, end) == 0xEF {
+        Ok((TokenKind::Ignored, past_items(ItemRun::Blank, at, end)))
+    } else {
+        Ok((TokenKind::Ignored, end))
+    }
 }
 
 #[tactic(auto, unfolding(crate::specs::Lex::mark, crate::specs::Lex::blank_len))]
@@ -79,10 +95,20 @@ fn mark(at: &[u8]) -> Lexed
     ensures within { spec.IsWithin at.now result }
 {
     if is_mark(at) {
-        blanks(at)
+        Ok((TokenKind::Ignored, past_items(ItemRun::Blank, at, 0)))
     } else {
         unexpected(at)
     }
+}
+
+/// Where the characters of a block string end. Most bytes stand for themselves, and are passed in one run.
+fn block_end(at: &[u8]) -> usize
+    requires { 3 ≤ length at.now }
+    ensures value { result ≡ 3 + spec.run_len spec.block_len (drop 3 at.now) }
+    ensures within { (3 ≤ result) × (result ≤ length at.now) }
+{
+    let plain = past(ByteRun::BlockPlain, at, 3);
+    past_items(ItemRun::Block, at, plain)
 }
 
 #[tactic(auto, unfolding(crate::specs::Lex::block_string))]
@@ -91,7 +117,7 @@ fn block_string(at: &[u8]) -> Lexed
     ensures value { result ≡ spec.block_string at.now }
     ensures within { spec.IsWithin at.now result }
 {
-    let end = past_items(ItemRun::Block, at, 3);
+    let end = block_end(at);
     if is_block_quote(at, end) {
         Ok((TokenKind::StringValue, end + 3))
     } else if end < at.len() {
@@ -101,13 +127,23 @@ fn block_string(at: &[u8]) -> Lexed
     }
 }
 
+/// Where the characters and escapes of a string end. Most bytes stand for themselves, and are passed in one run.
+fn string_end(at: &[u8]) -> usize
+    requires { 0 < length at.now }
+    ensures value { result ≡ 1 + spec.run_len spec.string_len (drop 1 at.now) }
+    ensures within { (1 ≤ result) × (result ≤ length at.now) }
+{
+    let plain = past(ByteRun::Plain, at, 1);
+    past_items(ItemRun::String, at, plain)
+}
+
 #[tactic(auto, unfolding(crate::specs::Lex::string))]
 fn string(at: &[u8]) -> Lexed
     requires { 0 < length at.now }
     ensures value { result ≡ spec.string at.now }
     ensures within { spec.IsWithin at.now result }
 {
-    let end = past_items(ItemRun::String, at, 1);
+    let end = string_end(at);
     match byte(at, end) {
         b'"' => Ok((TokenKind::StringValue, end + 1)),
         b'\\' => fault(SyntaxFault::BadEscape, end, end + 1),
@@ -137,7 +173,7 @@ pub(crate) fn lex(at: &[u8]) -> Lexed
     ensures within { spec.IsWithin at.now result }
 {
     match class_of(at[0]) {
-        ByteClass::Name => Ok((TokenKind::Name, past(ByteRun::Name, at, 0))),
+        ByteClass::Name => name(at),
         ByteClass::Number => number(at),
         ByteClass::Blank => blanks(at),
         ByteClass::Punctuator => Ok((TokenKind::Punctuator, 1)),

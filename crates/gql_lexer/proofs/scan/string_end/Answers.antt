@@ -1,0 +1,10 @@
+use Rattle.std.proofs.Common.{◌≡◌, ◌+◌, ◌∙◌, sym, ap, drop}
+use Rattle.gql_lexer.specs.Lex.{string_len, run_len}
+use Rattle.gql_lexer.proofs.Strings.{plain_end, string-row}
+use Rattle.gql_lexer.proofs.scan.string_end.Goals as goal
+
+pub returns-clause-value : goal.returns-clause-value
+returns-clause-value c =
+    let at = c.args.at.now in
+    let e : c.past-plain.result ≡ plain_end at = c.past-plain.ensures.value in
+    c.past_items.ensures.value ∙ ap (λ n. n + run_len string_len (drop n at)) e ∙ sym (string-row at)
