@@ -1,5 +1,5 @@
 -- A row that a reader holds is one that its sentence has, cut behind the words that were read.
-use Rattle.std.proofs.Common.{◌≡◌, ℕ, Bool, true, ◌&&◌, List, [], ◌∷◌, refl, sym, ◌∙◌, ap, subst}
+use Rattle.std.proofs.Common.{◌≡◌, Bool, true, List, [], ◌∷◌, refl, subst}
 use Rattle.std.specs.List.{list_all}
 use Rattle.gql_grammar.specs.declared.word.Word.{Word}
 use Rattle.gql_grammar.specs.declared.rule.Rule.{Rule}

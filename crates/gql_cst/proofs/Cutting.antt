@@ -1,5 +1,5 @@
 -- Wherever a parser stops, its trees are those of a sentence, cut behind the words that were read.
-use Rattle.std.proofs.Common.{◌≡◌, ◌⊎◌, inl, inr, ℕ, ◌+◌, Bool, true, false, ◌&&◌, List, [], ◌∷◌, ◌++◌, map, length, Option, Some, None, is_some, refl, ◌∙◌, sym, ap, subst, arith, length-append}
+use Rattle.std.proofs.Common.{◌≡◌, ◌⊎◌, inl, inr, ℕ, ◌+◌, Bool, true, false, List, [], ◌∷◌, ◌++◌, map, length, Option, Some, None, is_some, refl, ◌∙◌, sym, ap, subst, arith, length-append}
 use Rattle.std.specs.Prelude.{if◌then◌else◌}
 use Rattle.std.specs.List.{list_all}
 use Rattle.gql_grammar.specs.declared.word.Word.{Word}
@@ -28,7 +28,7 @@ use Rattle.gql_cst.specs.Leaves.{part_of}
 use Rattle.gql_cst.specs.Machine.{State, Turned, again, taken, refused, finished, Settles, takes_it, refuses_it, finishes, later, Begins, Judges, node_of, pushed, entered, enter, takes_at, turned_at, closed_in, ended, all_ended}
 use Rattle.gql_cst.specs.Sentences.{shown_of, root_kind, kind_or, empty, Stood}
 use Rattle.gql_cst.specs.Sound.{is_node, makes_node, IsSound}
-use Rattle.gql_cst.proofs.Begun.{way_begins, begins-append, entered_begins, Goes, settles_goes}
+use Rattle.gql_cst.proofs.Opening.{way_begins, begins-append, entered_begins, Goes, settles_goes}
 use Rattle.gql_cst.proofs.Cuts.{whole, Leads, then_leads, leads-node, makes_late, reads-leads, filled_node, reads-filled, up-leads}
 use Rattle.gql_cst.proofs.Deeper.{up}
 use Rattle.gql_cst.proofs.Shown.{shown_of-append, shown_of-node}

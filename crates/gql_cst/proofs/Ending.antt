@@ -1,5 +1,5 @@
 -- A parser that goes on by a token, or stops.
-use Rattle.std.proofs.Common.{◌≡◌, ℕ, ◌+◌, inl, inr, Bool, true, false, List, [], ◌∷◌, ◌++◌, map, length, Option, Some, None, refl, ◌∙◌, sym, ap, subst, arith, length-append}
+use Rattle.std.proofs.Common.{◌≡◌, ℕ, ◌+◌, inl, inr, Bool, true, false, List, [], ◌∷◌, ◌++◌, length, Option, Some, None, refl, ◌∙◌, sym, ap, subst, arith, length-append}
 use Rattle.std.specs.declared.ops.Range.{Range}
 use Rattle.gql_lexer.specs.declared.error.CstError.{CstError}
 use Rattle.gql_lexer.specs.declared.error.CstError.TheVariants.{Syntax, RecursionLimit}
@@ -9,22 +9,18 @@ use Rattle.gql_grammar.specs.declared.rule.Rule.{Rule}
 use Rattle.gql_grammar.specs.declared.syntax_kind.SyntaxKind.TheVariants as kind
 use Rattle.gql_cst.specs.declared.turn.Turn.{Turn}
 use Rattle.gql_cst.specs.declared.turn.Turn.TheVariants as turn
-use Rattle.gql_cst.specs.declared.machine.Machine.{Machine}
-use Rattle.gql_cst.specs.declared.parser.Parser.{Parser}
-use Rattle.gql_cst.specs.declared.tree.Tree.{Tree}
-use Rattle.gql_cst.specs.Forest.{Plain, plain, nothing}
+use Rattle.gql_cst.specs.Standing.{Standing}
+use Rattle.gql_cst.specs.Forest.{Plain, nothing}
 use Rattle.gql_grammar.specs.declared.syntax_kind.SyntaxKind.{SyntaxKind}
 use Rattle.gql_cst.specs.Leaves.{Part, word, ignored, node, part_of, Leaf, leaves_of, IsLeaf}
 use Rattle.gql_cst.specs.Nesting.{nesting_of}
 use Rattle.gql_grammar.specs.declared.symbol.Symbol.{Symbol}
 use Rattle.gql_grammar.specs.declared.symbol.Symbol.TheVariants.{Token, One, Optional, Repeated, Eager, Wrap, Close}
 use Rattle.gql_cst.specs.Machine.{State, Turned, closed_in, turned_at, Settles, takes_it, refuses_it, finishes, later, Judges, told, grown}
-use Rattle.gql_cst.specs.Held.{state}
 use Rattle.gql_cst.specs.Sound.{is_node, IsSound}
 use Rattle.gql_cst.specs.Spans.{Spans, AllSpanIn}
 use Rattle.gql_cst.specs.Outcome.{IsWithin}
-use Rattle.gql_cst.specs.Progress.{IsRead, IsUnderway, HasStopped, SameText, word_leaf}
-use Rattle.std.proofs.lemmas.List.{map-append}
+use Rattle.gql_cst.specs.Progress.{IsRead, IsUnderway, HasStopped, word_leaf}
 use Rattle.gql_cst.proofs.Rows.{nesting_of-append}
 use Rattle.gql_cst.proofs.Spans.{spans-append}
 use Rattle.gql_cst.proofs.Sounds.{Keeps, state_of, along, judges_keep, grown_keeps}
@@ -39,7 +35,7 @@ state_of-told turn.Finished s = refl
 pub keeps_told : (start : Rule) (next : Option Word) (begun : Bool) (t : Turn) (s new : State) → IsSound s → Judges start next begun s (told t new) → Keeps s new
 keeps_told start next begun t s new h j = along s new _ (sym (state_of-told t new)) (judges_keep start next begun s (told t new) h j)
 
-pub limit_stops : (p : Parser) (range : Range ℕ) → IsUnderway p range.start → IsLeaf p.text.now range.start (word_leaf range)
+pub limit_stops : (p : Standing) (range : Range ℕ) → IsUnderway p range.start → IsLeaf p.text range.start (word_leaf range)
     → HasStopped p range.start (Some (RecursionLimit range))
 limit_stops p range h l = record {
   tiles = h.tiles;
@@ -49,8 +45,8 @@ limit_stops p range h l = record {
   stops = (inr (l, h.counted), h.within);
 }
 
-pub limit_ends : (p : Parser) → IsRead p (length p.text.now)
-    → HasStopped p (length p.text.now) (Some (RecursionLimit (record { start = length p.text.now; end = length p.text.now })))
+pub limit_ends : (p : Standing) → IsRead p (length p.text)
+    → HasStopped p (length p.text) (Some (RecursionLimit (record { start = length p.text; end = length p.text })))
 limit_ends p h = record {
   tiles = h.tiles;
   sound = h.sound;
@@ -60,21 +56,21 @@ limit_ends p h = record {
 }
 
 -- a word was judged
-pub judged : (p : Parser) (m : Machine) (b : Bool) (t : Turn) (next : Option Word) (place : ℕ) → IsUnderway p place
-    → Judges p.start next p.begun (state p.machine) (told t (state m)) → IsUnderway (record p { machine = m; begun = b }) place
+pub judged : (p : Standing) (m : State) (b : Bool) (t : Turn) (next : Option Word) (place : ℕ) → IsUnderway p place
+    → Judges p.start next p.begun p.state (told t m) → IsUnderway (record p { state = m; begun = b }) place
 judged p m b t next place h j =
-    let k = keeps_told p.start next p.begun t (state p.machine) (state m) h.sound j in
-    let e = held-keeps (state p.machine) (state m) (map plain p.ignored.items) k in
+    let k = keeps_told p.start next p.begun t p.state m h.sound j in
+    let e = held-keeps p.state m p.ignored k in
     record { tiles = rw e h.tiles; counted = rw e h.counted; within = h.within; sound = k.sound; flat = h.flat; spans = h.spans }
 
-pub judged_end : (p : Parser) (m : Machine) (b : Bool) (t : Turn) (place : ℕ) → IsRead p place
-    → Judges p.start None p.begun (state p.machine) (told t (state m)) → IsRead (record p { machine = m; begun = b }) place
+pub judged_end : (p : Standing) (m : State) (b : Bool) (t : Turn) (place : ℕ) → IsRead p place
+    → Judges p.start None p.begun p.state (told t m) → IsRead (record p { state = m; begun = b }) place
 judged_end p m b t place h j =
-    let k = keeps_told p.start None p.begun t (state p.machine) (state m) h.sound j in
-    let e = held-keeps (state p.machine) (state m) (map plain p.ignored.items) k in
+    let k = keeps_told p.start None p.begun t p.state m h.sound j in
+    let e = held-keeps p.state m p.ignored k in
     record { tiles = rw e h.tiles; counted = rw e h.counted; within = h.within; sound = k.sound; flat = h.flat; spans = h.spans }
 
-pub bad_stops : (p : Parser) (range : Range ℕ) → IsUnderway p range.start → IsLeaf p.text.now range.start (word_leaf range)
+pub bad_stops : (p : Standing) (range : Range ℕ) → IsUnderway p range.start → IsLeaf p.text range.start (word_leaf range)
     → HasStopped p range.start (Some (Syntax BadToken range))
 bad_stops p range h l = record {
   tiles = h.tiles;
@@ -100,46 +96,46 @@ spans-then trees t k range h e token =
     bare node h = cc
 
 -- a word was taken
-pub takes_word : (p q : Parser) (tree : Tree) (range : Range ℕ) → IsUnderway p range.start → IsLeaf p.text.now range.start (word_leaf range)
-    → plain tree ≡ record { kind = kind.Token; start = range.start; end = range.end; children = nothing }
-    → state q.machine ≡ grown (map plain p.ignored.items ++ (plain tree ∷ [])) (state p.machine) → q.ignored.items ≡ []
-    → IsRead (record p { machine = q.machine; ignored = q.ignored }) range.end
+pub takes_word : (p q : Standing) (tree : Plain) (range : Range ℕ) → IsUnderway p range.start → IsLeaf p.text range.start (word_leaf range)
+    → tree ≡ record { kind = kind.Token; start = range.start; end = range.end; children = nothing }
+    → q.state ≡ grown (p.ignored ++ (tree ∷ [])) p.state → q.ignored ≡ []
+    → IsRead (record p { state = q.state; ignored = q.ignored }) range.end
 takes_word p q tree range h l e g none =
-    let ignored = map plain p.ignored.items in
+    let ignored = p.ignored in
     let leaf = word_leaf range in
-    let trees = ignored ++ (plain tree ∷ []) in
-    let flat : nesting_of trees ≡ 0 = rw (nesting_of-append ignored (plain tree ∷ []), e, h.flat) refl in
-    let f : held (state q.machine) (map plain q.ignored.items) ≡ held (state p.machine) ignored ++ (leaf ∷ []) =
-    ap (λ i. held (state q.machine) (map plain i)) none ∙ ap (λ s. held s []) g ∙ held-grown (state p.machine) ignored (plain tree) h.sound
-    ∙ ap (λ t. held (state p.machine) ignored ++ leaves_of (t ∷ [])) e in
+    let trees = ignored ++ (tree ∷ []) in
+    let flat : nesting_of trees ≡ 0 = rw (nesting_of-append ignored (tree ∷ []), e, h.flat) refl in
+    let f : held q.state q.ignored ≡ held p.state ignored ++ (leaf ∷ []) =
+    ap (λ i. held q.state i) none ∙ ap (λ s. held s []) g ∙ held-grown p.state ignored tree h.sound
+    ∙ ap (λ t. held p.state ignored ++ leaves_of (t ∷ [])) e in
     record {
-      tiles = rw f (tiles-then p.text.now 0 (held (state p.machine) ignored) range.start leaf h.tiles l);
-      counted = rw f (h.counted ∙ sym (length-one (held (state p.machine) ignored) leaf));
+      tiles = rw f (tiles-then p.text 0 (held p.state ignored) range.start leaf h.tiles l);
+      counted = rw f (h.counted ∙ sym (length-one (held p.state ignored) leaf));
       within = h.within;
-      sound = subst (λ (s : State). IsSound s) (sym g) (grown_keeps trees (state p.machine) flat (spans-then ignored (plain tree) kind.Token range h.spans e refl) h.sound);
-      flat = ap (λ i. nesting_of (map plain i)) none;
-      spans = subst (λ (i : List Tree). AllSpanIn (map plain i)) (sym none) tt;
+      sound = subst (λ (s : State). IsSound s) (sym g) (grown_keeps trees p.state flat (spans-then ignored tree kind.Token range h.spans e refl) h.sound);
+      flat = ap (λ i. nesting_of i) none;
+      spans = subst (λ (i : List Plain). AllSpanIn i) (sym none) tt;
     }
 
 -- an ignored token was read
-pub passes_ignored : (p q : Parser) (tree : Tree) (range : Range ℕ) (n : ℕ) → IsRead p range.start → IsLeaf p.text.now range.start (record { part = ignored; start = range.start; end = range.end })
-    → plain tree ≡ record { kind = kind.Ignored; start = range.start; end = range.end; children = nothing }
-    → q.ignored.items ≡ p.ignored.items ++ (tree ∷ []) → n ≡ p.tokens + 1 → IsWithin p.limits.tokens n
+pub passes_ignored : (p q : Standing) (tree : Plain) (range : Range ℕ) (n : ℕ) → IsRead p range.start → IsLeaf p.text range.start (record { part = ignored; start = range.start; end = range.end })
+    → tree ≡ record { kind = kind.Ignored; start = range.start; end = range.end; children = nothing }
+    → q.ignored ≡ p.ignored ++ (tree ∷ []) → n ≡ p.tokens + 1 → IsWithin p.limits.tokens n
     → IsRead (record p { ignored = q.ignored; tokens = n }) range.end
 passes_ignored p q tree range n h l e more counted within =
-    let old = map plain p.ignored.items in
+    let old = p.ignored in
     let leaf : Leaf = record { part = ignored; start = range.start; end = range.end } in
-    let m : map plain q.ignored.items ≡ old ++ (plain tree ∷ []) = ap (λ i. map plain i) more ∙ map-append plain p.ignored.items (tree ∷ []) in
-    let none_more : nesting_of (old ++ (plain tree ∷ [])) ≡ 0 = rw (nesting_of-append old (plain tree ∷ []), e, h.flat) refl in
-    let f : held (state p.machine) (map plain q.ignored.items) ≡ held (state p.machine) old ++ (leaf ∷ []) =
-    ap (λ i. held (state p.machine) i) m ∙ held-ignored (state p.machine) old (plain tree) ∙ ap (λ t. held (state p.machine) old ++ leaves_of (t ∷ [])) e in
+    let m : q.ignored ≡ old ++ (tree ∷ []) = more in
+    let none_more : nesting_of (old ++ (tree ∷ [])) ≡ 0 = rw (nesting_of-append old (tree ∷ []), e, h.flat) refl in
+    let f : held p.state q.ignored ≡ held p.state old ++ (leaf ∷ []) =
+    ap (λ i. held p.state i) m ∙ held-ignored p.state old tree ∙ ap (λ t. held p.state old ++ leaves_of (t ∷ [])) e in
     record {
-      tiles = rw f (tiles-then p.text.now 0 (held (state p.machine) old) range.start leaf h.tiles l);
-      counted = rw f (counted ∙ ap (λ z. z + 1) h.counted ∙ sym (length-one (held (state p.machine) old) leaf));
+      tiles = rw f (tiles-then p.text 0 (held p.state old) range.start leaf h.tiles l);
+      counted = rw f (counted ∙ ap (λ z. z + 1) h.counted ∙ sym (length-one (held p.state old) leaf));
       within = within;
       sound = h.sound;
       flat = ap nesting_of m ∙ none_more;
-      spans = subst (λ (ts : List Plain). AllSpanIn ts) (sym m) (spans-then old (plain tree) kind.Ignored range h.spans e refl);
+      spans = subst (λ (ts : List Plain). AllSpanIn ts) (sym m) (spans-then old tree kind.Ignored range h.spans e refl);
     }
 
 -- ---- the end of the text
@@ -170,10 +166,10 @@ still_judges start true s end j = still_settles s end j
 still_judges start false s end j = ap (λ t. (state_of t).deepest) j
 
 -- the end of the text was judged
-pub ends_at : (p : Parser) (m : Machine) (b : Bool) (t : Turn) → IsRead p (length p.text.now)
-    → Judges p.start None p.begun (state p.machine) (told t (state m)) → HasStopped (record p { machine = m; begun = b }) (length p.text.now) None
+pub ends_at : (p : Standing) (m : State) (b : Bool) (t : Turn) → IsRead p (length p.text)
+    → Judges p.start None p.begun p.state (told t m) → HasStopped (record p { state = m; begun = b }) (length p.text) None
 ends_at p m b t h j =
-    let r = judged_end p m b t (length p.text.now) h j in
+    let r = judged_end p m b t (length p.text) h j in
     record {
       tiles = r.tiles;
       sound = r.sound;
@@ -182,34 +178,28 @@ ends_at p m b t h j =
       stops = (refl, r.counted, r.within);
     }
 
-pub cut_at : (p : Parser) (m : Machine) (b : Bool) (t : Turn) → IsRead p (length p.text.now)
-    → Judges p.start None p.begun (state p.machine) (told t (state m))
-    → HasStopped (record p { machine = m; begun = b }) (length p.text.now) (Some (Syntax EndOfText (record { start = length p.text.now; end = length p.text.now })))
+pub cut_at : (p : Standing) (m : State) (b : Bool) (t : Turn) → IsRead p (length p.text)
+    → Judges p.start None p.begun p.state (told t m)
+    → HasStopped (record p { state = m; begun = b }) (length p.text) (Some (Syntax EndOfText (record { start = length p.text; end = length p.text })))
 cut_at p m b t h j =
     let e = ends_at p m b t h j in
     record { tiles = e.tiles; sound = e.sound; flat = e.flat; spans = e.spans; stops = (((refl, refl, refl), e.stops.1), e.stops.2) }
 
 -- what changed is the machine, and whether the rule of the whole text has begun
-abbrev pub Moved : Parser → Parser → Type 0
-Moved p q = q ≡ record p { machine = q.machine; begun = q.begun }
+abbrev pub Moved : Standing → Standing → Type 0
+Moved p q = q ≡ record p { state = q.state; begun = q.begun }
 
-pub same_text : (p q : Parser) → Moved p q → SameText p q
-same_text p q e = record { text = ap (λ r. r.text) e; limits = ap (λ r. r.limits) e; start = ap (λ r. r.start) e }
+pub moved_end : (p q : Standing) (t : Turn) → Moved p q → IsRead p (length p.text)
+    → Judges p.start None p.begun p.state (told t q.state) → HasStopped q (length q.text) None
+moved_end p q t e h j = subst (λ (r : Standing). HasStopped r (length r.text) None) (sym e) (ends_at p q.state q.begun t h j)
 
-pub moved_end : (p q : Parser) (t : Turn) → Moved p q → IsRead p (length p.text.now)
-    → Judges p.start None p.begun (state p.machine) (told t (state q.machine)) → HasStopped q (length q.text.now) None
-moved_end p q t e h j = subst (λ (r : Parser). HasStopped r (length r.text.now) None) (sym e) (ends_at p q.machine q.begun t h j)
-
-pub moved_cut : (p q : Parser) (t : Turn) → Moved p q → IsRead p (length p.text.now)
-    → Judges p.start None p.begun (state p.machine) (told t (state q.machine))
-    → HasStopped q (length q.text.now) (Some (Syntax EndOfText (record { start = length p.text.now; end = length p.text.now })))
+pub moved_cut : (p q : Standing) (t : Turn) → Moved p q → IsRead p (length p.text)
+    → Judges p.start None p.begun p.state (told t q.state)
+    → HasStopped q (length q.text) (Some (Syntax EndOfText (record { start = length p.text; end = length p.text })))
 moved_cut p q t e h j =
-    let error : Option CstError = Some (Syntax EndOfText (record { start = length p.text.now; end = length p.text.now })) in
-    subst (λ (r : Parser). HasStopped r (length r.text.now) error) (sym e) (cut_at p q.machine q.begun t h j)
+    let error : Option CstError = Some (Syntax EndOfText (record { start = length p.text; end = length p.text })) in
+    subst (λ (r : Standing). HasStopped r (length r.text) error) (sym e) (cut_at p q.state q.begun t h j)
 
-pub moved_underway : (p q : Parser) (t : Turn) (next : Option Word) (place : ℕ) → Moved p q → IsUnderway p place
-    → Judges p.start next p.begun (state p.machine) (told t (state q.machine)) → IsUnderway q place
-moved_underway p q t next place e h j = subst (λ (r : Parser). IsUnderway r place) (sym e) (judged p q.machine q.begun t next place h j)
-
-pub moved_leaf : (p q : Parser) (place : ℕ) (leaf : Leaf) → Moved p q → IsLeaf p.text.now place leaf → IsLeaf q.text.now place leaf
-moved_leaf p q place leaf e l = subst (λ (r : Parser). IsLeaf r.text.now place leaf) (sym e) l
+pub moved_underway : (p q : Standing) (t : Turn) (next : Option Word) (place : ℕ) → Moved p q → IsUnderway p place
+    → Judges p.start next p.begun p.state (told t q.state) → IsUnderway q place
+moved_underway p q t next place e h j = subst (λ (r : Standing). IsUnderway r place) (sym e) (judged p q.state q.begun t next place h j)

@@ -1,7 +1,6 @@
 -- What a parser's steps tell of the sentences of the grammar.
 use Rattle.std.proofs.Common.{◌≡◌, ℕ, Bool, true, false, List, [], ◌∷◌, ◌++◌, map, Option, Some, None, is_some, refl, ◌∙◌, sym, ap, subst, append_assoc, ◌<◌, arith}
 use Rattle.std.specs.Prelude.{slice_range}
-use Rattle.std.proofs.lemmas.List.{map-append}
 use Rattle.std.specs.declared.ops.Range.{Range}
 use Rattle.gql_lexer.specs.declared.error.CstError.{CstError}
 use Rattle.gql_lexer.specs.declared.error.CstError.TheVariants.{Syntax, RecursionLimit, TokenLimit}
@@ -21,13 +20,10 @@ use Rattle.gql_grammar.proofs.Unique.{Sentence-unique}
 use Rattle.gql_grammar.proofs.Rooted.{none_beginning, look_in, begun_in, accepted_in}
 use Rattle.gql_cst.specs.declared.turn.Turn.{Turn}
 use Rattle.gql_cst.specs.declared.turn.Turn.TheVariants as turn
-use Rattle.gql_cst.specs.declared.machine.Machine.{Machine}
-use Rattle.gql_cst.specs.declared.parser.Parser.{Parser}
-use Rattle.gql_cst.specs.declared.tree.Tree.{Tree}
+use Rattle.gql_cst.specs.Standing.{Standing}
 use Rattle.gql_cst.specs.Cut.{is_filled, IsCut}
-use Rattle.gql_cst.specs.Forest.{Plain, plain, nothing}
+use Rattle.gql_cst.specs.Forest.{Plain, nothing}
 use Rattle.gql_cst.specs.Leaves.{Leaf, leaves_of}
-use Rattle.gql_cst.specs.Held.{state}
 use Rattle.gql_cst.specs.Judged.{words_of, word_in, IsFilled, IsStood, IsJudged}
 use Rattle.gql_cst.specs.Machine.{State, Turned, again, taken, refused, finished, Settles, takes_it, refuses_it, finishes, later, Begins, Judges, told, ended, all_ended, grown}
 use Rattle.gql_cst.specs.Progress.{trees}
@@ -36,7 +32,7 @@ use Rattle.gql_cst.specs.Sound.{IsSound}
 use Rattle.gql_cst.specs.Words.{word_of}
 use Rattle.gql_cst.proofs.Ending.{Moved, keeps_told}
 use Rattle.gql_cst.proofs.Held.{held, held-keeps, held-ignored, held-grown}
-use Rattle.gql_cst.proofs.Begun.{Closed, judges_closed}
+use Rattle.gql_cst.proofs.Opening.{Closed, judges_closed}
 use Rattle.gql_cst.proofs.Cutting.{CutAt, CutTold, stood_cut, judges_cut}
 use Rattle.gql_cst.proofs.Cuts.{filled_leaf}
 use Rattle.gql_cst.proofs.Deeper.{deeper}
@@ -66,8 +62,8 @@ begins_at : (start : Rule) (text : List ℕ) (begun : Bool) (s : State) (before 
 begins_at start text true s before h stood = begun_in (look_in stood None)
 begins_at start text false s before h stood = subst (λ (ws : List Word). IsBeginning start ws) (sym stood.1) (none_beginning start h)
 
-pub begins : (p : Parser) → IsStood p → IsBeginning p.start (words_of p)
-begins p h = begins_at p.start p.text.now p.begun (state p.machine) (words_of p) h.starts h.stood
+pub begins : (p : Standing) → IsStood p → IsBeginning p.start (words_of p)
+begins p h = begins_at p.start p.text p.begun p.state (words_of p) h.starts h.stood
 
 with_ignored : (start : Rule) (text : List ℕ) (s : State) (ignored : List Plain) (before : List Word) → shown_of text ignored ≡ row.nothing
     → CutAt start text before s → IsCut start before (shown_of text (all_ended s ++ ignored))
@@ -78,24 +74,24 @@ with_ignored start text s ignored before hidden c =
     subst (λ (x : Row). IsCut start before x) (sym same) c
 
 -- its trees are those of a sentence, cut there
-pub cuts : (p : Parser) → IsSound (state p.machine) → IsStood p → IsCut p.start (words_of p) (shown_of p.text.now (trees p))
+pub cuts : (p : Standing) → IsSound p.state → IsStood p → IsCut p.start (words_of p) (shown_of p.text (trees p))
 cuts p sound h =
-    with_ignored p.start p.text.now (state p.machine) (map plain p.ignored.items) (words_of p) h.hidden
-    (stood_cut p.start p.text.now p.begun (state p.machine) (words_of p) h.starts sound h.filled h.stood)
+    with_ignored p.start p.text p.state p.ignored (words_of p) h.hidden
+    (stood_cut p.start p.text p.begun p.state (words_of p) h.starts sound h.filled h.stood)
 
-pub limit_judged : (p : Parser) (range : Range ℕ) → IsSound (state p.machine) → IsStood p → p.limits.recursion < p.machine.deepest → IsJudged p (Some (RecursionLimit range))
+pub limit_judged : (p : Standing) (range : Range ℕ) → IsSound p.state → IsStood p → p.limits.recursion < p.state.deepest → IsJudged p (Some (RecursionLimit range))
 limit_judged p range sound h past = record {
   begins = begins p h;
   cut = cuts p sound h;
   judged = λ more other d.
-      omega (arith, past, deeper p.start p.text.now p.begun (state p.machine) (words_of p) sound h.stood more other d);
+      omega (arith, past, deeper p.start p.text p.begun p.state (words_of p) sound h.stood more other d);
 }
 
-pub token_limit_judged : (p : Parser) (n : ℕ) (range : Range ℕ) → IsSound (state p.machine) → IsStood p → IsJudged (record p { tokens = n }) (Some (TokenLimit range))
+pub token_limit_judged : (p : Standing) (n : ℕ) (range : Range ℕ) → IsSound p.state → IsStood p → IsJudged (record p { tokens = n }) (Some (TokenLimit range))
 token_limit_judged p n range sound h = record { begins = begins p h; cut = cuts p sound h; judged = tt }
 
 -- a fault of the text itself
-pub fault_judged : (p : Parser) (old new : Reading) (error : CstError) → IsSound (state p.machine) → IsStood p → ReadsError old new error → IsJudged p (Some error)
+pub fault_judged : (p : Standing) (old new : Reading) (error : CstError) → IsSound p.state → IsStood p → ReadsError old new error → IsJudged p (Some error)
 fault_judged p old new (Syntax BadCharacter range) sound h f = record { begins = begins p h; cut = cuts p sound h; judged = tt }
 fault_judged p old new (Syntax OpenString range) sound h f = record { begins = begins p h; cut = cuts p sound h; judged = tt }
 fault_judged p old new (Syntax BadEscape range) sound h f = record { begins = begins p h; cut = cuts p sound h; judged = tt }
@@ -142,32 +138,32 @@ told_cut start text before turn.Refused s end not c = c
 told_cut start text before turn.Finished s end not c = c
 
 -- the trees are cut where they were, also behind the nodes that ended
-judged_cuts : (p : Parser) (m : Machine) (t : Turn) (next : Option Word) → IsSound (state p.machine) → IsStood p → (t ≡ turn.Taken → ⊥)
-    → Judges p.start next p.begun (state p.machine) (told t (state m)) → IsCut p.start (words_of p) (shown_of p.text.now (all_ended (state m) ++ map plain p.ignored.items))
+judged_cuts : (p : Standing) (m : State) (t : Turn) (next : Option Word) → IsSound p.state → IsStood p → (t ≡ turn.Taken → ⊥)
+    → Judges p.start next p.begun p.state (told t m) → IsCut p.start (words_of p) (shown_of p.text (all_ended m ++ p.ignored))
 judged_cuts p m t next sound h not j =
-    let end = told t (state m) in
-    with_ignored p.start p.text.now (state m) (map plain p.ignored.items) (words_of p) h.hidden
-    (told_cut p.start p.text.now (words_of p) t (state m) (judges_end p.start next p.begun (state p.machine) end j) not
-    (judges_cut p.start p.text.now next p.begun (state p.machine) (words_of p) end h.starts sound h.filled h.stood j))
+    let end = told t m in
+    with_ignored p.start p.text m p.ignored (words_of p) h.hidden
+    (told_cut p.start p.text (words_of p) t m (judges_end p.start next p.begun p.state end j) not
+    (judges_cut p.start p.text next p.begun p.state (words_of p) end h.starts sound h.filled h.stood j))
 
-bad_at : (p : Parser) (m : Machine) (b : Bool) (t : Turn) (w : Word) (range : Range ℕ) → IsSound (state p.machine) → IsStood p → w ≡ word_in p.text.now range
-    → (t ≡ turn.Taken → ⊥) → Judges p.start (Some w) p.begun (state p.machine) (told t (state m)) → IsJudged (record p { machine = m; begun = b }) (Some (Syntax BadToken range))
+bad_at : (p : Standing) (m : State) (b : Bool) (t : Turn) (w : Word) (range : Range ℕ) → IsSound p.state → IsStood p → w ≡ word_in p.text range
+    → (t ≡ turn.Taken → ⊥) → Judges p.start (Some w) p.begun p.state (told t m) → IsJudged (record p { state = m; begun = b }) (Some (Syntax BadToken range))
 bad_at p m b t w range sound h is not j =
-    let v = judges_verdict p.start p.text.now (Some w) p.begun (state p.machine) (words_of p) (told t (state m)) h.starts sound h.stood j in
-    let no : IsBeginning p.start (words_of p ++ (word_in p.text.now range ∷ [])) → ⊥ =
+    let v = judges_verdict p.start p.text (Some w) p.begun p.state (words_of p) (told t m) h.starts sound h.stood j in
+    let no : IsBeginning p.start (words_of p ++ (word_in p.text range ∷ [])) → ⊥ =
     subst (λ (v : Word). IsBeginning p.start (words_of p ++ (v ∷ [])) → ⊥) is
-    (refuses p.start (root_kind p.start) p.text.now (words_of p) w t (state m) (judges_end p.start (Some w) p.begun (state p.machine) (told t (state m)) j) not v) in
-    let same : words_of p ≡ words p.text.now (held (state m) (map plain p.ignored.items)) =
-    ap (λ ls. words p.text.now ls) (sym (held-keeps (state p.machine) (state m) (map plain p.ignored.items) (keeps_told p.start (Some w) p.begun t (state p.machine) (state m) sound j))) in
+    (refuses p.start (root_kind p.start) p.text (words_of p) w t m (judges_end p.start (Some w) p.begun p.state (told t m) j) not v) in
+    let same : words_of p ≡ words p.text (held m p.ignored) =
+    ap (λ ls. words p.text ls) (sym (held-keeps p.state m p.ignored (keeps_told p.start (Some w) p.begun t p.state m sound j))) in
     record {
       begins = subst (λ (ws : List Word). IsBeginning p.start ws) same (begins p h);
-      cut = subst (λ (ws : List Word). IsCut p.start ws (shown_of p.text.now (all_ended (state m) ++ map plain p.ignored.items))) same (judged_cuts p m t (Some w) sound h not j);
-      judged = subst (λ (ws : List Word). IsBeginning p.start (ws ++ (word_in p.text.now range ∷ [])) → ⊥) same no;
+      cut = subst (λ (ws : List Word). IsCut p.start ws (shown_of p.text (all_ended m ++ p.ignored))) same (judged_cuts p m t (Some w) sound h not j);
+      judged = subst (λ (ws : List Word). IsBeginning p.start (ws ++ (word_in p.text range ∷ [])) → ⊥) same no;
     }
 
-pub bad_judged : (p q : Parser) (t : Turn) (w : Word) (range : Range ℕ) → Moved p q → IsSound (state p.machine) → IsStood p → w ≡ word_in p.text.now range
-    → (t ≡ turn.Taken → ⊥) → Judges p.start (Some w) p.begun (state p.machine) (told t (state q.machine)) → IsJudged q (Some (Syntax BadToken range))
-bad_judged p q t w range e sound h is not j = subst (λ (r : Parser). IsJudged r (Some (Syntax BadToken range))) (sym e) (bad_at p q.machine q.begun t w range sound h is not j)
+pub bad_judged : (p q : Standing) (t : Turn) (w : Word) (range : Range ℕ) → Moved p q → IsSound p.state → IsStood p → w ≡ word_in p.text range
+    → (t ≡ turn.Taken → ⊥) → Judges p.start (Some w) p.begun p.state (told t q.state) → IsJudged q (Some (Syntax BadToken range))
+bad_judged p q t w range e sound h is not j = subst (λ (r : Standing). IsJudged r (Some (Syntax BadToken range))) (sym e) (bad_at p q.state q.begun t w range sound h is not j)
 
 closed_at : (t : Turn) (s : State) (d : ℕ) → IsEnd (told t s) → (t ≡ turn.Taken → ⊥) → Closed d (told t s) → s.deepest ≡ d
 closed_at turn.Again s d end not c = absurd end
@@ -176,128 +172,128 @@ closed_at turn.Refused s d end not c = c
 closed_at turn.Finished s d end not c = c
 
 -- it opened no level
-pub same_deepest : (p q : Parser) (t : Turn) (w : Word) → (t ≡ turn.Taken → ⊥)
-    → Judges p.start (Some w) p.begun (state p.machine) (told t (state q.machine)) → q.machine.deepest ≡ p.machine.deepest
+pub same_deepest : (p q : Standing) (t : Turn) (w : Word) → (t ≡ turn.Taken → ⊥)
+    → Judges p.start (Some w) p.begun p.state (told t q.state) → q.state.deepest ≡ p.state.deepest
 same_deepest p q t w not j =
-    let end = told t (state q.machine) in
-    closed_at t (state q.machine) p.machine.deepest (judges_end p.start (Some w) p.begun (state p.machine) end j) not (judges_closed p.start w p.begun (state p.machine) end j)
+    let end = told t q.state in
+    closed_at t q.state p.state.deepest (judges_end p.start (Some w) p.begun p.state end j) not (judges_closed p.start w p.begun p.state end j)
 
 -- ---- a taken word
 
-taken_row : (p : Parser) (s : State) (tree : Tree) (w : Word) (range : Range ℕ) → IsStood p → w ≡ word_in p.text.now range
-    → plain tree ≡ record { kind = kind.Token; start = range.start; end = range.end; children = nothing }
-    → shown_of p.text.now (s.row ++ (map plain p.ignored.items ++ (plain tree ∷ []))) ≡ with_leaf (shown_of p.text.now s.row) w
+taken_row : (p : Standing) (s : State) (tree : Plain) (w : Word) (range : Range ℕ) → IsStood p → w ≡ word_in p.text range
+    → tree ≡ record { kind = kind.Token; start = range.start; end = range.end; children = nothing }
+    → shown_of p.text (s.row ++ (p.ignored ++ (tree ∷ []))) ≡ with_leaf (shown_of p.text s.row) w
 taken_row p s tree w range h is leaf =
-    let text = p.text.now in
-    let ignored = map plain p.ignored.items in
-    let one : shown_of text (plain tree ∷ []) ≡ row.leaf w row.nothing = ap (λ t. shown_of text (t ∷ [])) leaf ∙ ap (λ u. row.leaf u row.nothing) (sym is) in
-    let both : shown_of text (ignored ++ (plain tree ∷ [])) ≡ row.leaf w row.nothing =
-    shown_of-append text ignored (plain tree ∷ []) ∙ ap (λ x. joined x (shown_of text (plain tree ∷ []))) h.hidden ∙ one in
-    shown_of-append text s.row (ignored ++ (plain tree ∷ [])) ∙ ap (λ x. joined (shown_of text s.row) x) both
+    let text = p.text in
+    let ignored = p.ignored in
+    let one : shown_of text (tree ∷ []) ≡ row.leaf w row.nothing = ap (λ t. shown_of text (t ∷ [])) leaf ∙ ap (λ u. row.leaf u row.nothing) (sym is) in
+    let both : shown_of text (ignored ++ (tree ∷ [])) ≡ row.leaf w row.nothing =
+    shown_of-append text ignored (tree ∷ []) ∙ ap (λ x. joined x (shown_of text (tree ∷ []))) h.hidden ∙ one in
+    shown_of-append text s.row (ignored ++ (tree ∷ [])) ∙ ap (λ x. joined (shown_of text s.row) x) both
 
-took_at : (p : Parser) (s : State) (m : Machine) (tree : Tree) (w : Word) (range : Range ℕ) → IsSound (state p.machine) → IsStood p → w ≡ word_in p.text.now range
-    → Judges p.start (Some w) p.begun (state p.machine) (taken s) → plain tree ≡ record { kind = kind.Token; start = range.start; end = range.end; children = nothing }
-    → state m ≡ grown (map plain p.ignored.items ++ (plain tree ∷ [])) s
+took_at : (p : Standing) (s : State) (m : State) (tree : Plain) (w : Word) (range : Range ℕ) → IsSound p.state → IsStood p → w ≡ word_in p.text range
+    → Judges p.start (Some w) p.begun p.state (taken s) → tree ≡ record { kind = kind.Token; start = range.start; end = range.end; children = nothing }
+    → m ≡ grown (p.ignored ++ (tree ∷ [])) s
     → (before : List Word) → before ≡ words_of p ++ (w ∷ [])
-    → Stood p.start p.text.now true (state m) before
+    → Stood p.start p.text true m before
 took_at p s m tree w range sound h is j leaf g before b =
-    let text = p.text.now in
-    let ignored = map plain p.ignored.items in
+    let text = p.text in
+    let ignored = p.ignored in
     let v : BetweenIn p.start (root_kind p.start) (words_of p ++ (w ∷ [])) s.stack (with_leaf (shown_of text s.row) w) (map (shown_of text) s.rows) =
-    judges_verdict p.start text (Some w) p.begun (state p.machine) (words_of p) (taken s) h.starts sound h.stood j in
+    judges_verdict p.start text (Some w) p.begun p.state (words_of p) (taken s) h.starts sound h.stood j in
     let all = taken_row p s tree w range h is leaf in
     let v2 = subst (λ (x : Row). BetweenIn p.start (root_kind p.start) (words_of p ++ (w ∷ [])) s.stack x (map (shown_of text) s.rows)) (sym all) v in
-    let v3 = subst (λ (ws : List Word). BetweenIn p.start (root_kind p.start) ws s.stack (shown_of text (s.row ++ (ignored ++ (plain tree ∷ [])))) (map (shown_of text) s.rows)) (sym b) v2 in
+    let v3 = subst (λ (ws : List Word). BetweenIn p.start (root_kind p.start) ws s.stack (shown_of text (s.row ++ (ignored ++ (tree ∷ [])))) (map (shown_of text) s.rows)) (sym b) v2 in
     subst (λ (x : State). Stood p.start text true x before) (sym g) v3
 
-pub words-grown : (p q : Parser) (m : Machine) (tree : Tree) (w : Word) (range : Range ℕ) (s : State) → IsSound (state p.machine) → w ≡ word_in p.text.now range
-    → Judges p.start (Some w) p.begun (state p.machine) (taken s) → plain tree ≡ record { kind = kind.Token; start = range.start; end = range.end; children = nothing }
-    → (mm : Machine) → state mm ≡ s → state q.machine ≡ grown (map plain p.ignored.items ++ (plain tree ∷ [])) s → q.ignored.items ≡ []
-    → words p.text.now (held (state q.machine) (map plain q.ignored.items)) ≡ words_of p ++ (w ∷ [])
+pub words-grown : (p q : Standing) (m : State) (tree : Plain) (w : Word) (range : Range ℕ) (s : State) → IsSound p.state → w ≡ word_in p.text range
+    → Judges p.start (Some w) p.begun p.state (taken s) → tree ≡ record { kind = kind.Token; start = range.start; end = range.end; children = nothing }
+    → (mm : State) → mm ≡ s → q.state ≡ grown (p.ignored ++ (tree ∷ [])) s → q.ignored ≡ []
+    → words p.text (held q.state q.ignored) ≡ words_of p ++ (w ∷ [])
 words-grown p q m tree w range s sound is j leaf mm e g none =
-    let text = p.text.now in
-    let ignored = map plain p.ignored.items in
-    let k = keeps_told p.start (Some w) p.begun turn.Taken (state p.machine) s sound j in
-    let f : held (state q.machine) (map plain q.ignored.items) ≡ held (state p.machine) ignored ++ leaves_of (plain tree ∷ []) =
-    ap (λ i. held (state q.machine) (map plain i)) none ∙ ap (λ x. held x []) g ∙ held-grown s ignored (plain tree) k.sound
-    ∙ ap (λ ls. ls ++ leaves_of (plain tree ∷ [])) (held-keeps (state p.machine) s ignored k) in
-    let one : words text (leaves_of (plain tree ∷ [])) ≡ w ∷ [] = ap (λ t. words text (leaves_of (t ∷ []))) leaf ∙ ap (λ u. u ∷ []) (sym is) in
-    ap (λ ls. words text ls) f ∙ words-append text (held (state p.machine) ignored) (leaves_of (plain tree ∷ [])) ∙ ap (λ z. words_of p ++ z) one
+    let text = p.text in
+    let ignored = p.ignored in
+    let k = keeps_told p.start (Some w) p.begun turn.Taken p.state s sound j in
+    let f : held q.state q.ignored ≡ held p.state ignored ++ leaves_of (tree ∷ []) =
+    ap (λ i. held q.state i) none ∙ ap (λ x. held x []) g ∙ held-grown s ignored tree k.sound
+    ∙ ap (λ ls. ls ++ leaves_of (tree ∷ [])) (held-keeps p.state s ignored k) in
+    let one : words text (leaves_of (tree ∷ [])) ≡ w ∷ [] = ap (λ t. words text (leaves_of (t ∷ []))) leaf ∙ ap (λ u. u ∷ []) (sym is) in
+    ap (λ ls. words text ls) f ∙ words-append text (held p.state ignored) (leaves_of (tree ∷ [])) ∙ ap (λ z. words_of p ++ z) one
 
-took_filled : (p : Parser) (s : State) (m : Machine) (tree : Tree) (w : Word) (range : Range ℕ) → IsStood p → w ≡ word_in p.text.now range
-    → plain tree ≡ record { kind = kind.Token; start = range.start; end = range.end; children = nothing } → state m ≡ grown (map plain p.ignored.items ++ (plain tree ∷ [])) s
-    → is_filled (shown_of p.text.now (state m).row) ≡ true
+took_filled : (p : Standing) (s : State) (m : State) (tree : Plain) (w : Word) (range : Range ℕ) → IsStood p → w ≡ word_in p.text range
+    → tree ≡ record { kind = kind.Token; start = range.start; end = range.end; children = nothing } → m ≡ grown (p.ignored ++ (tree ∷ [])) s
+    → is_filled (shown_of p.text m.row) ≡ true
 took_filled p s m tree w range h is leaf g =
-    let text = p.text.now in
-    let all : shown_of text (s.row ++ (map plain p.ignored.items ++ (plain tree ∷ []))) ≡ with_leaf (shown_of text s.row) w = taken_row p s tree w range h is leaf in
+    let text = p.text in
+    let all : shown_of text (s.row ++ (p.ignored ++ (tree ∷ []))) ≡ with_leaf (shown_of text s.row) w = taken_row p s tree w range h is leaf in
     subst (λ (x : State). is_filled (shown_of text x.row) ≡ true) (sym g) (subst (λ (x : Row). is_filled x ≡ true) (sym all) (filled_leaf (shown_of text s.row) w))
 
-took_in : (p q : Parser) (m : Machine) (b : Bool) (tree : Tree) (w : Word) (range : Range ℕ) → b ≡ true → IsSound (state p.machine) → IsStood p → w ≡ word_in p.text.now range
-    → Judges p.start (Some w) p.begun (state p.machine) (taken (state m)) → plain tree ≡ record { kind = kind.Token; start = range.start; end = range.end; children = nothing }
-    → state q.machine ≡ grown (map plain p.ignored.items ++ (plain tree ∷ [])) (state m) → q.ignored.items ≡ []
-    → IsStood (record p { machine = q.machine; begun = b; ignored = q.ignored })
+took_in : (p q : Standing) (m : State) (b : Bool) (tree : Plain) (w : Word) (range : Range ℕ) → b ≡ true → IsSound p.state → IsStood p → w ≡ word_in p.text range
+    → Judges p.start (Some w) p.begun p.state (taken m) → tree ≡ record { kind = kind.Token; start = range.start; end = range.end; children = nothing }
+    → q.state ≡ grown (p.ignored ++ (tree ∷ [])) m → q.ignored ≡ []
+    → IsStood (record p { state = q.state; begun = b; ignored = q.ignored })
 took_in p q m b tree w range begun sound h is j leaf g none =
-    let before = words p.text.now (held (state q.machine) (map plain q.ignored.items)) in
-    let stood = took_at p (state m) q.machine tree w range sound h is j leaf g before (words-grown p q m tree w range (state m) sound is j leaf m refl g none) in
+    let before = words p.text (held q.state q.ignored) in
+    let stood = took_at p m q.state tree w range sound h is j leaf g before (words-grown p q m tree w range m sound is j leaf m refl g none) in
     record {
       starts = h.starts;
-      hidden = ap (λ i. shown_of p.text.now (map plain i)) none;
-      stood = subst (λ (x : Bool). Stood p.start p.text.now x (state q.machine) before) (sym begun) stood;
-      filled = subst (λ (x : Bool). IsFilled x p.text.now (state q.machine)) (sym begun) (took_filled p (state m) q.machine tree w range h is leaf g);
+      hidden = ap (λ i. shown_of p.text i) none;
+      stood = subst (λ (x : Bool). Stood p.start p.text x q.state before) (sym begun) stood;
+      filled = subst (λ (x : Bool). IsFilled x p.text q.state) (sym begun) (took_filled p m q.state tree w range h is leaf g);
     }
 
-pub took_stands : (p q r : Parser) (t : Turn) (tree : Tree) (w : Word) (range : Range ℕ) → Moved p q → t ≡ turn.Taken → q.begun ≡ true → IsSound (state p.machine) → IsStood p → w ≡ word_in p.text.now range
-    → Judges p.start (Some w) p.begun (state p.machine) (told t (state q.machine)) → plain tree ≡ record { kind = kind.Token; start = range.start; end = range.end; children = nothing }
-    → state r.machine ≡ grown (map plain q.ignored.items ++ (plain tree ∷ [])) (state q.machine) → r.ignored.items ≡ []
-    → IsStood (record q { machine = r.machine; ignored = r.ignored })
+pub took_stands : (p q r : Standing) (t : Turn) (tree : Plain) (w : Word) (range : Range ℕ) → Moved p q → t ≡ turn.Taken → q.begun ≡ true → IsSound p.state → IsStood p → w ≡ word_in p.text range
+    → Judges p.start (Some w) p.begun p.state (told t q.state) → tree ≡ record { kind = kind.Token; start = range.start; end = range.end; children = nothing }
+    → r.state ≡ grown (q.ignored ++ (tree ∷ [])) q.state → r.ignored ≡ []
+    → IsStood (record q { state = r.state; ignored = r.ignored })
 took_stands p q r t tree w range e is_taken begun sound h is j leaf g none =
-    let j2 = subst (λ (x : Turn). Judges p.start (Some w) p.begun (state p.machine) (told x (state q.machine))) is_taken j in
-    let g2 = subst (λ (i : _). state r.machine ≡ grown (map plain i ++ (plain tree ∷ [])) (state q.machine)) (ap (λ x. x.ignored.items) e) g in
-    subst (λ (x : Parser). IsStood (record x { machine = r.machine; ignored = r.ignored })) (sym e)
-    (took_in p r q.machine q.begun tree w range begun sound h is j2 leaf g2 none)
+    let j2 = subst (λ (x : Turn). Judges p.start (Some w) p.begun p.state (told x q.state)) is_taken j in
+    let g2 = subst (λ (i : _). r.state ≡ grown (i ++ (tree ∷ [])) q.state) (ap (λ x. x.ignored) e) g in
+    subst (λ (x : Standing). IsStood (record x { state = r.state; ignored = r.ignored })) (sym e)
+    (took_in p r q.state q.begun tree w range begun sound h is j2 leaf g2 none)
 
 -- ---- an ignored token
 
-pub words-ignored : (p q : Parser) (tree : Tree) (range : Range ℕ)
-    → plain tree ≡ record { kind = kind.Ignored; start = range.start; end = range.end; children = nothing } → q.ignored.items ≡ p.ignored.items ++ (tree ∷ [])
-    → words p.text.now (held (state p.machine) (map plain q.ignored.items)) ≡ words_of p
+pub words-ignored : (p q : Standing) (tree : Plain) (range : Range ℕ)
+    → tree ≡ record { kind = kind.Ignored; start = range.start; end = range.end; children = nothing } → q.ignored ≡ p.ignored ++ (tree ∷ [])
+    → words p.text (held p.state q.ignored) ≡ words_of p
 words-ignored p q tree range leaf more =
-    let text = p.text.now in
-    let old = map plain p.ignored.items in
-    let m : map plain q.ignored.items ≡ old ++ (plain tree ∷ []) = ap (λ i. map plain i) more ∙ map-append plain p.ignored.items (tree ∷ []) in
-    ap (λ i. words text (held (state p.machine) i)) m ∙ ap (λ ls. words text ls) (held-ignored (state p.machine) old (plain tree))
-    ∙ words-append text (held (state p.machine) old) (leaves_of (plain tree ∷ [])) ∙ ap (λ t. words_of p ++ words text (leaves_of (t ∷ []))) leaf ∙ nil (words_of p)
+    let text = p.text in
+    let old = p.ignored in
+    let m : q.ignored ≡ old ++ (tree ∷ []) = more in
+    ap (λ i. words text (held p.state i)) m ∙ ap (λ ls. words text ls) (held-ignored p.state old tree)
+    ∙ words-append text (held p.state old) (leaves_of (tree ∷ [])) ∙ ap (λ t. words_of p ++ words text (leaves_of (t ∷ []))) leaf ∙ nil (words_of p)
 
-pub ignored_stands : (p q : Parser) (tree : Tree) (range : Range ℕ) (n : ℕ) → IsStood p
-    → plain tree ≡ record { kind = kind.Ignored; start = range.start; end = range.end; children = nothing } → q.ignored.items ≡ p.ignored.items ++ (tree ∷ [])
+pub ignored_stands : (p q : Standing) (tree : Plain) (range : Range ℕ) (n : ℕ) → IsStood p
+    → tree ≡ record { kind = kind.Ignored; start = range.start; end = range.end; children = nothing } → q.ignored ≡ p.ignored ++ (tree ∷ [])
     → IsStood (record p { ignored = q.ignored; tokens = n })
 ignored_stands p q tree range n h leaf more =
-    let text = p.text.now in
-    let old = map plain p.ignored.items in
-    let m : map plain q.ignored.items ≡ old ++ (plain tree ∷ []) = ap (λ i. map plain i) more ∙ map-append plain p.ignored.items (tree ∷ []) in
-    let hidden = ap (shown_of text) m ∙ shown_of-append text old (plain tree ∷ []) ∙ ap (λ x. joined x (shown_of text (plain tree ∷ []))) h.hidden ∙ ap (λ t. shown_of text (t ∷ [])) leaf in
-    let f : words_of p ≡ words text (held (state p.machine) (map plain q.ignored.items)) = sym (words-ignored p q tree range leaf more) in
+    let text = p.text in
+    let old = p.ignored in
+    let m : q.ignored ≡ old ++ (tree ∷ []) = more in
+    let hidden = ap (shown_of text) m ∙ shown_of-append text old (tree ∷ []) ∙ ap (λ x. joined x (shown_of text (tree ∷ []))) h.hidden ∙ ap (λ t. shown_of text (t ∷ [])) leaf in
+    let f : words_of p ≡ words text (held p.state q.ignored) = sym (words-ignored p q tree range leaf more) in
     record {
       starts = h.starts;
       hidden = hidden;
-      stood = subst (λ (ws : List Word). Stood p.start text p.begun (state p.machine) ws) f h.stood;
+      stood = subst (λ (ws : List Word). Stood p.start text p.begun p.state ws) f h.stood;
       filled = h.filled;
     }
 
 -- ---- the end of the text
 
-cut_at : (p : Parser) (m : Machine) (b : Bool) (t : Turn) (range : Range ℕ) → IsSound (state p.machine) → IsStood p
-    → (t ≡ turn.Finished → ⊥) → Judges p.start None p.begun (state p.machine) (told t (state m)) → IsJudged (record p { machine = m; begun = b }) (Some (Syntax EndOfText range))
+cut_at : (p : Standing) (m : State) (b : Bool) (t : Turn) (range : Range ℕ) → IsSound p.state → IsStood p
+    → (t ≡ turn.Finished → ⊥) → Judges p.start None p.begun p.state (told t m) → IsJudged (record p { state = m; begun = b }) (Some (Syntax EndOfText range))
 cut_at p m b t range sound h not j =
-    let v = judges_verdict p.start p.text.now None p.begun (state p.machine) (words_of p) (told t (state m)) h.starts sound h.stood j in
+    let v = judges_verdict p.start p.text None p.begun p.state (words_of p) (told t m) h.starts sound h.stood j in
     let no : (f : Row) → Sentence p.start (words_of p) f → ⊥ =
-    too_short p.start (root_kind p.start) p.text.now (words_of p) t (state m) (judges_end p.start None p.begun (state p.machine) (told t (state m)) j) not v in
-    let same : words_of p ≡ words p.text.now (held (state m) (map plain p.ignored.items)) =
-    ap (λ ls. words p.text.now ls) (sym (held-keeps (state p.machine) (state m) (map plain p.ignored.items) (keeps_told p.start None p.begun t (state p.machine) (state m) sound j))) in
+    too_short p.start (root_kind p.start) p.text (words_of p) t m (judges_end p.start None p.begun p.state (told t m) j) not v in
+    let same : words_of p ≡ words p.text (held m p.ignored) =
+    ap (λ ls. words p.text ls) (sym (held-keeps p.state m p.ignored (keeps_told p.start None p.begun t p.state m sound j))) in
     record {
       begins = subst (λ (ws : List Word). IsBeginning p.start ws) same (begins p h);
-      cut = subst (λ (ws : List Word). IsCut p.start ws (shown_of p.text.now (all_ended (state m) ++ map plain p.ignored.items))) same
-          (judged_cuts p m t None sound h (untaken p.start (root_kind p.start) p.text.now (words_of p) t (state m) v) j);
+      cut = subst (λ (ws : List Word). IsCut p.start ws (shown_of p.text (all_ended m ++ p.ignored))) same
+          (judged_cuts p m t None sound h (untaken p.start (root_kind p.start) p.text (words_of p) t m v) j);
       judged = subst (λ (ws : List Word). (f : Row) → Sentence p.start ws f → ⊥) same no;
     }
   where
@@ -314,36 +310,36 @@ cut_at p m b t range sound h not j =
     untaken start k text before turn.Refused s v e = cc
     untaken start k text before turn.Finished s v e = cc
 
-pub cut_judged : (p q : Parser) (t : Turn) (range : Range ℕ) → Moved p q → IsSound (state p.machine) → IsStood p
-    → (t ≡ turn.Finished → ⊥) → Judges p.start None p.begun (state p.machine) (told t (state q.machine)) → IsJudged q (Some (Syntax EndOfText range))
-cut_judged p q t range e sound h not j = subst (λ (r : Parser). IsJudged r (Some (Syntax EndOfText range))) (sym e) (cut_at p q.machine q.begun t range sound h not j)
+pub cut_judged : (p q : Standing) (t : Turn) (range : Range ℕ) → Moved p q → IsSound p.state → IsStood p
+    → (t ≡ turn.Finished → ⊥) → Judges p.start None p.begun p.state (told t q.state) → IsJudged q (Some (Syntax EndOfText range))
+cut_judged p q t range e sound h not j = subst (λ (r : Standing). IsJudged r (Some (Syntax EndOfText range))) (sym e) (cut_at p q.state q.begun t range sound h not j)
 
 finished_untaken : turn.Finished ≡ turn.Taken → ⊥
 finished_untaken e = cc
 
-whole_at : (p : Parser) (m : Machine) (b : Bool) → IsSound (state p.machine) → IsStood p
-    → Judges p.start None p.begun (state p.machine) (finished (state m)) → IsJudged (record p { machine = m; begun = b }) None
+whole_at : (p : Standing) (m : State) (b : Bool) → IsSound p.state → IsStood p
+    → Judges p.start None p.begun p.state (finished m) → IsJudged (record p { state = m; begun = b }) None
 whole_at p m b sound h j =
-    let text = p.text.now in
-    let ignored = map plain p.ignored.items in
+    let text = p.text in
+    let ignored = p.ignored in
     let k = root_kind p.start in
-    let v = judges_verdict p.start text None p.begun (state p.machine) (words_of p) (finished (state m)) h.starts sound h.stood j in
-    let s : Sentence p.start (words_of p) (row.node k (shown_of text (state m).row) row.nothing) = accepted_in v.1 in
-    let same : words_of p ≡ words text (held (state m) ignored) =
-    ap (λ ls. words text ls) (sym (held-keeps (state p.machine) (state m) ignored (keeps_told p.start None p.begun turn.Finished (state p.machine) (state m) sound j))) in
-    let all : all_ended (state m) ≡ (state m).row = ap (λ ss. ended ss (state m).row (state m).rows) v.0 in
-    let tree : shown_of text (all_ended (state m) ++ ignored) ≡ shown_of text (state m).row =
-    shown_of-append text (all_ended (state m)) ignored ∙ ap (λ x. joined (shown_of text (all_ended (state m))) x) h.hidden ∙ joined-nothing (shown_of text (all_ended (state m))) ∙ ap (shown_of text) all in
+    let v = judges_verdict p.start text None p.begun p.state (words_of p) (finished m) h.starts sound h.stood j in
+    let s : Sentence p.start (words_of p) (row.node k (shown_of text m.row) row.nothing) = accepted_in v.1 in
+    let same : words_of p ≡ words text (held m ignored) =
+    ap (λ ls. words text ls) (sym (held-keeps p.state m ignored (keeps_told p.start None p.begun turn.Finished p.state m sound j))) in
+    let all : all_ended m ≡ m.row = ap (λ ss. ended ss m.row m.rows) v.0 in
+    let tree : shown_of text (all_ended m ++ ignored) ≡ shown_of text m.row =
+    shown_of-append text (all_ended m) ignored ∙ ap (λ x. joined (shown_of text (all_ended m)) x) h.hidden ∙ joined-nothing (shown_of text (all_ended m)) ∙ ap (shown_of text) all in
     let s2 = subst (λ (x : Row). Sentence p.start (words_of p) (row.node k x row.nothing)) (sym tree) s in
-    let s3 = subst (λ (ws : List Word). Sentence p.start ws (row.node k (shown_of text (all_ended (state m) ++ ignored)) row.nothing)) same s2 in
+    let s3 = subst (λ (ws : List Word). Sentence p.start ws (row.node k (shown_of text (all_ended m ++ ignored)) row.nothing)) same s2 in
     record {
       begins = subst (λ (ws : List Word). IsBeginning p.start ws) same (begins p h);
-      cut = subst (λ (ws : List Word). IsCut p.start ws (shown_of text (all_ended (state m) ++ ignored))) same (judged_cuts p m turn.Finished None sound h finished_untaken j);
+      cut = subst (λ (ws : List Word). IsCut p.start ws (shown_of text (all_ended m ++ ignored))) same (judged_cuts p m turn.Finished None sound h finished_untaken j);
       judged = (s3, λ other d. Sentence-unique d s3);
     }
 
-pub whole_judged : (p q : Parser) (t : Turn) → Moved p q → t ≡ turn.Finished → IsSound (state p.machine) → IsStood p
-    → Judges p.start None p.begun (state p.machine) (told t (state q.machine)) → IsJudged q None
+pub whole_judged : (p q : Standing) (t : Turn) → Moved p q → t ≡ turn.Finished → IsSound p.state → IsStood p
+    → Judges p.start None p.begun p.state (told t q.state) → IsJudged q None
 whole_judged p q t e is sound h j =
-    let j2 = subst (λ (x : Turn). Judges p.start None p.begun (state p.machine) (told x (state q.machine))) is j in
-    subst (λ (r : Parser). IsJudged r None) (sym e) (whole_at p q.machine q.begun sound h j2)
+    let j2 = subst (λ (x : Turn). Judges p.start None p.begun p.state (told x q.state)) is j in
+    subst (λ (r : Standing). IsJudged r None) (sym e) (whole_at p q.state q.begun sound h j2)

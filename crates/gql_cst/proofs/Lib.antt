@@ -5,7 +5,8 @@ pub mod Parsing
 pub mod Ways
 pub mod Rows
 pub mod Spans
-pub mod Laid
+pub mod Frames
+pub mod Rowed
 pub mod Shown
 pub mod Levels
 pub mod Sounds
@@ -16,10 +17,13 @@ pub mod Verdicts
 pub mod Cuts
 pub mod Cutting
 pub mod Judging
-pub mod Begun
+pub mod Opening
 pub mod Deeper
 pub mod Fronts
 pub mod Rises
 pub mod Nested
 pub mod Whole
+pub mod Driven
+pub mod Going
+pub mod Making
 pub mod OneError

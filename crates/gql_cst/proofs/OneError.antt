@@ -14,13 +14,13 @@ use Rattle.gql_grammar.specs.Reads.{Sentence, IsBeginning}
 use Rattle.gql_grammar.specs.Row as row
 use Rattle.gql_grammar.specs.Row.{Row, level}
 use Rattle.gql_cst.specs.declared.limits.Limits.{Limits}
-use Rattle.gql_cst.specs.declared.limits.Parsed.{Parsed}
+use Rattle.gql_cst.specs.Report.{Report}
 use Rattle.gql_cst.specs.Forest.{Forest}
 use Rattle.gql_cst.specs.Judged.{Judged, word_in}
 use Rattle.gql_cst.specs.Leaves.{Part, word, Leaf, IsLeaf, Tiles, leaves}
 use Rattle.gql_cst.specs.Levels.{levels, raised, greatest, NestsTo, PassesLast, PassesNoneBeforeLast}
 use Rattle.gql_cst.specs.Outcome.{IsWithin, Passes, Reached, Stops, WordAt, EndAt, FaultAt}
-use Rattle.gql_cst.specs.Parses.{IsParse, Parses, reached_at, spoken_of}
+use Rattle.gql_cst.specs.Parses.{IsReport, Parses, reached_at, spoken_of}
 use Rattle.gql_cst.specs.Sentences.{words, own_word, shown}
 use Rattle.gql_cst.specs.Words.{word_of}
 use Rattle.gql_cst.proofs.Judging.{words-append}
@@ -141,7 +141,7 @@ data Ends (start : Rule) (text : List ℕ) (limits : Limits) (p n : ℕ) (ws : L
   many : (part : Part) (range : Range ℕ) → IsLeaf text p (leaf_at part range) → read ≡ n + 1 → Passes limits.tokens read
       → Ends start text limits p n ws around read (Some (TokenLimit range))
 
-module _ (start : Rule) (text : List ℕ) (limits : Limits) (p : ℕ) (xs : Forest) (parsed : Parsed) where
+module _ (start : Rule) (text : List ℕ) (limits : Limits) (p : ℕ) (xs : Forest) (parsed : Report) where
   abbrev EndsBy : Option CstError → Type 0
   EndsBy e = Ends start text limits p (length (leaves xs)) (words text (leaves xs)) (levels (shown text xs)) parsed.tokens_reached e
 
@@ -278,17 +278,17 @@ module _ (stands : OneStands) (start : Rule) (text : List ℕ) (limits : Limits)
 -- ---- any two readings
 
 -- what they tell is one
-pub record Told (one other : Parsed) : Type 0 where
+pub record Told (one other : Report) : Type 0 where
   pub error : one.error ≡ other.error
   pub levels : one.recursion_reached ≡ other.recursion_reached
   pub tokens : one.tokens_reached ≡ other.tokens_reached
 
 module _ (stands : OneStands) (words_law : WordsLaw) (start : Rule) (text : List ℕ) (limits : Limits) where
-  abbrev Reading : Parsed → ℕ → Forest → Type 0
+  abbrev Reading : Report → ℕ → Forest → Type 0
   Reading parsed p xs = Parses start text limits parsed p xs
 
   -- one can't end before a token that the other takes
-  module _ (one other : Parsed) (p q : ℕ) (xs ys : Forest) (P : Reading one p xs) (Q : Reading other q ys) (a : Leaf) (behind : List Leaf)
+  module _ (one other : Report) (p q : ℕ) (xs ys : Forest) (P : Reading one p xs) (Q : Reading other q ys) (a : Leaf) (behind : List Leaf)
       (longer : leaves ys ≡ leaves xs ++ a ∷ behind) (rest : Tiles text p (a ∷ behind) q) where
     no_end : p ≡ length text → ⊥
     no_end e = omega (arith, e, rest.0.starts, rest.0.further, rest.0.ends_character.0)
@@ -352,7 +352,7 @@ module _ (stands : OneStands) (words_law : WordsLaw) (start : Rule) (text : List
     not_ahead = ahead one.error P.judged (ends_by start text limits p xs one one.error P.stops P.nests P.judged)
 
   -- at one place they end by one error
-  module _ (one other : Parsed) (p q : ℕ) (xs ys : Forest) (P : Reading one p xs) (Q : Reading other q ys) (same : leaves ys ≡ leaves xs) (at : q ≡ p) where
+  module _ (one other : Report) (p q : ℕ) (xs ys : Forest) (P : Reading one p xs) (Q : Reading other q ys) (same : leaves ys ≡ leaves xs) (at : q ≡ p) where
     same_levels : levels (shown text ys) ≡ levels (shown text xs)
     same_levels =
         sym (Q.around P.begins.0 P.begins.1 (subst (λ (ls : List Leaf). Sentence start (words text ls ++ P.begins.0) P.begins.1) (sym same) P.begins.2))
@@ -368,16 +368,16 @@ module _ (stands : OneStands) (words_law : WordsLaw) (start : Rule) (text : List
         (ends_by start text limits q ys other other.error Q.stops Q.nests Q.judged)))) in
         record { error = ends.0; levels = P.levels_reached ∙ ap greatest (sym same_levels) ∙ sym Q.levels_reached; tokens = ends.1 }
 
-  turned : (one other : Parsed) → Told one other → Told other one
+  turned : (one other : Report) → Told one other → Told other one
   turned one other t = record { error = sym t.error; levels = sym t.levels; tokens = sym t.tokens }
 
-  by_rest : (one other : Parsed) (p q : ℕ) (xs ys : Forest) → Reading one p xs → Reading other q ys → (rest : List Leaf) → leaves ys ≡ leaves xs ++ rest → Tiles text p rest q → Told one other
+  by_rest : (one other : Report) (p q : ℕ) (xs ys : Forest) → Reading one p xs → Reading other q ys → (rest : List Leaf) → leaves ys ≡ leaves xs ++ rest → Tiles text p rest q → Told one other
   by_rest one other p q xs ys P Q [] longer t = at_one_place one other p q xs ys P Q (longer ∙ append-nil (leaves xs)) (sym t)
   by_rest one other p q xs ys P Q (a ∷ behind) longer t = absurd (not_ahead one other p q xs ys P Q a behind longer t)
 
-  by_order : (one other : Parsed) (p q : ℕ) (xs ys : Forest) → Reading one p xs → Reading other q ys → Compared text (leaves xs) (leaves ys) p q → Told one other
+  by_order : (one other : Report) (p q : ℕ) (xs ys : Forest) → Reading one p xs → Reading other q ys → Compared text (leaves xs) (leaves ys) p q → Told one other
   by_order one other p q xs ys P Q (inl c) = by_rest one other p q xs ys P Q c.0 c.1 c.2
   by_order one other p q xs ys P Q (inr c) = turned other one (by_rest other one q p ys xs Q P c.0 c.1 c.2)
 
-  pub told_alike : (one other : Parsed) → IsParse start text limits one → IsParse start text limits other → Told one other
+  pub told_alike : (one other : Report) → IsReport start text limits one → IsReport start text limits other → Told one other
   told_alike one other P Q = by_order one other P.0 Q.0 P.1 Q.1 P.2 Q.2 (compared stands text 0 P.0 Q.0 (leaves P.1) (leaves Q.1) P.2.tiles Q.2.tiles)

@@ -10,7 +10,7 @@ use Rattle.gql_cst.specs.Leaves.{Part, word, ignored, node, part_of, Leaf, own_l
 use Rattle.gql_cst.specs.Nesting.{within_node, nesting_of}
 use Rattle.gql_cst.specs.Machine.{node_of, ended}
 use Rattle.gql_cst.specs.Sound.{is_node, makes_node, depth}
-use Rattle.gql_cst.specs.Laid.{is_loose}
+use Rattle.gql_cst.specs.Frames.{is_loose}
 use Rattle.gql_cst.proofs.Ways.{both}
 
 -- ---- rows put together

@@ -18,7 +18,7 @@ use Rattle.gql_cst.specs.Nesting.{nesting_of}
 use Rattle.gql_cst.specs.Machine.{State, Turned, again, taken, refused, finished, node_of, opened, pushed, entered, wrapped, closed_in, enter, takes_at, turned_at, turned, Settles, takes_it, refuses_it, finishes, later, Begins, Judges, ended, all_ended, grown}
 use Rattle.gql_cst.specs.Sound.{is_node, depth, IsSound}
 use Rattle.gql_cst.proofs.Levels.{around, around-alike, around-opened, around-wrapped}
-use Rattle.gql_cst.specs.Laid.{is_loose}
+use Rattle.gql_cst.specs.Frames.{is_loose}
 use Rattle.gql_cst.specs.Spans.{AllSpanIn}
 use Rattle.gql_cst.proofs.Ways.{both, makes, kind_node, way_loose}
 use Rattle.gql_cst.proofs.Rows.{leaves_of-append, nesting_of-append, leaves_of-node, nesting_of-node, ended-loose, leaves_of-ended, nesting_of-ended, depth-loose, makes_node-loose, join, append_nil}

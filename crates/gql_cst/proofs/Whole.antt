@@ -13,12 +13,12 @@ use Rattle.gql_grammar.specs.Reads.{Sentence}
 use Rattle.gql_grammar.specs.Row as row
 use Rattle.gql_grammar.specs.Row.{Row}
 use Rattle.gql_cst.specs.declared.limits.Limits.{Limits}
-use Rattle.gql_cst.specs.declared.limits.Parsed.{Parsed}
+use Rattle.gql_cst.specs.Report.{Report}
 use Rattle.gql_cst.specs.Forest.{Forest}
 use Rattle.gql_cst.specs.Judged.{Judged, Spoken, word_in}
 use Rattle.gql_cst.specs.Leaves.{Part, Leaf, leaves, part_of_token, IsLeaf, Tiles}
 use Rattle.gql_cst.specs.Outcome.{IsWithin, Passes, Reached, FaultAt, Stops}
-use Rattle.gql_cst.specs.Parses.{Parses, Accepts}
+use Rattle.gql_cst.specs.Parses.{Parses, Admits}
 use Rattle.gql_cst.specs.Sentences.{words, shown, root_kind}
 use Rattle.gql_cst.proofs.Judging.{words-append}
 
@@ -111,7 +111,7 @@ none_of : (error : Option CstError) → ((e : CstError) → error ≡ Some e →
 none_of None h = refl
 none_of (Some e) h = absurd (h e refl)
 
-pub accepts : (start : Rule) (text : List ℕ) (limits : Limits) (parsed : Parsed) (place : ℕ) (children : Forest) → Parses start text limits parsed place children → Accepts start text limits parsed
+pub accepts : (start : Rule) (text : List ℕ) (limits : Limits) (parsed : Report) (place : ℕ) (children : Forest) → Parses start text limits parsed place children → Admits start text limits parsed.error
 accepts start text limits parsed place children h tokens tree tiles sentence low within =
     let p = along text 0 tokens (leaves children) place tiles h.tiles in
     let all = p.1.all_same in

@@ -1,5 +1,5 @@
 -- What an error, or none, tells of the sentences of the grammar.
-use Rattle.std.specs.Prelude.{◌≡◌, ℕ, ◌<◌, Bool, true, false, List, [], ◌∷◌, ◌++◌, map, slice_range, Option, Some, None, is_some}
+use Rattle.std.specs.Prelude.{◌≡◌, ℕ, ◌<◌, Bool, true, false, List, [], ◌∷◌, ◌++◌, slice_range, Option, Some, None, is_some}
 use Rattle.std.specs.declared.ops.Range.{Range}
 use Rattle.gql_lexer.specs.declared.error.CstError.{CstError}
 use Rattle.gql_lexer.specs.declared.error.CstError.TheVariants.{Syntax, RecursionLimit, TokenLimit}
@@ -11,10 +11,8 @@ use Rattle.gql_grammar.specs.Reads.{Sentence, IsBeginning}
 use Rattle.gql_grammar.specs.Row as row
 use Rattle.gql_grammar.specs.Row.{Row}
 use Rattle.gql_grammar.specs.Rule.{kind_of}
-use Rattle.gql_cst.specs.declared.parser.Parser.{Parser}
+use Rattle.gql_cst.specs.Standing.{Standing}
 use Rattle.gql_cst.specs.Cut.{is_filled, IsCut}
-use Rattle.gql_cst.specs.Forest.{plain}
-use Rattle.gql_cst.specs.Held.{state}
 use Rattle.gql_cst.specs.Machine.{State}
 use Rattle.gql_cst.specs.Progress.{trees, tokens_of}
 use Rattle.gql_cst.specs.Sentences.{words, shown_of, root_kind, Stood}
@@ -50,15 +48,15 @@ Judged s (Some (TokenLimit range)) = Unit {0}
 
 -- ---- the same of a parser
 
-abbrev pub words_of : Parser → List Word
-words_of p = words p.text.now (tokens_of p)
+abbrev pub words_of : Standing → List Word
+words_of p = words p.text (tokens_of p)
 
-abbrev pub spoken : Parser → Spoken
+abbrev pub spoken : Standing → Spoken
 spoken p = record {
   start = p.start;
-  text = p.text.now;
+  text = p.text;
   words = words_of p;
-  row = row.node (root_kind p.start) (shown_of p.text.now (trees p)) row.nothing;
+  row = row.node (root_kind p.start) (shown_of p.text (trees p)) row.nothing;
   recursion = p.limits.recursion;
 }
 
@@ -67,13 +65,13 @@ abbrev pub IsFilled : Bool → List ℕ → State → Type 0
 IsFilled true text s = is_filled (shown_of text s.row) ≡ true
 IsFilled false text s = Unit {0}
 
-pub record IsStood (p : Parser) : Type 0 where
+pub record IsStood (p : Standing) : Type 0 where
   pub starts : is_some (kind_of p.start) ≡ true
-  pub hidden : shown_of p.text.now (map plain p.ignored.items) ≡ row.nothing
-  pub stood : Stood p.start p.text.now p.begun (state p.machine) (words_of p)
-  pub filled : IsFilled p.begun p.text.now (state p.machine)
+  pub hidden : shown_of p.text p.ignored ≡ row.nothing
+  pub stood : Stood p.start p.text p.begun p.state (words_of p)
+  pub filled : IsFilled p.begun p.text p.state
 
-pub record IsJudged (p : Parser) (error : Option CstError) : Type 0 where
+pub record IsJudged (p : Standing) (error : Option CstError) : Type 0 where
   pub begins : IsBeginning p.start (words_of p)
-  pub cut : IsCut p.start (words_of p) (shown_of p.text.now (trees p))
+  pub cut : IsCut p.start (words_of p) (shown_of p.text (trees p))
   pub judged : Judged (spoken p) error

@@ -11,7 +11,10 @@ pub use Rattle.gql_lexer.specs.Message
 pub use Rattle.gql_lexer.specs.Reading
 pub use Rattle.gql_lexer.specs.Value
 pub mod Forest
-pub mod Laid
+pub mod Open
+pub mod Rowed
+pub mod Frames
+pub mod Lies
 pub mod Held
 pub mod Machine
 pub mod Words
@@ -23,8 +26,12 @@ pub mod Late
 pub mod Cut
 pub mod Sound
 pub mod Outcome
+pub mod Standing
 pub mod Progress
+pub mod Report
 pub mod Parses
+pub mod Checked
 pub mod Sentences
 pub mod Judged
 pub mod Nested
+pub mod Going

@@ -1,6 +1,7 @@
 //! The rules that are open.
 
 use crate::SyntaxKind;
+use crate::begun::Begun;
 use gql_grammar::Symbol;
 
 /// A rule that is open.
@@ -10,6 +11,6 @@ pub(crate) struct Frame {
     pub(crate) way: &'static [Symbol],
     /// The kind of its node, or None for a group, whose parts stand in the node around it.
     pub(crate) kind: Option<SyntaxKind>,
-    /// Where the row of the innermost node begins, among the trees of all rows.
-    pub(crate) start: usize,
+    /// The innermost node: the rule's own, or the one around it.
+    pub(crate) begun: Begun,
 }

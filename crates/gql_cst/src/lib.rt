@@ -1,9 +1,10 @@
 //! The syntax of GraphQL texts.
 //!
 //! [`parse_document`], [`parse_selection_set`], [`parse_type`] and [`parse_const_value`] read a text by the grammar of
-//! GraphQL October 2021, appendix B, and give its concrete [`Tree`]: every token of the text, white space and comments included, in the nodes
-//! of the grammar. They stop at the first thing that is wrong, which is the [`CstError`] of what was [`Parsed`], or at
-//! one of the [`Limits`].
+//! GraphQL October 2021, appendix B, and give its concrete [`Tree`]: every token of the text, white space and comments
+//! included, in the nodes of the grammar. They stop at the first thing that is wrong, which is the [`CstError`] of what was
+//! [`Parsed`], or at one of the [`Limits`]. [`read_document`] makes no tree, but tells an [`Output`] of the caller's own which
+//! nodes and tokens come.
 //!
 //! A [`Lexer`] cuts a text into [`Token`]s, each with its [`TokenKind`] and its range of bytes, or gives the
 //! [`CstError`] that stands in place of one. [`string_value`] and [`block_string_value`] give the characters
@@ -22,22 +23,34 @@
 //! ```
 #![tactic(auto)]
 
+mod begun;
+mod check;
 mod count;
+mod drive;
 mod frame;
 pub mod laws;
 mod limits;
 mod machine;
+mod made;
+mod nothing;
+mod output;
 mod parse;
 mod parser;
 mod tree;
+mod trees;
 mod turn;
 mod word;
 
+pub use begun::Begun;
+pub use check::{check_document, check_selection_set, check_type};
+pub use drive::read_document;
 pub use gql_grammar::SyntaxKind;
 pub use gql_lexer::{
     CstError, Lexer, SyntaxFault, Token, TokenKind, block_string_value, is_block_string,
     string_value,
 };
-pub use limits::{Limits, Memory, Parsed};
+pub use limits::{Checked, Limits, Memory, Parsed};
+pub use made::Made;
+pub use output::Output;
 pub use parse::{parse_const_value, parse_document, parse_selection_set, parse_type};
 pub use tree::{Nodes, Tree};

@@ -27,3 +27,14 @@ pub struct Parsed {
     /// How many tokens were read, one that was refused included.
     pub tokens_reached: usize,
 }
+
+/// What a parse tells without giving a tree.
+#[derive(Debug, Drop)]
+pub struct Checked {
+    /// What ended the reading before the text's end, or there.
+    pub error: Option<CstError>,
+    /// The greatest level that was reached, one that passes the limit included.
+    pub recursion_reached: usize,
+    /// How many tokens were read, one that was refused included.
+    pub tokens_reached: usize,
+}

@@ -1,74 +1,64 @@
-//! Reads words by the grammar, and builds the tree as it goes.
+//! Reads words by the grammar, and drives an output as it goes.
 
-ghost use Rattle.std.specs.Prelude.{◌≡◌, ◌≤◌, ◌∷◌, ◌++◌, [], true, map, length, reverse, Some, None, IfOk, OnOk, IfNone, IfSome, if◌then◌else◌};
+ghost use Rattle.std.specs.Prelude.{◌≡◌, ℕ, List, ◌∷◌, ◌++◌, [], true, length, reverse, Some, None, IfOk, OnOk, IfNone, IfSome, if◌then◌else◌};
 ghost use Rattle.std.specs.List.{list_all};
-ghost use Rattle.gql_cst.specs.Forest.{plain};
-ghost use Rattle.gql_cst.specs.Laid.{gathered, is_laid, is_loose, left_by, Stays, IsSame};
+ghost use Rattle.gql_cst.specs.Forest.{Plain};
+ghost use Rattle.gql_cst.specs.declared.frame.Frame.{Frame};
+ghost use Rattle.gql_cst.specs.Late.{is_late};
+ghost use Rattle.gql_cst.specs.Leaves.{part_of};
+ghost use Rattle.gql_cst.specs.Lies.{Lies};
+ghost use Rattle.gql_cst.specs.Frames.{is_framed, is_loose, Stays, IsSame};
 ghost use Rattle.gql_grammar.specs.declared.symbol.Symbol.TheVariants.{Repeated};
 ghost use Rattle.gql_grammar.specs.Rule.{kind_of};
 ghost use Rattle.gql_grammar.specs.Row as rows;
 ghost use Rattle.gql_grammar.specs.Stands as stands;
 ghost use Rattle.gql_cst.specs.Machine as spec;
+ghost use Rattle.gql_cst.specs.Sound.{is_node};
+ghost use Rattle.gql_cst.specs.Open.{token as token_of, ignored as ignored_of, whole_text};
 
+use crate::begun::Begun;
 use crate::count::raised;
 use crate::frame::Frame;
+use crate::output::Output;
 use crate::turn::{Turn, token_turn, way_at};
-use crate::{Memory, Nodes, SyntaxKind, Tree};
+use crate::{Memory, SyntaxKind};
 use gql_grammar::{Rule, Symbol, Word};
 use std::alloc::Global;
+use std::ops::Range;
 
-/// The symbols that are to come, and the rows of trees that are there.
+/// The symbols that are to come, and the output that is driven.
 #[derive(Drop)]
-pub(crate) struct Machine {
-    alloc: Global,
+pub(crate) struct Machine<O: Drop> {
+    out: O,
     /// The innermost rule that is open.
     top: Frame,
     /// Those around it. The innermost stands last.
     outer: Vec<Frame>,
-    /// The trees of all rows, those of the outermost first.
-    trees: Nodes,
     /// How many levels of nesting are open.
     level: usize,
     /// How many were open at most.
     deepest: usize,
-    ghost laid: { is_laid (length trees.items) (top ∷ reverse outer.items) ≡ true },
+    ghost framed: { is_framed (top ∷ reverse outer.items) ≡ true },
 }
 
 // Around all rules: nothing is to come, and the row of the whole text begins.
 const OUTERMOST: Frame = Frame {
     way: &[],
     kind: None,
-    start: 0,
+    begun: Begun { mark: 0, place: 0 },
 };
 
-/// A node from its first child to its last.
-fn node(kind: SyntaxKind, children: Nodes) -> Tree
-    ensures { plain result ≡ spec.node_of kind (map plain children.items) }
-{
-    let start = children.first().map_or(0, |first| first.range().start);
-    let end = children.last().map_or(0, |last| last.range().end);
-    Tree::new(kind, start..end, children)
-}
-
-/// The trees from the place on become one node. Its list has room for these alone.
-fn gather(trees: &mut Nodes, kind: SyntaxKind, start: usize) -> Result<(), Memory>
-    requires { start ≤ length trees.old.items }
-    ensures made { OnOk result (map plain trees.new.items ≡ gathered kind start (map plain trees.old.items)) }
-    ensures room { start ≤ length trees.new.items }
-{
-    let children = trees.split_off(start)?;
-    trees.push(node(kind, children))?;
-    Ok(())
-}
-
-/// What the innermost rule holds so far becomes its node, unless it is a group.
-fn end_rule(top: &Frame, trees: &mut Nodes) -> Result<(), Memory>
-    requires { top.now.start ≤ length trees.old.items }
-    ensures made { OnOk result (map plain trees.new.items ≡ left_by top.now.kind top.now.start (map plain trees.old.items)) }
-    ensures room { OnOk result (top.now.start ≤ length trees.new.items) }
+/// The node of a rule ends in an output, unless the rule is a group.
+fn end_rule<O: Output>(top: &Frame, out: &mut O) -> Result<(), Memory>
+    ensures { OnOk result ((at : ℕ) (frames : List Frame) (waiting : List Plain) (s : spec.State) → is_framed (top.now ∷ frames) ≡ true
+        → Lies O.stands (top.now ∷ frames) out.old at waiting s
+        → (t : spec.State) × Lies O.stands frames out.new at waiting t × (spec.all_ended t ≡ spec.all_ended s)) }
 {
     match top.kind {
-        Some(kind) => gather(trees, kind, top.start),
+        Some(kind) => {
+            out.end(kind, top.begun)?;
+            Ok(())
+        }
         None => Ok(()),
     }
 }
@@ -122,34 +112,36 @@ fn level_of(kind: SyntaxKind) -> usize
     }
 }
 
-impl Machine {
-    ghost use Rattle.gql_cst.specs.Held.{state};
+impl<O: Output> Machine<O> {
+    ghost use Rattle.gql_cst.specs.Held.{Becomes, Goes, Holds, IsHeld};
 
-    /// Nothing is there, and nothing is to come.
-    pub(crate) fn new(alloc: Global) -> Machine
-        ensures { state result ≡ record { stack = []; row = []; rows = []; level = 0; deepest = 0 } }
+    /// Nothing is to come, and nothing came.
+    pub(crate) fn new(alloc: Global, out: O) -> Machine<O>
+        ensures { (at : ℕ) (waiting : List Plain) → O.stands out at (whole_text [] ∷ []) waiting
+            → Holds O.stands result at waiting (record { stack = []; row = []; rows = []; level = 0; deepest = 0 }) }
     {
         Machine {
-            alloc,
+            out,
             top: OUTERMOST,
             outer: Vec::new(alloc),
-            trees: Vec::new(alloc),
             level: 0,
             deepest: 0,
         }
     }
 
-    /// A node of the kind begins, and the symbols come in it.
-    fn open(&mut self, kind: SyntaxKind, way: &'static [Symbol]) -> Result<(), Memory>
-        requires { list_all is_loose way.now ≡ true }
-        ensures { OnOk result ((state self.new) ≡ spec.pushed way.now (spec.opened kind (state self.old))) }
+    /// A node of the kind begins at the place, and the symbols come in it.
+    fn open(&mut self, kind: SyntaxKind, way: &'static [Symbol], place: usize) -> Result<(), Memory>
+        requires node { is_node (part_of kind) ≡ true }
+        requires loose { list_all is_loose way.now ≡ true }
+        ensures { OnOk result (Becomes O.stands self.old self.new place (λ s. spec.pushed way.now (spec.opened kind s))) }
     {
         let level = raised(self.level, level_of(kind))?;
+        let mark = self.out.begin(kind, place)?;
         self.outer.push(self.top)?;
         self.top = Frame {
             way,
             kind: Some(kind),
-            start: self.trees.len(),
+            begun: Begun { mark, place },
         };
         self.level = level;
         self.deepest = self.deepest.max(level);
@@ -159,67 +151,75 @@ impl Machine {
     /// The symbols come next.
     fn push_way(&mut self, way: &'static [Symbol]) -> Result<(), Memory>
         requires { list_all is_loose way.now ≡ true }
-        ensures { OnOk result ((state self.new) ≡ spec.pushed way.now (state self.old)) }
+        ensures { OnOk result ((at : ℕ) → Becomes O.stands self.old self.new at (spec.pushed way.now)) }
     {
         self.outer.push(self.top)?;
         self.top = Frame {
             way,
             kind: None,
-            start: self.top.start,
+            begun: self.top.begun,
         };
         Ok(())
     }
 
     /// Goes into a rule, by this way to write it.
-    fn enter_way(&mut self, rule: Rule, way: &'static [Symbol]) -> Result<(), Memory>
+    fn enter_way(&mut self, rule: Rule, way: &'static [Symbol], place: usize) -> Result<(), Memory>
         requires { list_all is_loose way.now ≡ true }
-        ensures { OnOk result ((state self.new) ≡ spec.entered (kind_of rule) way.now (state self.old)) }
+        ensures { OnOk result (Becomes O.stands self.old self.new place (spec.entered (kind_of rule) way.now)) }
     {
         match rule.kind() {
-            Some(kind) => self.open(kind, way),
-            None => self.push_way(way),
+            Some(kind) => self.open(kind, way, place)?,
+            None => self.push_way(way)?,
         }
+        Ok(())
     }
 
     /// Goes into a rule that begins with the next word.
-    fn enter(&mut self, rule: Rule, next: Option<Word>, otherwise: Turn) -> Result<Turn, Memory>
-        ensures { IfOk result (λ turn. spec.told turn (state self.new)
-            ≡ spec.enter (stands.way_at rule next) (kind_of rule) (state self.old) (spec.told otherwise (state self.old))) }
+    fn enter(
+        &mut self,
+        rule: Rule,
+        next: Option<Word>,
+        place: usize,
+        otherwise: Turn,
+    ) -> Result<Turn, Memory>
+        ensures { IfOk result (λ turn. Goes O.stands self.old self.new place (λ s t. spec.told turn t
+            ≡ spec.enter (stands.way_at rule next) (kind_of rule) s (spec.told otherwise s))) }
     {
         let Some(way) = way_at(rule, next) else {
             return Ok(otherwise);
         };
-        self.enter_way(rule, way)?;
+        self.enter_way(rule, way, place)?;
         Ok(Turn::Again)
     }
 
     /// What the innermost node holds so far becomes one node in it.
     fn wrap(&mut self, kind: SyntaxKind) -> Result<(), Memory>
-        ensures { OnOk result ((state self.new) ≡ spec.wrapped kind (state self.old)) }
+        requires { is_late kind ≡ true }
+        ensures { OnOk result ((at : ℕ) → Becomes O.stands self.old self.new at (spec.wrapped kind)) }
     {
-        gather(&mut self.trees, kind, self.top.start)?;
+        self.out.wrap(kind, self.top.begun)?;
         Ok(())
     }
 
-    /// One turn, with the next word in sight, or the end of the text.
-    fn turn(&mut self, next: Option<Word>) -> Result<Turn, Memory>
-        ensures { IfOk result (λ turn. spec.told turn (state self.new) ≡ spec.turned next (state self.old)) }
+    /// One turn, with the next word in sight, or the end of the text. It begins at the place.
+    fn turn(&mut self, next: Option<Word>, place: usize) -> Result<Turn, Memory>
+        ensures { IfOk result (λ turn. Goes O.stands self.old self.new place (λ s t. spec.told turn t ≡ spec.turned next s)) }
     {
         skip_ended(&mut self.top, &mut self.outer);
         match self.top.way.split_first() {
             Some((symbol, rest)) => {
                 if let Some((rule, way)) = repeated_way(*symbol, next) {
-                    self.enter_way(rule, way)?;
+                    self.enter_way(rule, way, place)?;
                     return Ok(Turn::Again);
                 }
                 self.top.way = rest;
-                self.act(*symbol, next)
+                self.act(*symbol, next, place)
             }
             None => {
                 let Some(kind) = self.top.kind else {
                     return Ok(Turn::Finished);
                 };
-                gather(&mut self.trees, kind, self.top.start)?;
+                self.out.end(kind, self.top.begun)?;
                 self.top = leave(&mut self.outer);
                 self.level = self.level.saturating_sub(level_of(kind));
                 Ok(Turn::Again)
@@ -228,15 +228,20 @@ impl Machine {
     }
 
     /// What a symbol comes to that was taken off.
-    fn act(&mut self, symbol: Symbol, next: Option<Word>) -> Result<Turn, Memory>
+    fn act(&mut self, symbol: Symbol, next: Option<Word>, place: usize) -> Result<Turn, Memory>
         requires loose { is_loose symbol ≡ true }
         requires stays { Stays next symbol }
-        ensures { IfOk result (λ turn. spec.told turn (state self.new) ≡ spec.turned_by next symbol (state self.old)) }
+        ensures { IfOk result (λ turn. Goes O.stands self.old self.new place (λ s t. spec.told turn t ≡ spec.turned_by next symbol s)) }
     {
         match symbol {
             Symbol::Token(terminal) => Ok(token_turn(terminal, next)),
-            Symbol::One(rule) => self.enter(rule, next, Turn::Refused),
-            Symbol::Optional(rule) | Symbol::Eager(rule) => self.enter(rule, next, Turn::Again),
+            Symbol::One(rule) => self.enter(rule, next, place, Turn::Refused),
+            Symbol::Optional(rule) | Symbol::Eager(rule) => self.enter(
+                rule,
+                next,
+                place,
+                Turn::Again,
+            ),
             Symbol::Wrap(kind) => {
                 self.wrap(kind)?;
                 Ok(Turn::Again)
@@ -248,17 +253,22 @@ impl Machine {
 
     /// How many levels of nesting were open at most.
     pub(crate) fn deepest(&self) -> usize
-        ensures { result ≡ (state self.now).deepest }
+        ensures { result ≡ self.now.deepest }
     {
         self.deepest
     }
 
     /// Turns until the next word is taken or refused, or nothing is left.
-    pub(crate) fn turn_until_judged(&mut self, next: Option<Word>) -> Result<Turn, Memory>
-        ensures { IfOk result (λ turn. spec.Settles next (state self.old) (spec.told turn (state self.new))) }
+    pub(crate) fn turn_until_judged(
+        &mut self,
+        next: Option<Word>,
+        place: usize,
+    ) -> Result<Turn, Memory>
+        requires { IsHeld O.stands self.old place }
+        ensures { IfOk result (λ turn. Goes O.stands self.old self.new place (λ s t. spec.Settles next s (spec.told turn t))) }
     {
         loop {
-            match self.turn(next)? {
+            match self.turn(next, place)? {
                 Turn::Again => {}
                 Turn::Taken => return Ok(Turn::Taken),
                 Turn::Refused => return Ok(Turn::Refused),
@@ -269,8 +279,8 @@ impl Machine {
 
     /// Goes into the rule of the whole text, whose node is not told apart from the row around it.
     pub(crate) fn begin(&mut self, rule: Rule, next: Option<Word>) -> Result<bool, Memory>
-        ensures { IfOk result (λ begun. (if begun then spec.again (state self.new) else spec.refused (state self.new))
-            ≡ spec.enter (stands.way_at rule next) None (state self.old) (spec.refused (state self.old))) }
+        ensures { IfOk result (λ begun. (at : ℕ) → Goes O.stands self.old self.new at (λ s t. (if begun then spec.again t else spec.refused t)
+            ≡ spec.enter (stands.way_at rule next) None s (spec.refused s))) }
     {
         match way_at(rule, next) {
             Some(way) => {
@@ -281,36 +291,43 @@ impl Machine {
         }
     }
 
-    /// Adds a token to the innermost node, behind those before it that the grammar ignores.
-    pub(crate) fn add(&mut self, ignored: &mut Nodes, token: Tree) -> Result<(), Memory>
-        ensures grown { OnOk result ((state self.new) ≡ spec.grown (map plain ignored.old.items ++ (plain token ∷ [])) (state self.old)) }
-        ensures emptied { OnOk result (ignored.new.items ≡ []) }
+    /// A token comes that the grammar ignores.
+    pub(crate) fn ignored(&mut self, range: Range<usize>) -> Result<(), Memory>
+        ensures { OnOk result ((at : ℕ) (waiting : List Plain) (s : spec.State) → Holds O.stands self.old at waiting s
+            → Holds O.stands self.new at (waiting ++ (ignored_of range ∷ [])) s) }
     {
-        self.trees.append(ignored)?;
-        self.trees.push(token)?;
+        self.out.ignored(range)?;
         Ok(())
     }
 
-    /// The node of the whole text, once all that are open have ended.
-    pub(crate) fn root(self, kind: SyntaxKind, mut ignored: Nodes) -> Result<Tree, Memory>
-        ensures { IfOk result (λ tree. plain tree ≡ spec.node_of kind (spec.all_ended (state self) ++ map plain ignored.items)) }
+    /// A word that was taken comes in the innermost node.
+    pub(crate) fn token(&mut self, word: Word, range: Range<usize>) -> Result<(), Memory>
+        ensures { OnOk result ((at : ℕ) (waiting : List Plain) (s : spec.State) → Holds O.stands self.old range.start waiting s
+            → Holds O.stands self.new at [] (spec.grown (waiting ++ (token_of range ∷ [])) s)) }
+    {
+        self.out.token(word, range)?;
+        Ok(())
+    }
+
+    /// The output, once all nodes that are open have ended.
+    pub(crate) fn close(self) -> Result<O, Memory>
+        ensures { IfOk result (λ out. (at : ℕ) (waiting : List Plain) (s : spec.State) → Holds O.stands self at waiting s
+            → O.stands out at (whole_text (spec.all_ended s) ∷ []) waiting) }
     {
         let Machine {
-            alloc: _,
+            mut out,
             mut top,
             mut outer,
-            mut trees,
             level: _,
             deepest: _,
         } = self;
         loop {
-            end_rule(&top, &mut trees)?;
+            end_rule(&top, &mut out)?;
             match outer.pop() {
                 Some(frame) => top = frame,
                 None => break,
             }
         }
-        trees.append(&mut ignored)?;
-        Ok(node(kind, trees))
+        Ok(out)
     }
 }

@@ -1,45 +1,19 @@
 //! Reads a whole text: a document, a selection set, a reference to a type, or a constant value.
 
-ghost use Rattle.std.specs.Prelude.{◌≡◌, true, IfOk, OnOk, is_some};
+ghost use Rattle.std.specs.Prelude.{◌≡◌, true, IfOk, is_some};
 ghost use Rattle.gql_cst.specs.Cut.{IsCutTree};
-ghost use Rattle.gql_cst.specs.Progress.{IsRead, SameText};
-ghost use Rattle.gql_cst.specs.Judged.{IsStood, IsJudged};
-ghost use Rattle.gql_cst.specs.Nested.{IsNested, EndsNested};
-ghost use Rattle.gql_cst.specs.Parses.{Accepts, Ended, IsParse};
+ghost use Rattle.gql_cst.specs.Parses.{Accepts, IsParse};
 ghost use Rattle.gql_cst.specs.Sentences.{root_kind};
 ghost use Rattle.gql_cst.specs.Spans.{IsSpanned};
 ghost use Rattle.gql_grammar.specs.Row as rows;
 ghost use Rattle.gql_grammar.specs.Rule.{kind_of};
 
-use crate::parser::Parser;
-use crate::{CstError, Lexer, Limits, Memory, Parsed, SyntaxKind};
+use crate::drive::read_text;
+use crate::made::Made;
+use crate::trees::Trees;
+use crate::{Limits, Memory, Parsed, SyntaxKind};
 use gql_grammar::Rule;
 use std::alloc::Global;
-
-/// Reads the text up to its end, or to what ends the reading before.
-fn read_all(parser: &mut Parser, text: &str) -> Result<Option<CstError>, Memory>
-    requires read { IsRead parser.old 0 }
-    requires text { parser.old.text.now ≡ text.now }
-    requires stood { IsStood parser.old }
-    requires nested { IsNested parser.old }
-    ensures same { OnOk result (SameText parser.old parser.new) }
-    ensures ended { IfOk result (Ended parser.new) }
-    ensures judged { IfOk result (IsJudged parser.new) }
-    ensures nests { IfOk result (EndsNested parser.new) }
-{
-    let mut lexer = Lexer::new(text);
-    while let Some(found) = lexer.next_token() {
-        match found {
-            Ok(token) => {
-                if let Some(error) = parser.read(token)? {
-                    return Ok(Some(error));
-                }
-            }
-            Err(error) => return Ok(Some(error)),
-        }
-    }
-    parser.end()
-}
 
 /// The tree of the text as far as it can be read by the rule, whose node has the kind.
 fn parse(
@@ -57,9 +31,19 @@ fn parse(
     ensures cut { IfOk result (IsCutTree start text.now) }
     ensures spans { IfOk result IsSpanned }
 {
-    let mut parser = Parser::new(alloc, start, text, *limits);
-    let error = read_all(&mut parser, text)?;
-    parser.parsed(kind, error)
+    let Made {
+        out,
+        error,
+        recursion_reached,
+        tokens_reached,
+    } = read_text(alloc, start, text, limits, Trees::new(alloc))?;
+    let tree = out.into_root(kind)?;
+    Ok(Parsed {
+        tree,
+        error,
+        recursion_reached,
+        tokens_reached,
+    })
 }
 
 /// The tree of a document (Document, GraphQL October 2021, section 2.2).

@@ -1,10 +1,15 @@
+use Rattle.std.proofs.Common.{◌∷◌, reverse}
 use Rattle.gql_grammar.specs.Turns.{turns}
+use Rattle.gql_cst.specs.Frames.{stack_of}
 use Rattle.gql_cst.specs.Machine.{Turned, Settles}
-use Rattle.gql_cst.specs.Held.{state}
+use Rattle.gql_cst.specs.Held.{Goes, IsHeld}
 use Rattle.gql_cst.proofs.machine.Machine.turn_until_judged.Given as goal
 
 abbrev pub invariant-loop : goal.invariant-loop
-invariant-loop l = (end : Turned) → Settles l.next (state l.self) end → Settles l.next (state l.initial.self) end
+invariant-loop g l = record {
+  held : IsHeld g.O.Output.stands l.self l.place;
+  goes : Goes g.O.Output.stands l.initial.self l.self l.place (λ s t. (end : Turned) → Settles l.next t end → Settles l.next s end);
+}
 
 abbrev pub decreases-loop : goal.decreases-loop
-decreases-loop l = turns (state l.self).stack
+decreases-loop g l = turns (stack_of (l.self.top ∷ reverse l.self.outer.items))

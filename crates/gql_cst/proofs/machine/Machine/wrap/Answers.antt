@@ -1,8 +1,6 @@
-use Rattle.std.proofs.Common.{◌∷◌, reverse}
-use Rattle.gql_cst.proofs.Laid.{wrapped-of}
+use Rattle.std.proofs.Common.{refl}
+use Rattle.gql_cst.proofs.Driven.{wrapped-held}
 use Rattle.gql_cst.proofs.machine.Machine.wrap.Goals as goal
 
 pub returns : goal.returns
-returns c =
-    let m = c.args.self.now in
-    wrapped-of (m.top ∷ reverse m.outer.items) m.trees.items c.gather.new.trees.items c.args.kind m.level m.deepest m.laid c.in_ok-gather.ensures.made
+returns g c = wrapped-held g.O.Output.stands c.args.self.now _ c.args.kind refl refl refl refl c.requires c.in_ok-wrap.ensures
