@@ -1,13 +1,13 @@
 //! What is told of a text: its counts, or the first fault in it.
 
 ghost use Rattle.std.specs.Prelude.{◌≡◌, IfOk};
-ghost use Rattle.gql_cst.specs.Parses.{IsParse};
+ghost use Rattle.gql_cst.specs.Checked.{IsChecked};
 ghost use Rattle.gql_syntax_tool.specs.Reply.{counts as counts_of, fault_text as fault_text_of, limits, range_of};
 ghost use Rattle.gql_syntax_tool.specs.Start.{rule_of};
 
 use crate::start::Start;
 use bytes::Bytes;
-use gql_cst::{CstError, Limits, Memory, Parsed, parse_document, parse_selection_set, parse_type};
+use gql_cst::{Checked, CstError, Limits, Memory, check_document, check_selection_set, check_type};
 use jb_io::{Command, Reply};
 use std::alloc::Global;
 use std::ops::Range;
@@ -29,30 +29,30 @@ impl Command for Start {
         let Ok(text) = str::from_utf8(bytes.as_slice()) else {
             return Ok(Reply::Refusal(Bytes::from_static(b"no UTF-8")));
         };
-        let parsed = parse(alloc, *self, text)?;
-        match &parsed.error {
-            None => Ok(Reply::Answer(counts(alloc, &parsed)?)),
+        let checked = check(alloc, *self, text)?;
+        match &checked.error {
+            None => Ok(Reply::Answer(counts(alloc, &checked)?)),
             Some(error) => Ok(Reply::Refusal(fault_text(alloc, error)?)),
         }
     }
 }
 
-fn parse(alloc: Global, start: Start, text: &str) -> Result<Parsed, Memory>
-    ensures { IfOk result (IsParse (rule_of start) text.now limits) }
+fn check(alloc: Global, start: Start, text: &str) -> Result<Checked, Memory>
+    ensures { IfOk result (IsChecked (rule_of start) text.now limits) }
 {
     match start {
-        Start::Document => parse_document(alloc, text, &LIMITS),
-        Start::SelectionSet => parse_selection_set(alloc, text, &LIMITS),
-        Start::TypeReference => parse_type(alloc, text, &LIMITS),
+        Start::Document => check_document(alloc, text, &LIMITS),
+        Start::SelectionSet => check_selection_set(alloc, text, &LIMITS),
+        Start::TypeReference => check_type(alloc, text, &LIMITS),
     }
 }
 
 /// How many tokens the text has, and how deep it is nested.
-fn counts(alloc: Global, parsed: &Parsed) -> Result<Bytes, Memory>
-    ensures { IfOk result (λ text. text ≡ counts_of parsed.now) }
+fn counts(alloc: Global, checked: &Checked) -> Result<Bytes, Memory>
+    ensures { IfOk result (λ text. text ≡ counts_of checked.now) }
 {
-    let tokens = parsed.tokens_reached;
-    let nesting = parsed.recursion_reached;
+    let tokens = checked.tokens_reached;
+    let nesting = checked.recursion_reached;
     let text = format!(in alloc; "tokens {tokens}, nesting {nesting}")?;
     Ok(Bytes::from_string(text)?)
 }
