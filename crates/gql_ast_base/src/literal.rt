@@ -15,7 +15,7 @@ use std::alloc::Global;
 
 /// Whether a token is a string.
 #[must_use]
-pub(crate) fn opens_string(token: &str) -> bool
+pub fn opens_string(token: &str) -> bool
     ensures { result ≡ spec.opens_string token.now }
 {
     first_byte(token) == b'"'
@@ -23,7 +23,7 @@ pub(crate) fn opens_string(token: &str) -> bool
 
 /// Whether a token is a number: it begins with a digit or `-`.
 #[must_use]
-pub(crate) fn opens_number(token: &str) -> bool
+pub fn opens_number(token: &str) -> bool
     ensures { result ≡ spec.opens_number token.now }
 {
     let byte = first_byte(token);

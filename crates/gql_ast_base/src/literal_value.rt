@@ -20,9 +20,9 @@ fn number_kind(alloc: Global, token: &str) -> Result<ValueKind, Memory>
     }
 }
 
-/// The value that a token is, if it is a number or a string.
+/// The value that a token is, if it is a number or a string. `Err` only where memory runs out.
 #[tactic(auto, unfolding(crate::specs::Values::literal))]
-pub(crate) fn literal(alloc: Global, token: &str) -> Result<Option<ValueKind>, Memory>
+pub fn literal_kind(alloc: Global, token: &str) -> Result<Option<ValueKind>, Memory>
     ensures { IfOk result (λ made. made ≡ spec.literal token.now) }
 {
     if opens_string(token) {

@@ -30,7 +30,8 @@ impl Copying for OperationType {
 }
 
 /// The operation type that a word names.
-fn operation_word(found: &str) -> Option<OperationType>
+#[must_use]
+pub fn operation_word(found: &str) -> Option<OperationType>
     ensures { result ≡ spec.operation_word found.now }
 {
     match found {

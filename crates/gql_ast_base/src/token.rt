@@ -19,9 +19,10 @@ fn is_boundary(text: &str, at: usize) -> bool
     at == bytes.len() || (at < bytes.len() && (bytes[at] < 128 || 192 <= bytes[at]))
 }
 
-/// The part of the text between two places that lie between characters.
+/// The part of the text between two places, or `None` where one of them does not lie between characters of it.
+#[must_use]
 #[tactic(auto, unfolding(crate::specs::Parts::piece))]
-pub(crate) fn piece(text: &str, start: usize, end: usize) -> Option<&str>
+pub fn piece(text: &str, start: usize, end: usize) -> Option<&str>
     ensures { option_copied result ≡ parts.piece text.now start end }
 {
     if start <= end && is_boundary(text, start) && is_boundary(text, end) {

@@ -64,7 +64,8 @@ impl Convert for TypeRef {
 }
 
 /// The type with `!` behind it.
-fn non_null(ty: TypeRef) -> TypeRef
+#[must_use]
+pub fn non_null(ty: TypeRef) -> TypeRef
     ensures { result ≡ spec.non_null ty }
 {
     match ty {
@@ -86,8 +87,8 @@ fn type_reference(source: &Source<'_>, tree: &Tree) -> Result<Option<TypeRef>, M
     Ok(made)
 }
 
-/// The list of the item.
-fn list_of(alloc: Global, item: Option<TypeRef>) -> Result<Option<TypeRef>, Memory>
+/// The list of the item, if there is one. `Err` only where memory runs out.
+pub fn list_of(alloc: Global, item: Option<TypeRef>) -> Result<Option<TypeRef>, Memory>
     ensures { IfOk result (λ made. made ≡ option_map ListOf item) }
 {
     match item {

@@ -11,7 +11,7 @@ use std::alloc::Global;
 
 mod conversion;
 
-pub use conversion::default_value;
+pub use conversion::{default_value, truth};
 
 /// A value, and the place that it was read from.
 #[cycle(value)]

@@ -16,7 +16,9 @@ pub use extension::{
 pub use field_definition::{EnumValueDefinition, FieldDefinition, InputValueDefinition};
 pub use jb_text::Memory;
 pub use operation::{FragmentDefinition, OperationDefinition, VariableDefinition};
-pub use schema_definition::{DirectiveDefinition, DirectiveLocation, SchemaDefinition};
+pub use schema_definition::{
+    DirectiveDefinition, DirectiveLocation, SchemaDefinition, location_word,
+};
 pub use selection::{Field, FragmentSpread, InlineFragment, Selection};
 pub use type_definition::{
     EnumTypeDefinition, InputObjectTypeDefinition, InterfaceTypeDefinition, ObjectTypeDefinition,

@@ -188,9 +188,10 @@ fn other_location(found: &str) -> Option<DirectiveLocation>
     }
 }
 
-/// The place that a word names.
+/// Where a directive may stand, by the word that names the place.
+#[must_use]
 #[tactic(auto, unfolding(crate::specs::Schemas::location_word))]
-fn location_word(found: &str) -> Option<DirectiveLocation>
+pub fn location_word(found: &str) -> Option<DirectiveLocation>
     ensures { result ≡ spec.location_word found.now }
 {
     if let Some(location) = executable_location(found) {

@@ -6,7 +6,7 @@ ghost use Rattle.gql_ast_base.specs.Forest.{plain, forest};
 ghost use Rattle.gql_ast_base.specs.Values as spec;
 
 use crate::convert::{Convert, first, push_found};
-use crate::literal_value::literal;
+use crate::literal_value::literal_kind;
 use crate::name::Name;
 use crate::node::{inside, is_of, location};
 use crate::source::Source;
@@ -37,8 +37,9 @@ impl Convert for ValueKind {
     }
 }
 
-/// The truth value of a word.
-fn truth(found: &str) -> Option<bool>
+/// The truth value that a word names.
+#[must_use]
+pub fn truth(found: &str) -> Option<bool>
     ensures { result ≡ spec.truth found.now }
 {
     match found {
@@ -64,7 +65,7 @@ fn token_content(source: &Source<'_>, tree: &Tree) -> Result<Option<ValueKind>, 
     let Some(token) = token_text(source.text, tree) else {
         return Ok(None);
     };
-    let made = literal(source.alloc, token)?;
+    let made = literal_kind(source.alloc, token)?;
     Ok(made)
 }
 
