@@ -5,6 +5,8 @@ from shared.sources import crates, files_of, functions_of, shown
 
 MOST_LINES = 40
 MOST_FUNCTIONS = 120
+# In this one each of some fifty kinds of nodes has functions of its own, most of them of one to three lines.
+MOST_IN = {"gql_ast_parts": 220}
 LINES_AN_ARM = 4
 SAYS_NOTHING = {"keep", "behind", "settle", "set", "note", "given", "form"}
 
@@ -24,8 +26,9 @@ def faults():
                 lines = lines_of(function.body or "")
                 if lines > MOST_LINES and not is_table(function.body):
                     yield f"{where}: the body of `{function.name}` has {lines} lines, at most {MOST_LINES}"
-        if count > MOST_FUNCTIONS:
-            yield f"{shown(crate)}: {count} functions, at most {MOST_FUNCTIONS}"
+        most = MOST_IN.get(crate.name, MOST_FUNCTIONS)
+        if count > most:
+            yield f"{shown(crate)}: {count} functions, at most {most}"
 
 
 def lines_of(body):

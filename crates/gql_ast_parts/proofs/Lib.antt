@@ -1,0 +1,16 @@
+pub mod Behind
+pub mod Words
+pub mod Sorts
+pub mod Own
+pub mod Defined
+pub mod MoreWords
+pub mod Rows
+pub mod Finding
+pub mod MadeParts
+pub mod MadeDefinitions
+pub mod MadeExtensions
+pub mod Made
+pub mod Fresh
+pub mod Grown
+pub mod Pool
+pub mod Comes
