@@ -15,11 +15,11 @@ ghost use Rattle.gql_ast_laws.specs.Defaults.{HasConstantDefaults};
 ghost use Rattle.gql_ast_laws.specs.FieldsIn.{HasFieldsIn};
 ghost use Rattle.gql_ast_laws.specs.Meant.{IsDocumentOf, AreSelectionsOf, IsTypeOf};
 ghost use Rattle.gql_ast_laws.specs.Printed.{has_names, unplaced, RefersTo};
-ghost use Rattle.gql_cst.specs.Forest.{Forest, Plain, plain};
-ghost use Rattle.gql_cst.specs.Parses.{IsParse};
+ghost use Rattle.gql_cst.specs.Forest.{Forest, Plain};
+ghost use Rattle.gql_cst.specs.Parses.{IsReport};
+ghost use Rattle.gql_cst.specs.Report.{Report};
 ghost use Rattle.gql_cst.specs.TreeOf.{IsTreeOf};
 ghost use Rattle.gql_cst.specs.declared.limits.Limits.{Limits};
-ghost use Rattle.gql_cst.specs.declared.limits.Parsed.{Parsed};
 ghost use Rattle.gql_grammar.specs.declared.rule.Rule.TheVariants.{Document, FieldSet, TypeReference};
 ghost use Rattle.gql_grammar.specs.declared.syntax_kind.SyntaxKind.TheVariants as kind;
 ghost use Rattle.gql_source.specs.declared.file_id.FileId.{FileId};
@@ -64,20 +64,19 @@ pub fn texts_have_one_type()
     tree_laws::texts_have_one_tree();
 }
 
-/// What the tree of a parse without an error stands for is what the text stands for.
+/// What the tree of a text that was read without an error stands for is what the text stands for. The reading is told of by a
+/// report, since a program need not hold the tree; where it holds one, the report is that of the parse.
 pub fn parses_mean_their_text()
-    ensures document { (text : List ℕ) (file : FileId) (limits : Limits) (parsed : Parsed)
-        → IsParse Document text limits parsed → parsed.error ≡ None
-        → IsDocumentOf text file (definitions text file (plain parsed.tree)) }
-    ensures selections { (text : List ℕ) (file : FileId) (limits : Limits) (parsed : Parsed)
-        → IsParse FieldSet text limits parsed → parsed.error ≡ None
-        → AreSelectionsOf text file (selected text file (plain parsed.tree).children ++ selections text file (plain parsed.tree).children) }
-    ensures ty { (text : List ℕ) (file : FileId) (limits : Limits) (parsed : Parsed) (ty : TypeRef)
-        → IsParse TypeReference text limits parsed → parsed.error ≡ None
-        → type_of text file (plain parsed.tree) ≡ Some ty → IsTypeOf text file ty }
-{
-    tree_laws::parses_are_trees();
-}
+    ensures document { (text : List ℕ) (file : FileId) (limits : Limits) (report : Report)
+        → IsReport Document text limits report → report.error ≡ None
+        → IsDocumentOf text file (definitions text file report.tree) }
+    ensures selections { (text : List ℕ) (file : FileId) (limits : Limits) (report : Report)
+        → IsReport FieldSet text limits report → report.error ≡ None
+        → AreSelectionsOf text file (selected text file report.tree.children ++ selections text file report.tree.children) }
+    ensures ty { (text : List ℕ) (file : FileId) (limits : Limits) (report : Report) (ty : TypeRef)
+        → IsReport TypeReference text limits report → report.error ≡ None
+        → type_of text file report.tree ≡ Some ty → IsTypeOf text file ty }
+{}
 
 /// In a sentence no definition is left out: each node of a document stands for one (section 2.2 of GraphQL October 2021).
 /// And a tree that refers to a type stands for one (section 2.11).

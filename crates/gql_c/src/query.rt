@@ -10,9 +10,8 @@ ghost use Rattle.gql_rounds.specs.Rounds.{GivesRound};
 use bytes::Bytes;
 use gql_engine::{
     AnswerError, DataObject, DiagnosticList, ExecutableDocument, Map, Question, Refused, Service,
-    Text, Valid, document_of_text,
+    Text, Valid, document_of_text, laws,
 };
-use gql_parser::laws;
 use gql_rounds::{Answers, Round, step};
 use std::alloc::Global;
 use std::marker::Model;

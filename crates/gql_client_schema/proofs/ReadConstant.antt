@@ -10,6 +10,7 @@ use Rattle.gql_cst.specs.Levels.{levels, NestsTo}
 use Rattle.gql_cst.specs.Nesting.{within_node, nesting}
 use Rattle.gql_cst.specs.Outcome.{IsWithin, Stops}
 use Rattle.gql_cst.specs.Parses.{IsParse, Accepts, reached_at}
+use Rattle.gql_cst.specs.Report.{report_of}
 use Rattle.gql_cst.specs.Sentences.{root_kind, row_then, shown}
 use Rattle.gql_cst.specs.TreeOf.{IsTreeOf}
 use Rattle.gql_cst.specs.Words.{word_of}
@@ -63,7 +64,7 @@ module _ (text : List ℕ) (parsed : Parsed) (parse : IsParse ConstValue text li
     sentence : parsed.error ≡ None → IsSentenceWithin limits ConstValue text
     sentence is =
         let f = parse.1 in
-        let ends_there = subst (λ (e : Option CstError). Stops limits (reached_at text f parse.0 parsed) e) is parse.2.stops in
+        let ends_there = subst (λ (e : Option CstError). Stops limits (reached_at text f parse.0 (report_of parsed)) e) is parse.2.stops in
         let nests = subst (λ (e : Option CstError). NestsTo 500 (levels (shown text f)) e) is parse.2.nests in
         record {
           children = f;

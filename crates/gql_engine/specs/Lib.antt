@@ -23,3 +23,4 @@ pub mod Program
 pub mod Resolving
 pub mod Executing
 pub mod Passed
+pub use Rattle.gql_parser.specs.DocumentText

@@ -67,7 +67,7 @@ one_sorted law text faults found one other same h k =
 
 pub one_stop : OneStands → WordsLaw → (text : List ℕ) (one other : CstError) → StopsAt text one → StopsAt text other → one ≡ other
 one_stop stands words text one other h k =
-    let e : Some one ≡ Some other = sym h.stands ∙ (told_alike stands words rule.Document text fresh.limits h.parsed k.parsed h.parse k.parse).error ∙ k.stands in cc
+    let e : Some one ≡ Some other = sym h.stands ∙ (told_alike stands words rule.Document text fresh.limits h.report k.report h.parse k.parse).error ∙ k.stands in cc
 
 pub one_faults : OneDocument → OneSort → OneStands → WordsLaw → (text : List ℕ) (one other : Diagnostics) → SchemaFaults text one → SchemaFaults text other → one ≡ other
 one_faults law sort stands words text one other (no_sentence e h) (no_sentence f k) =

@@ -4,7 +4,6 @@ use Rattle.std.specs.List.Sorted.{IsPermutation, IsSorted}
 use Rattle.std.proofs.lemmas.List.Sorted.{IsPermutation-refl, IsPermutation-sym, IsPermutation-trans}
 use Rattle.gql_ast.specs.declared.definition.Definition.{Definition}
 use Rattle.gql_ast_laws.specs.Meant.{IsDocumentOf}
-use Rattle.gql_grammar.specs.declared.rule.Rule.TheVariants as rule
 use Rattle.gql_lexer.specs.declared.error.CstError.{CstError}
 use Rattle.gql_diag.specs.List.{Diagnostics}
 use Rattle.gql_diag.specs.Order.{list_order}

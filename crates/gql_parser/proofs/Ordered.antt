@@ -7,9 +7,9 @@ use Rattle.gql_lexer.specs.declared.error.SyntaxFault.{SyntaxFault}
 use Rattle.gql_lexer.specs.declared.error.SyntaxFault.TheVariants.{EndOfText, BadCharacter, OpenString, BadEscape, BadNumber, BadToken}
 use Rattle.gql_grammar.specs.declared.rule.Rule.{Rule}
 use Rattle.gql_cst.specs.declared.limits.Limits.{Limits}
-use Rattle.gql_cst.specs.declared.limits.Parsed.{Parsed}
 use Rattle.gql_cst.specs.Outcome.{Reached, EndAt, WordAt, Faults, StopsBy, Stops}
-use Rattle.gql_cst.specs.Parses.{IsParse}
+use Rattle.gql_cst.specs.Parses.{IsReport}
+use Rattle.gql_cst.specs.Report.{Report}
 use Rattle.gql_parser.specs.Diagnosed.{range_of, IsOrdered}
 
 at_end : (r : Reached) (range : Range ℕ) → EndAt r range → range.start ≤ range.end
@@ -39,5 +39,5 @@ told : (limits : Limits) (r : Reached) (error : Option CstError) → Stops limit
 told limits r None h = tt
 told limits r (Some error) h = stopped limits r error h
 
-pub ordered : (start : Rule) (text : List ℕ) (limits : Limits) (parsed : Parsed) → IsParse start text limits parsed → IsOrdered parsed.error
-ordered start text limits parsed h = told limits _ parsed.error h.2.stops
+pub ordered : (start : Rule) (text : List ℕ) (limits : Limits) (report : Report) → IsReport start text limits report → IsOrdered report.error
+ordered start text limits report h = told limits _ report.error h.2.stops

@@ -1,10 +1,9 @@
 -- The fields of a schema that a text means have names of users, and name types that are there.
-use Rattle.std.proofs.Common.{◌≡◌, ℕ, suc, zero, ◌<◌, Bool, true, false, not, ◌&&◌, ◌||◌, ◌⊎◌, inl, inr, cond, if◌then◌else◌, Option, Some, None, is_some, List, [], ◌∷◌, ◌++◌, map, fold, length, get_or, All, refl, sym, ap, ◌∙◌, subst, arith}
+use Rattle.std.proofs.Common.{◌≡◌, ℕ, Bool, true, false, not, ◌&&◌, ◌||◌, ◌⊎◌, inl, inr, cond, if◌then◌else◌, Option, Some, None, is_some, List, [], ◌∷◌, ◌++◌, fold, get_or, All, refl, sym, ap, ◌∙◌, subst}
 use Rattle.std.specs.Prelude.{codes}
 use Rattle.std.specs.List.{filter, flat_map, list_all, list_any}
 use Rattle.std.specs.Option.{option_map_or}
 use Rattle.std.specs.Str.{bytes_eq}
-use Rattle.std.proofs.lemmas.List.Sums.{AllPass-from_list_all}
 use Rattle.std.proofs.lemmas.Slice.Eq.{bytes_eq-Decides}
 use Rattle.gql_source.specs.declared.file_id.FileId.{FileId}
 use Rattle.gql_ast.specs.declared.definition.Definition.{Definition}
@@ -24,7 +23,7 @@ use Rattle.gql_parser.proofs.Kept.{back_empty, front_empty}
 use Rattle.gql_parser.proofs.Scalars.{built-entry, scalar-scalar}
 use Rattle.gql_parser.proofs.SchemaKept.{validated-kept}
 use Rattle.gql_parser.proofs.Settling.{AreThere, any-at, is_scalar_type, each-settled, settled-there, before-settled}
-use Rattle.gql_parser.proofs.SourcedFields.{core_names, is_core_name, IsBuiltInField, IsSourced, OfDefinition, OfType, OfSystem, of-types, of-definitions}
+use Rattle.gql_parser.proofs.SourcedFields.{core_names, IsBuiltInField, IsSourced, OfType, OfSystem, of-types, of-definitions}
 use Rattle.gql_parser.specs.BuiltInText.{is_scalar_of}
 use Rattle.gql_parser.specs.OutputFields.{HaveNoReservedFields, NamesOutputType, HaveOutputTypes}
 use Rattle.gql_parser.specs.Parsers.{its_file}
@@ -59,7 +58,7 @@ use Rattle.gql_schema_build.specs.declared.type_definition.TypeDefinition.TheVar
 use Rattle.gql_schema_build.specs.declared.type_extension.TypeExtension.{TypeExtension}
 use Rattle.gql_schema_build.specs.declared.type_extension.TypeExtension.TheVariants as extension
 use Rattle.gql_schema_build.specs.declared.type_system.TypeSystem.{TypeSystem}
-use Rattle.gql_schema_rules.specs.Scalars.{field_names, names, type_names, new_scalar, built_in_scalars, validated, validated_types}
+use Rattle.gql_schema_rules.specs.Scalars.{field_names, names, type_names, built_in_scalars, validated, validated_types}
 use Rattle.gql_schema_rules.specs.SchemaFaults.{AreSchemaFaults, parts_faults}
 use Rattle.gql_schema_types.proofs.Entries.{entry-front, joined-first}
 use Rattle.gql_schema_types.specs.Entries.{is_called, entry}

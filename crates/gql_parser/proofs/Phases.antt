@@ -7,7 +7,7 @@ use Rattle.jb_text.specs.declared.refused.Refused.{Refused}
 use Rattle.jb_text.specs.declared.refused.Refused.TheVariants.{Fault, Memory}
 use Rattle.gql_ast.specs.declared.document.Document.{Document}
 use Rattle.gql_cst.specs.declared.limits.Limits.{Limits}
-use Rattle.gql_cst.specs.Parses.{IsParse}
+use Rattle.gql_cst.specs.Parses.{IsReport}
 use Rattle.gql_grammar.specs.declared.rule.Rule.TheVariants as rule
 use Rattle.gql_lexer.specs.declared.error.CstError.{CstError}
 use Rattle.gql_diag.specs.List.{Diagnostics, IsStableSort}
@@ -141,8 +141,8 @@ is_refused schema text parser refusal limits b = by_reading b.takes.read
         b.answers.judged.1.1.0 b.answers.judged.1.1.1 in
         subst (DocumentFaults schema text) (sym is) (no_sentence stopped.error (record {
           none = λ h. stopped.stopped.none (subst (λ (l : Limits). IsSentenceWithin l rule.Document text) (sym limits) h);
-          parsed = stopped.parsed;
-          parse = subst (λ (l : Limits). IsParse rule.Document text l stopped.parsed) limits stopped.stopped.reading.parse;
+          report = stopped.report;
+          parse = subst (λ (l : Limits). IsReport rule.Document text l stopped.report) limits stopped.stopped.reading.parse;
           stands = stopped.stopped.stands;
         }))
 

@@ -8,7 +8,7 @@ use Rattle.jb_text.specs.declared.refused.Refused.{Refused}
 use Rattle.jb_text.specs.declared.refused.Refused.TheVariants.{Fault, Memory}
 use Rattle.gql_ast.specs.declared.document.Document.{Document}
 use Rattle.gql_cst.specs.declared.limits.Limits.{Limits}
-use Rattle.gql_cst.specs.Parses.{IsParse}
+use Rattle.gql_cst.specs.Parses.{IsReport}
 use Rattle.gql_grammar.specs.declared.rule.Rule.TheVariants as rule
 use Rattle.gql_diag.specs.Judged.{IsJudged}
 use Rattle.gql_diag.specs.List.{Diagnostics, IsStableSort}
@@ -26,7 +26,7 @@ use Rattle.gql_schema_rules.specs.Scalars.{validated}
 use Rattle.gql_schema_rules.specs.SchemaFaults.{AreSchemaFaults, HasListedAllFaults}
 use Rattle.gql_schema_types.specs.declared.schema.Schema.{Schema}
 use Rattle.gql_source.specs.File.{Files, joined}
-use Rattle.gql_parser.specs.SchemaAnswers.{IsBuildRead, IsBuiltBy, IsBuilt, IsUnbuilt, IsBuiltOf, IsReadOf, IsStoppedOf, HasTaken, IsRuled, IsSchemaRead, AreRulesBroken}
+use Rattle.gql_parser.specs.SchemaAnswers.{IsBuildRead, IsBuiltBy, IsUnbuilt, IsBuiltOf, IsReadOf, IsStoppedOf, HasTaken, IsRuled, IsSchemaRead, AreRulesBroken}
 use Rattle.gql_parser.specs.SchemaFaults.{SchemaFaults, no_sentence, no_build, broken, all_files}
 use Rattle.gql_parser.specs.SchemaText.{AreDefinitions, all_of, its_given}
 
@@ -109,8 +109,8 @@ is_stopped text document errors parser limits s = record {
   error = s.error;
   stops = record {
     none = λ h. s.stopped.none (subst (λ (l : Limits). IsSentenceWithin l rule.Document text) (sym limits) h);
-    parsed = s.parsed;
-    parse = subst (λ (l : Limits). IsParse rule.Document text l s.parsed) limits s.stopped.reading.parse;
+    report = s.report;
+    parse = subst (λ (l : Limits). IsReport rule.Document text l s.report) limits s.stopped.reading.parse;
     stands = s.stopped.stands;
   };
   told = s.told;

@@ -1,39 +1,38 @@
 -- What comes of a file that is read as a document.
-use Rattle.std.specs.Prelude.{◌≡◌, Some, None, Result, Ok, Err}
+use Rattle.std.specs.Prelude.{◌≡◌, Option, Some, None, Result, Ok, Err}
 use Rattle.jb_text.specs.declared.refused.Refused.{Refused}
 use Rattle.jb_text.specs.declared.refused.Refused.TheVariants.{Fault, Memory}
 use Rattle.gql_lexer.specs.declared.error.CstError.{CstError}
 use Rattle.gql_grammar.specs.declared.rule.Rule.TheVariants as rule
-use Rattle.gql_cst.specs.declared.limits.Parsed.{Parsed}
-use Rattle.gql_cst.specs.declared.tree.Tree.{Tree}
-use Rattle.gql_cst.specs.Forest.{plain}
+use Rattle.gql_cst.specs.Forest.{Plain}
+use Rattle.gql_cst.specs.Report.{Report}
 use Rattle.gql_ast.specs.declared.document.Document.{Document}
 use Rattle.gql_ast.specs.Documents.{definitions}
 use Rattle.gql_ast_laws.specs.Meant.{IsDocumentOf}
 use Rattle.gql_diag.specs.List.{Diagnostics}
 use Rattle.gql_diag.specs.declared.with_errors.WithErrors.{WithErrors}
 use Rattle.gql_parser.specs.Parsers.{ParserState, Given, its_file}
-use Rattle.gql_parser.specs.Readings.{IsWhole, IsStopped}
+use Rattle.gql_parser.specs.Readings.{IsWhole, IsStopped, IsJudged}
 use Rattle.gql_parser.specs.Diagnosed.{list_of}
 
 -- the document of a tree of the file's text
-abbrev pub document_of : Given → Tree → Document
-document_of given tree = record { sources = its_file given; definitions = definitions given.text given.file (plain tree) }
+abbrev pub document_of : Given → Plain → Document
+document_of given tree = record { sources = its_file given; definitions = definitions given.text given.file tree }
 
 -- the text is a document, and this is the one that it means
 pub record IsDocumentRead (parser : ParserState) (given : Given) (document : Document) : Type 0 where
-  pub parsed : Parsed
-  pub whole : IsWhole parser rule.Document given.text parsed
+  pub report : Report
+  pub whole : IsWhole parser rule.Document given.text report
   pub sources : document.sources ≡ its_file given
   pub means : IsDocumentOf given.text given.file document.definitions
 
 -- The text is none. The document is that of the tree that was closed where the reading ended, and the one diagnostic
 -- tells why it ended.
 pub record IsDocumentStopped (parser : ParserState) (given : Given) (document : Document) (errors : Diagnostics) : Type 0 where
-  pub parsed : Parsed
+  pub report : Report
   pub error : CstError
-  pub stopped : IsStopped parser rule.Document given.text parsed error
-  pub partial : document ≡ document_of given parsed.tree
+  pub stopped : IsStopped parser rule.Document given.text report error
+  pub partial : document ≡ document_of given report.tree
   pub told : errors ≡ list_of given error
 
 abbrev pub IsDocumentAnswer : ParserState → Given → Result Document (Refused (WithErrors Document)) → Type 0
@@ -41,10 +40,18 @@ IsDocumentAnswer parser given (Ok document) = IsDocumentRead parser given docume
 IsDocumentAnswer parser given (Err (Fault refusal)) = IsDocumentStopped parser given refusal.partial refusal.errors
 IsDocumentAnswer parser given (Err Memory) = Unit {0}
 
--- ---- the same of a parse that is there
+-- ---- the same of a document that is there
 
-abbrev pub IsDocumentOfParse : Given → Parsed → Result Document (Refused (WithErrors Document)) → Type 0
-IsDocumentOfParse given parsed (Ok document) = (parsed.error ≡ None) × (document ≡ document_of given parsed.tree)
-IsDocumentOfParse given parsed (Err (Fault refusal)) =
-    (error : CstError) × (parsed.error ≡ Some error) × (refusal.partial ≡ document_of given parsed.tree) × (refusal.errors ≡ list_of given error)
-IsDocumentOfParse given parsed (Err Memory) = Unit {0}
+-- the document of the tree that was closed where the reading ended, and what ended it before the text's end
+pub record IsReadTo (parser : ParserState) (given : Given) (document : Document) (error : Option CstError) : Type 0 where
+  pub report : Report
+  pub judged : IsJudged parser rule.Document given.text report
+  pub ended : report.error ≡ error
+  pub partial : document ≡ document_of given report.tree
+
+-- that document, with the one diagnostic beside it if there is an error
+abbrev pub IsAnswerOf : Given → Document → Option CstError → Result Document (Refused (WithErrors Document)) → Type 0
+IsAnswerOf given document error (Ok answer) = (error ≡ None) × (answer ≡ document)
+IsAnswerOf given document error (Err (Fault refusal)) =
+    (found : CstError) × (error ≡ Some found) × (refusal.partial ≡ document) × (refusal.errors ≡ list_of given found)
+IsAnswerOf given document error (Err Memory) = Unit {0}

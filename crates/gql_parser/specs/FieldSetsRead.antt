@@ -9,6 +9,7 @@ use Rattle.gql_grammar.specs.declared.syntax_kind.SyntaxKind.TheVariants as kind
 use Rattle.gql_cst.specs.declared.limits.Parsed.{Parsed}
 use Rattle.gql_cst.specs.declared.tree.Tree.{Tree}
 use Rattle.gql_cst.specs.Forest.{plain}
+use Rattle.gql_cst.specs.Report.{Report}
 use Rattle.gql_ast_base.specs.Names.{Named}
 use Rattle.gql_ast_base.specs.Parts.{Text, gather, inside}
 use Rattle.gql_ast_definitions.specs.declared.selection.Selection.{Selection}
@@ -30,16 +31,16 @@ nothing_told given = record { sources = its_file given; items = [] }
 
 -- the text is these selections, with braces around them or without, and nothing is told
 pub record AreSelectionsWhole (parser : ParserState) (given : Given) (read : List Selection) (errors : Diagnostics) : Type 0 where
-  pub parsed : Parsed
-  pub whole : IsWhole parser rule.FieldSet given.text parsed
+  pub report : Report
+  pub whole : IsWhole parser rule.FieldSet given.text report
   pub mean : AreSelectionsOf given.text given.file read
   pub told : errors ≡ nothing_told given
 
 -- the text is none: there is no selection, and the one diagnostic tells why
 pub record AreSelectionsStopped (parser : ParserState) (given : Given) (read : List Selection) (errors : Diagnostics) : Type 0 where
-  pub parsed : Parsed
+  pub report : Report
   pub error : CstError
-  pub stopped : IsStopped parser rule.FieldSet given.text parsed error
+  pub stopped : IsStopped parser rule.FieldSet given.text report error
   pub none : read ≡ []
   pub told : errors ≡ list_of given error
 

@@ -1,14 +1,14 @@
 -- What a builder takes of a file that is read as a document.
-use Rattle.std.specs.Prelude.{◌≡◌, ◌⊎◌, [], Some, None}
+use Rattle.std.specs.Prelude.{◌≡◌, ◌⊎◌, [], Option, Some, None}
 use Rattle.gql_lexer.specs.declared.error.CstError.{CstError}
 use Rattle.gql_grammar.specs.declared.rule.Rule.TheVariants as rule
-use Rattle.gql_cst.specs.declared.limits.Parsed.{Parsed}
+use Rattle.gql_cst.specs.Report.{Report}
 use Rattle.gql_ast.specs.declared.document.Document.{Document}
 use Rattle.gql_diag.specs.List.{Diagnostics}
 use Rattle.gql_parser.specs.Parsers.{ParserState, Given}
 use Rattle.gql_parser.specs.Readings.{IsStopped}
 use Rattle.gql_parser.specs.Diagnosed.{list_of}
-use Rattle.gql_parser.specs.DocumentsRead.{IsDocumentRead, document_of}
+use Rattle.gql_parser.specs.DocumentsRead.{IsDocumentRead}
 
 abbrev pub no_document : Document
 no_document = record { sources = []; definitions = [] }
@@ -23,18 +23,19 @@ pub record IsFileWhole (parser : ParserState) (given : Given) (document : Docume
 
 -- the text is no document: there is no definition, and the one diagnostic, with the file, tells why
 pub record IsFileStopped (parser : ParserState) (given : Given) (document : Document) (errors : Diagnostics) : Type 0 where
-  pub parsed : Parsed
+  pub report : Report
   pub error : CstError
-  pub stopped : IsStopped parser rule.Document given.text parsed error
+  pub stopped : IsStopped parser rule.Document given.text report error
   pub none : document ≡ no_document
   pub told : errors ≡ list_of given error
 
 abbrev pub IsFileRead : ParserState → Given → Document → Diagnostics → Type 0
 IsFileRead parser given document errors = IsFileWhole parser given document errors ⊎ IsFileStopped parser given document errors
 
--- ---- the same of a parse that is there
+-- ---- the same of a document that is there
 
-abbrev pub IsFileOfParse : Given → Parsed → Document → Diagnostics → Type 0
-IsFileOfParse given parsed document errors =
-    ((parsed.error ≡ None) × (document ≡ document_of given parsed.tree) × (errors ≡ no_faults))
-    ⊎ ((error : CstError) × (parsed.error ≡ Some error) × (document ≡ no_document) × (errors ≡ list_of given error))
+-- of what was read, with an error or without
+abbrev pub IsFileOf : Given → Document → Option CstError → Document → Diagnostics → Type 0
+IsFileOf given read error document errors =
+    ((error ≡ None) × (document ≡ read) × (errors ≡ no_faults))
+    ⊎ ((found : CstError) × (error ≡ Some found) × (document ≡ no_document) × (errors ≡ list_of given found))

@@ -3,12 +3,12 @@ use Rattle.std.specs.Prelude.{◌≡◌, ◌≤◌, ◌⊎◌, ℕ, List, length
 use Rattle.gql_lexer.specs.declared.error.CstError.{CstError}
 use Rattle.gql_grammar.specs.declared.rule.Rule.{Rule}
 use Rattle.gql_cst.specs.declared.limits.Limits.{Limits}
-use Rattle.gql_cst.specs.declared.limits.Parsed.{Parsed}
 use Rattle.gql_cst.specs.Forest.{Forest}
 use Rattle.gql_cst.specs.Leaves.{leaves}
 use Rattle.gql_cst.specs.Nesting.{nesting}
 use Rattle.gql_cst.specs.Outcome.{IsWithin}
-use Rattle.gql_cst.specs.Parses.{IsParse}
+use Rattle.gql_cst.specs.Parses.{IsReport}
+use Rattle.gql_cst.specs.Report.{Report}
 use Rattle.gql_cst.specs.TreeOf.{IsTreeOf}
 use Rattle.gql_parser.specs.Parsers.{ParserState}
 
@@ -19,30 +19,31 @@ pub record IsSentenceWithin (limits : Limits) (start : Rule) (text : List ℕ) :
   pub nested : nesting children ≤ limits.recursion
   pub counted : IsWithin limits.tokens (length (leaves children))
 
--- the text was read from the start, and the parser tells how far
-pub record IsReading (parser : ParserState) (start : Rule) (text : List ℕ) (parsed : Parsed) : Type 0 where
-  pub parse : IsParse start text parser.limits parsed
-  pub recursion_reached : parser.recursion_reached ≡ parsed.recursion_reached
-  pub tokens_reached : parser.tokens_reached ≡ parsed.tokens_reached
+-- The text was read from the start, and the parser tells how far. The report has the tree of what was read, which no
+-- program need hold.
+pub record IsReading (parser : ParserState) (start : Rule) (text : List ℕ) (report : Report) : Type 0 where
+  pub parse : IsReport start text parser.limits report
+  pub recursion_reached : parser.recursion_reached ≡ report.recursion_reached
+  pub tokens_reached : parser.tokens_reached ≡ report.tokens_reached
 
 -- it was read to its end, and is a sentence within the limits
-pub record IsWhole (parser : ParserState) (start : Rule) (text : List ℕ) (parsed : Parsed) : Type 0 where
-  pub reading : IsReading parser start text parsed
-  pub no_error : parsed.error ≡ None
+pub record IsWhole (parser : ParserState) (start : Rule) (text : List ℕ) (report : Report) : Type 0 where
+  pub reading : IsReading parser start text report
+  pub no_error : report.error ≡ None
   pub sentence : IsSentenceWithin parser.limits start text
 
 -- the reading ended by the error, and the text is no sentence within the limits
-pub record IsStopped (parser : ParserState) (start : Rule) (text : List ℕ) (parsed : Parsed) (error : CstError) : Type 0 where
-  pub reading : IsReading parser start text parsed
-  pub stands : parsed.error ≡ Some error
+pub record IsStopped (parser : ParserState) (start : Rule) (text : List ℕ) (report : Report) (error : CstError) : Type 0 where
+  pub reading : IsReading parser start text report
+  pub stands : report.error ≡ Some error
   pub none : IsSentenceWithin parser.limits start text → ⊥
 
 -- each reading is one of the two
-abbrev pub IsJudged : ParserState → Rule → List ℕ → Parsed → Type 0
-IsJudged parser start text parsed =
-    MatchOption parsed.error (IsWhole parser start text parsed) (λ error. IsStopped parser start text parsed error)
+abbrev pub IsJudged : ParserState → Rule → List ℕ → Report → Type 0
+IsJudged parser start text report =
+    MatchOption report.error (IsWhole parser start text report) (λ error. IsStopped parser start text report error)
 
 -- What a call leaves of a parser: its limits, and the counts of before, or those that tell how far the text was read.
 pub record IsLeft (old new : ParserState) (start : Rule) (text : List ℕ) : Type 0 where
   pub limits : new.limits ≡ old.limits
-  pub counts : (new ≡ old) ⊎ ((parsed : Parsed) × IsReading new start text parsed)
+  pub counts : (new ≡ old) ⊎ ((report : Report) × IsReading new start text report)

@@ -6,6 +6,7 @@ use Rattle.gql_lexer.specs.declared.error.CstError.{CstError}
 use Rattle.gql_grammar.specs.declared.rule.Rule.TheVariants.{TypeReference}
 use Rattle.gql_cst.specs.declared.limits.Parsed.{Parsed}
 use Rattle.gql_cst.specs.Forest.{plain}
+use Rattle.gql_cst.specs.Report.{Report}
 use Rattle.gql_ast_base.specs.declared.type_ref.TypeRef.{TypeRef}
 use Rattle.gql_ast_base.specs.Types.{type_of}
 use Rattle.gql_ast_laws.specs.Meant.{IsTypeOf}
@@ -16,15 +17,15 @@ use Rattle.gql_parser.specs.Diagnosed.{list_of}
 
 -- the text is a reference to this type
 pub record IsTypeRead (parser : ParserState) (given : Given) (ty : TypeRef) : Type 0 where
-  pub parsed : Parsed
-  pub whole : IsWhole parser TypeReference given.text parsed
+  pub report : Report
+  pub whole : IsWhole parser TypeReference given.text report
   pub means : IsTypeOf given.text given.file ty
 
 -- it is none, and the one diagnostic tells why
 pub record IsTypeStopped (parser : ParserState) (given : Given) (errors : Diagnostics) : Type 0 where
-  pub parsed : Parsed
+  pub report : Report
   pub error : CstError
-  pub stopped : IsStopped parser TypeReference given.text parsed error
+  pub stopped : IsStopped parser TypeReference given.text report error
   pub told : errors ≡ list_of given error
 
 abbrev pub IsTypeAnswer : ParserState → Given → Result TypeRef (Refused Diagnostics) → Type 0

@@ -5,14 +5,12 @@ ghost use Rattle.gql_grammar.specs.declared.rule.Rule.TheVariants as rule;
 ghost use Rattle.gql_parser.specs.Parsers.{given};
 ghost use Rattle.gql_parser.specs.Readings.{IsLeft};
 ghost use Rattle.gql_parser.specs.Diagnosed.{IsOrdered};
-ghost use Rattle.gql_parser.specs.FileRead.{IsFileOfParse, IsFileRead, no_document as document_without, no_faults as no_faults_of};
+ghost use Rattle.gql_parser.specs.FileRead.{IsFileOf, IsFileRead, no_document as document_without, no_faults as no_faults_of};
 
-use crate::parse_ast::document;
-use crate::parser::Parser;
+use crate::parser::{DocumentRead, Parser};
 use crate::stopped::list_of;
 use gql_ast::Document;
 use gql_ast_laws::laws;
-use gql_cst::Parsed;
 use gql_diag::DiagnosticList;
 use gql_source::{FileId, SourceMap};
 use jb_text::{Listed, Memory};
@@ -38,26 +36,26 @@ impl Parser {
         ensures read { IfOk result (λ read. IsFileRead self.new (given file_id path.now source_text.now) read.document read.errors) }
     {
         laws::parses_mean_their_text();
-        let parsed = self.read_document(alloc, source_text)?;
-        file_of_parse(alloc, file_id, path, source_text, parsed)
+        let read = self.read_document(alloc, file_id, path, source_text)?;
+        file_of(alloc, file_id, path, source_text, read)
     }
 }
 
-/// The document of what was read, if it was read to its end, and else what stopped the reading.
-fn file_of_parse(
+/// The document, if its text was read to the end, and else what stopped the reading.
+fn file_of(
     alloc: Global,
     file_id: FileId,
     path: &str,
     text: &str,
-    parsed: Parsed,
+    read: DocumentRead,
 ) -> Result<FileRead, Memory>
-    requires { IsOrdered parsed.error }
-    ensures { IfOk result (λ read. IsFileOfParse (given file_id path.now text.now) parsed read.document read.errors) }
+    requires { IsOrdered read.error }
+    ensures { IfOk result (λ file. IsFileOf (given file_id path.now text.now) read.document read.error file.document file.errors) }
 {
-    let Parsed { tree, error, .. } = parsed;
+    let DocumentRead { document, error } = read;
     match error {
         None => Ok(FileRead {
-            document: document(alloc, file_id, path, text, &tree)?,
+            document,
             errors: no_faults(alloc),
         }),
         Some(error) => Ok(FileRead {

@@ -5,17 +5,16 @@ ghost use Rattle.gql_grammar.specs.declared.rule.Rule.TheVariants as rule;
 ghost use Rattle.gql_parser.specs.Parsers.{given, given_next};
 ghost use Rattle.gql_parser.specs.Readings.{IsLeft};
 ghost use Rattle.gql_parser.specs.Diagnosed.{IsOrdered};
-ghost use Rattle.gql_parser.specs.DocumentsRead.{IsDocumentAnswer, IsDocumentOfParse, document_of};
+ghost use Rattle.gql_parser.specs.DocumentsRead.{IsAnswerOf, IsDocumentAnswer};
 
-use crate::file::{next_file, only_file};
-use crate::parser::Parser;
+use crate::file::next_file;
+use crate::parser::{DocumentRead, Parser};
 use crate::stopped::list_of;
 use gql_ast::Document;
 use gql_ast_laws::laws;
-use gql_cst::{Parsed, Tree};
 use gql_diag::WithErrors;
 use gql_source::{FileId, FileIds};
-use jb_text::{Memory, Refused};
+use jb_text::Refused;
 use std::alloc::Global;
 
 impl Parser {
@@ -42,43 +41,28 @@ impl Parser {
     {
         laws::parses_mean_their_text();
         let file_id = next_file(ids);
-        let parsed = self.read_document(alloc, source_text)?;
-        document_of_parse(alloc, file_id, path, source_text, parsed)
+        let read = self.read_document(alloc, file_id, path, source_text)?;
+        answer_of(alloc, file_id, path, source_text, read)
     }
 }
 
-/// The document of what was read, if it was read to its end, and else that document beside what stopped the reading.
-fn document_of_parse(
+/// The document, if its text was read to the end, and else that document beside what stopped the reading.
+fn answer_of(
     alloc: Global,
     file_id: FileId,
     path: &str,
     text: &str,
-    parsed: Parsed,
+    read: DocumentRead,
 ) -> Result<Document, Refused<WithErrors<Document>>>
-    requires { IsOrdered parsed.error }
-    ensures { IsDocumentOfParse (given file_id path.now text.now) parsed result }
+    requires { IsOrdered read.error }
+    ensures { IsAnswerOf (given file_id path.now text.now) read.document read.error result }
 {
-    let Parsed { tree, error, .. } = parsed;
-    let partial = document(alloc, file_id, path, text, &tree)?;
+    let DocumentRead { document, error } = read;
     match error {
-        None => Ok(partial),
+        None => Ok(document),
         Some(error) => Err(Refused::Fault(WithErrors {
-            partial,
+            partial: document,
             errors: list_of(alloc, file_id, path, text, &error)?,
         })),
     }
-}
-
-/// The document of a tree of the file's text.
-pub(crate) fn document(
-    alloc: Global,
-    file_id: FileId,
-    path: &str,
-    text: &str,
-    tree: &Tree,
-) -> Result<Document, Memory>
-    ensures { IfOk result (λ document. document ≡ document_of (given file_id path.now text.now) tree.now) }
-{
-    let sources = only_file(alloc, file_id, path, text)?;
-    Document::from_cst(alloc, tree, file_id, sources)
 }

@@ -12,7 +12,7 @@ use crate::parser::Parser;
 use crate::stopped::list_of;
 use gql_ast::{Convert, TypeRef};
 use gql_ast_laws::laws;
-use gql_cst::{Parsed, laws as cst_laws};
+use gql_cst::Parsed;
 use gql_diag::DiagnosticList;
 use gql_source::{FileId, FileIds};
 use jb_text::Refused;
@@ -42,7 +42,6 @@ impl Parser {
     {
         laws::parses_mean_their_text();
         laws::sentences_are_complete();
-        cst_laws::parses_are_trees();
         let file_id = next_file(ids);
         let parsed = self.read_type(alloc, source_text)?;
         type_of_parse(alloc, file_id, path, source_text, &parsed)

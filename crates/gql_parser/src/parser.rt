@@ -1,12 +1,22 @@
 //! A parser: its limits, and how far it read the last text.
 
-ghost use Rattle.std.specs.Prelude.{◌≡◌, Some, IfOk, OnErr};
+ghost use Rattle.std.specs.Prelude.{◌≡◌, Some, IfOk, IsSome, OnErr};
+ghost use Rattle.std.specs.Map.{lookup};
+ghost use Rattle.gql_ast.specs.Documents.{text_of};
+ghost use Rattle.gql_ast_parts.specs.IsRead.{IsRead};
+ghost use Rattle.gql_cst.specs.Report.{report_of};
 ghost use Rattle.gql_grammar.specs.declared.rule.Rule.TheVariants as rule;
-ghost use Rattle.gql_parser.specs.Parsers.{fresh};
+ghost use Rattle.gql_source.specs.File.{is_file};
+ghost use Rattle.gql_parser.specs.Parsers.{fresh, given};
 ghost use Rattle.gql_parser.specs.Readings.{IsJudged};
 ghost use Rattle.gql_parser.specs.Diagnosed.{IsOrdered};
+ghost use Rattle.gql_parser.specs.DocumentsRead.{IsReadTo};
 
-use gql_cst::{Limits, Parsed, laws, parse_document, parse_selection_set, parse_type};
+use crate::file::only_file;
+use gql_ast::{Document, Source};
+use gql_ast_parts::{Read, read_definitions};
+use gql_cst::{CstError, Limits, Parsed, parse_selection_set, parse_type};
+use gql_source::{FileId, SourceMap};
 use jb_text::Memory;
 use std::alloc::Global;
 use std::marker::Model;
@@ -19,6 +29,13 @@ pub struct Parser {
     limits: Limits,
     recursion_reached: usize,
     tokens_reached: usize,
+}
+
+/// A document as far as its text was read, and what ended the reading before the text's end.
+#[derive(Drop)]
+pub(crate) struct DocumentRead {
+    pub(crate) document: Document,
+    pub(crate) error: Option<CstError>,
 }
 
 impl Model for Parser {
@@ -90,28 +107,45 @@ impl Parser {
         self.tokens_reached
     }
 
-    /// Reads a text from its beginning to its end, or to the first error, as a document.
-    pub(crate) fn read_document(&mut self, alloc: Global, text: &str) -> Result<Parsed, Memory>
+    /// Reads the file's text from its beginning to its end, or to the first error, as a document. Its definitions are made as
+    /// the text is read, without a concrete tree of it.
+    pub(crate) fn read_document(
+        &mut self,
+        alloc: Global,
+        file_id: FileId,
+        path: &str,
+        text: &str,
+    ) -> Result<DocumentRead, Memory>
         ensures limits { self.new.limits ≡ self.old.limits }
-        ensures judged { IfOk result (IsJudged self.new rule.Document text.now) }
-        ensures ordered { IfOk result (λ parsed. IsOrdered parsed.error) }
+        ensures read { IfOk result (λ read. IsReadTo self.new (given file_id path.now text.now) read.document read.error) }
+        ensures ordered { IfOk result (λ read. IsOrdered read.error) }
         ensures unread { OnErr result (self.new ≡ self.old) }
     {
-        laws::parses_are_trees();
-        let parsed = parse_document(alloc, text, &self.limits)?;
-        self.recursion_reached = parsed.recursion_reached;
-        self.tokens_reached = parsed.tokens_reached;
-        Ok(parsed)
+        let sources = only_file(alloc, file_id, path, text)?;
+        let read = definitions(alloc, file_id, &sources, &self.limits)?;
+        self.recursion_reached = read.recursion_reached;
+        self.tokens_reached = read.tokens_reached;
+        let Read {
+            definitions,
+            error,
+            ..
+        } = read;
+        Ok(DocumentRead {
+            document: Document {
+                sources,
+                definitions,
+            },
+            error,
+        })
     }
 
-    /// Reads a text in the same way as selections, with braces around them or without.
+    /// Reads a text as selections, with braces around them or without: to its end, or to the first error.
     pub(crate) fn read_selection_set(&mut self, alloc: Global, text: &str) -> Result<Parsed, Memory>
         ensures limits { self.new.limits ≡ self.old.limits }
-        ensures judged { IfOk result (IsJudged self.new rule.FieldSet text.now) }
+        ensures judged { IfOk result (λ parsed. IsJudged self.new rule.FieldSet text.now (report_of parsed)) }
         ensures ordered { IfOk result (λ parsed. IsOrdered parsed.error) }
         ensures unread { OnErr result (self.new ≡ self.old) }
     {
-        laws::parses_are_trees();
         let parsed = parse_selection_set(alloc, text, &self.limits)?;
         self.recursion_reached = parsed.recursion_reached;
         self.tokens_reached = parsed.tokens_reached;
@@ -121,14 +155,27 @@ impl Parser {
     /// Reads a text in the same way as a reference to a type.
     pub(crate) fn read_type(&mut self, alloc: Global, text: &str) -> Result<Parsed, Memory>
         ensures limits { self.new.limits ≡ self.old.limits }
-        ensures judged { IfOk result (IsJudged self.new rule.TypeReference text.now) }
+        ensures judged { IfOk result (λ parsed. IsJudged self.new rule.TypeReference text.now (report_of parsed)) }
         ensures ordered { IfOk result (λ parsed. IsOrdered parsed.error) }
         ensures unread { OnErr result (self.new ≡ self.old) }
     {
-        laws::parses_are_trees();
         let parsed = parse_type(alloc, text, &self.limits)?;
         self.recursion_reached = parsed.recursion_reached;
         self.tokens_reached = parsed.tokens_reached;
         Ok(parsed)
     }
+}
+
+/// The definitions of the file's text, as far as it can be read within the limits.
+fn definitions(
+    alloc: Global,
+    file_id: FileId,
+    sources: &SourceMap,
+    limits: &Limits,
+) -> Result<Read, Memory>
+    requires { IsSome (lookup (is_file file_id) sources.now) }
+    ensures { IfOk result (IsRead (text_of file_id sources.now) file_id limits.now) }
+{
+    let file = sources.get(file_id).unwrap();
+    read_definitions(Source::sharing(alloc, file.shared_text(), file_id), limits)
 }

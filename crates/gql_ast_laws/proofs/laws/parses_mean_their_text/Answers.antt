@@ -2,7 +2,8 @@ use Rattle.std.proofs.Common.{◌≡◌, refl, sym, ap, ◌∙◌}
 use Rattle.gql_source.specs.declared.file_id.FileId.{FileId}
 use Rattle.gql_grammar.specs.declared.rule.Rule.TheVariants.{Document, FieldSet, TypeReference}
 use Rattle.gql_grammar.specs.declared.syntax_kind.SyntaxKind.TheVariants as kind
-use Rattle.gql_cst.specs.Forest.{Plain, plain}
+use Rattle.gql_cst.specs.Forest.{Plain}
+use Rattle.gql_cst.proofs.Parsing.{parse_tree}
 use Rattle.gql_ast_base.specs.Parts.{Text}
 use Rattle.gql_ast_base.specs.Types.{type_step, type_of}
 use Rattle.gql_ast_laws.proofs.Blind.{tree}
@@ -14,14 +15,12 @@ unfolding type_step
 placed text file t e = ap (λ k. type_of text file (tree k 0 0 t.children)) (sym e)
 
 pub returns : goal.returns
-returns c =
-    let law = c.parses_are_trees.ensures in
-    record {
-      document = λ text file limits parsed p none. record { children = (plain parsed.tree).children; tree = law.children Document text limits parsed p none; means = refl };
-      selections = λ text file limits parsed p none. record { children = (plain parsed.tree).children; tree = law.children FieldSet text limits parsed p none; means = refl };
-      ty = λ text file limits parsed ty p none means. record {
-        children = (plain parsed.tree).children;
-        tree = law.children TypeReference text limits parsed p none;
-        means = placed text file (plain parsed.tree) (law.kind TypeReference text limits parsed p) ∙ means;
-      };
-    }
+returns c = record {
+  document = λ text file limits report p none. record { children = report.tree.children; tree = parse_tree Document text limits report p none; means = refl };
+  selections = λ text file limits report p none. record { children = report.tree.children; tree = parse_tree FieldSet text limits report p none; means = refl };
+  ty = λ text file limits report ty p none means. record {
+    children = report.tree.children;
+    tree = parse_tree TypeReference text limits report p none;
+    means = placed text file report.tree p.2.tree_kind ∙ means;
+  };
+}

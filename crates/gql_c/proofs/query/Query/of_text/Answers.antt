@@ -1,6 +1,6 @@
 -- A text means one schema at most, so the document is over each that it means.
 use Rattle.std.proofs.Common.{◌≡◌, ℕ, List, sym, subst}
-use Rattle.gql_parser.specs.DocumentText.{DocumentText}
+use Rattle.gql_engine.specs.DocumentText.{DocumentText}
 use Rattle.gql_schema_types.specs.declared.schema.Schema.{Schema}
 use Rattle.std.specs.Arc.{arc_value}
 use Rattle.gql_c.proofs.query.Query.of_text.Goals as goal

@@ -8,10 +8,12 @@ use Rattle.gql_parser.proofs.parser.Parser.parse_ast.Goals as goal
 
 pub returns-clause-left : goal.returns-clause-left
 returns-clause-left c =
-    left c.args.self.now c.read_document.new.self rule.Document c.args.source_text.now c.in_ok-parsed.parsed c.in_ok-parsed.ensures.limits c.in_ok-parsed.ensures.judged
+    let read = c.in_ok-read.ensures in
+    left c.args.self.now c.read_document.new.self rule.Document c.args.source_text.now read.read.report read.limits read.read.judged
 
 pub returns-clause-answer : goal.returns-clause-answer
 returns-clause-answer c =
-    subst (λ (f : FileId). IsDocumentAnswer c.read_document.new.self (given f c.args.path.now c.args.source_text.now) c.document_of_parse.result) c.next_file-file_id.ensures.given
-    (document_answer c.parses_mean_their_text.ensures.document c.read_document.new.self (given c.next_file-file_id.result c.args.path.now c.args.source_text.now) c.in_ok-parsed.parsed
-    c.document_of_parse.result c.in_ok-parsed.ensures.judged c.document_of_parse.ensures)
+    let read = c.in_ok-read in
+    subst (λ (f : FileId). IsDocumentAnswer c.read_document.new.self (given f c.args.path.now c.args.source_text.now) c.answer_of.result) c.next_file-file_id.ensures.given
+    (document_answer c.parses_mean_their_text.ensures.document c.read_document.new.self (given c.next_file-file_id.result c.args.path.now c.args.source_text.now)
+    read.read.document read.read.error read.ensures.read c.answer_of.result c.answer_of.ensures)

@@ -1,4 +1,5 @@
 use Rattle.std.proofs.Common.{subst}
+use Rattle.gql_cst.specs.Report.{report_of}
 use Rattle.gql_source.specs.declared.file_id.FileId.{FileId}
 use Rattle.gql_grammar.specs.declared.rule.Rule.TheVariants as rule
 use Rattle.gql_parser.specs.Parsers.{given}
@@ -8,12 +9,12 @@ use Rattle.gql_parser.proofs.parser.Parser.parse_type.Goals as goal
 
 pub type_of_parse-requires-clause-complete : goal.type_of_parse-requires-clause-complete
 type_of_parse-requires-clause-complete c =
-    complete c.parses_are_trees.ensures.children c.parses_are_trees.ensures.kind c.sentences_are_complete.ensures.ty c.read_type.new.self
+    complete c.sentences_are_complete.ensures.ty c.read_type.new.self
     (given c.next_file-file_id.result c.args.path.now c.args.source_text.now) c.in_ok-parsed.parsed c.in_ok-parsed.ensures.judged
 
 pub returns-clause-left : goal.returns-clause-left
 returns-clause-left c =
-    left c.args.self.now c.read_type.new.self rule.TypeReference c.args.source_text.now c.in_ok-parsed.parsed c.in_ok-parsed.ensures.limits c.in_ok-parsed.ensures.judged
+    left c.args.self.now c.read_type.new.self rule.TypeReference c.args.source_text.now (report_of c.in_ok-parsed.parsed) c.in_ok-parsed.ensures.limits c.in_ok-parsed.ensures.judged
 
 pub returns-clause-answer : goal.returns-clause-answer
 returns-clause-answer c =

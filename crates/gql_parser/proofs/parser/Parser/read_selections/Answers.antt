@@ -1,3 +1,4 @@
+use Rattle.gql_cst.specs.Report.{report_of}
 use Rattle.gql_grammar.specs.declared.rule.Rule.TheVariants as rule
 use Rattle.gql_parser.specs.declared.parse_field_set.SelectionsRead.{SelectionsRead}
 use Rattle.gql_parser.specs.FieldSetsRead.{AreSelectionsRead, AreSelectionsOfParse}
@@ -7,7 +8,7 @@ use Rattle.gql_parser.proofs.parser.Parser.read_selections.Goals as goal
 
 pub returns-clause-left : goal.returns-clause-left
 returns-clause-left c =
-    left c.args.self.now c.read_selection_set.new.self rule.FieldSet c.args.source_text.now c.in_ok-parsed.parsed c.in_ok-parsed.ensures.limits c.in_ok-parsed.ensures.judged
+    left c.args.self.now c.read_selection_set.new.self rule.FieldSet c.args.source_text.now (report_of c.in_ok-parsed.parsed) c.in_ok-parsed.ensures.limits c.in_ok-parsed.ensures.judged
 
 pub returns-clause-read : goal.returns-clause-read
 returns-clause-read c =

@@ -1,10 +1,15 @@
 use Rattle.std.proofs.Common.{refl}
+use Rattle.gql_cst.specs.Report.{report_of}
 use Rattle.gql_grammar.specs.declared.rule.Rule.TheVariants as rule
 use Rattle.gql_parser.proofs.Judging.{judged}
+use Rattle.gql_parser.proofs.Ordered.{ordered}
 use Rattle.gql_parser.proofs.parser.Parser.read_type.Goals as goal
 
 pub returns-clause-judged : goal.returns-clause-judged
 returns-clause-judged c =
     let parsed = c.in_ok-parsed.parsed in
-    judged c.parses_are_trees.ensures.children (record { limits = c.self.inside.limits; recursion_reached = parsed.recursion_reached; tokens_reached = parsed.tokens_reached })
-    rule.TypeReference c.args.text.now parsed refl (record { parse = c.in_ok-parsed.ensures.parse; recursion_reached = refl; tokens_reached = refl }) c.in_ok-parsed.ensures.accepts
+    judged (record { limits = c.self.inside.limits; recursion_reached = parsed.recursion_reached; tokens_reached = parsed.tokens_reached }) rule.TypeReference c.args.text.now
+    (report_of parsed) refl (record { parse = c.in_ok-parsed.ensures.parse; recursion_reached = refl; tokens_reached = refl }) c.in_ok-parsed.ensures.accepts
+
+pub returns-clause-ordered : goal.returns-clause-ordered
+returns-clause-ordered c = ordered rule.TypeReference c.args.text.now c.self.inside.limits (report_of c.in_ok-parsed.parsed) c.in_ok-parsed.ensures.parse
