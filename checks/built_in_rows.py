@@ -27,7 +27,7 @@ HEAD_OF_ROWS = """//! The rows of the types and the directives that are built in
 
 use crate::built_in_row::DefinitionRow::{Enum, Object, Scalar};
 use crate::built_in_row::{DefinitionRow, DirectiveRow, EnumRow, ObjectRow, Place, Run, ScalarRow};
-use gql_ast_definitions::DirectiveLocation;
+use gql_ast::DirectiveLocation;
 """
 
 HEAD_OF_FIELDS = """//! The rows of the fields and the arguments of built-in definitions: where in their text each part of them stands.

@@ -6,7 +6,7 @@ from shared.sources import crates, files_of, functions_of, shown
 MOST_LINES = 40
 MOST_FUNCTIONS = 120
 # In this one each of some fifty kinds of nodes has functions of its own, most of them of one to three lines.
-MOST_IN = {"gql_ast_parts": 220}
+MOST_IN = {"gql_ast_reader": 220}
 LINES_AN_ARM = 4
 SAYS_NOTHING = {"keep", "behind", "settle", "set", "note", "given", "form"}
 

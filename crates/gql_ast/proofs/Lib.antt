@@ -1,3 +1,5 @@
+pub mod Selected
+pub mod Variants
 pub mod Texts
 mod Choices
 mod Words

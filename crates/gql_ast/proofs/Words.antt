@@ -9,8 +9,8 @@ use Rattle.gql_cst.specs.Forest.{Plain}
 use Rattle.gql_grammar.specs.declared.syntax_kind.SyntaxKind.TheVariants as kind
 use Rattle.gql_ast_base.specs.Kinds.{is_kind}
 use Rattle.gql_ast_base.specs.Parts.{Text, or_else, nth_text, is_word}
-use Rattle.gql_ast_definitions.specs.Extensions.{extends, schema_extension_of, scalar_extension_of, object_extension_of, interface_extension_of}
-use Rattle.gql_ast_definitions.specs.Extensions.{union_extension_of, enum_extension_of, input_object_extension_of}
+use Rattle.gql_ast.specs.Extensions.{extends, schema_extension_of, scalar_extension_of, object_extension_of, interface_extension_of}
+use Rattle.gql_ast.specs.Extensions.{union_extension_of, enum_extension_of, input_object_extension_of}
 use Rattle.gql_ast.specs.declared.definition.Definition.{Definition}
 use Rattle.gql_ast.specs.declared.definition.Definition.TheVariants as definition
 use Rattle.gql_ast.specs.Documents.{extension_of}

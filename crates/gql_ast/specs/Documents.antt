@@ -9,11 +9,11 @@ use Rattle.gql_grammar.specs.declared.syntax_kind.SyntaxKind.TheVariants as kind
 use Rattle.gql_ast.specs.declared.definition.Definition.{Definition}
 use Rattle.gql_ast.specs.declared.definition.Definition.TheVariants as definition
 use Rattle.gql_ast_base.specs.Kinds.{is_kind}
-use Rattle.gql_ast_definitions.specs.Definitions.{scalar_of, object_of, interface_of, union_of, enum_of, input_object_of}
-use Rattle.gql_ast_definitions.specs.Extensions.{schema_extension_of, scalar_extension_of, object_extension_of, interface_extension_of}
-use Rattle.gql_ast_definitions.specs.Extensions.{union_extension_of, enum_extension_of, input_object_extension_of}
-use Rattle.gql_ast_definitions.specs.Operations.{operation_of, fragment_of}
-use Rattle.gql_ast_definitions.specs.Schemas.{directive_definition_of, schema_of}
+use Rattle.gql_ast.specs.Definitions.{scalar_of, object_of, interface_of, union_of, enum_of, input_object_of}
+use Rattle.gql_ast.specs.Extensions.{schema_extension_of, scalar_extension_of, object_extension_of, interface_extension_of}
+use Rattle.gql_ast.specs.Extensions.{union_extension_of, enum_extension_of, input_object_extension_of}
+use Rattle.gql_ast.specs.Operations.{operation_of, fragment_of}
+use Rattle.gql_ast.specs.Schemas.{directive_definition_of, schema_of}
 use Rattle.gql_ast_base.specs.Parts.{Text, or_else, gather, first}
 
 -- the text of the file with the number

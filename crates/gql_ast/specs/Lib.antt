@@ -1,3 +1,9 @@
+pub mod Selections
+pub mod Operations
+pub mod Fields
+pub mod Definitions
+pub mod Schemas
+pub mod Extensions
 pub mod Pieces
 pub mod TypeText
 pub mod ValueText

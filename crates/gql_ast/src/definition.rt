@@ -5,14 +5,14 @@ ghost use Rattle.gql_cst.specs.Forest.{plain, forest};
 ghost use Rattle.gql_ast_base.specs.Parts as parts;
 ghost use Rattle.gql_ast.specs.Documents as spec;
 
-use gql_ast_base::{Convert, Copying, Source, is_of, nth_text};
-use gql_ast_definitions::{
+use crate::{
     DirectiveDefinition, EnumTypeDefinition, EnumTypeExtension, FragmentDefinition,
     InputObjectTypeDefinition, InputObjectTypeExtension, InterfaceTypeDefinition,
     InterfaceTypeExtension, ObjectTypeDefinition, ObjectTypeExtension, OperationDefinition,
     ScalarTypeDefinition, ScalarTypeExtension, SchemaDefinition, SchemaExtension,
     UnionTypeDefinition, UnionTypeExtension,
 };
+use gql_ast_base::{Convert, Copying, Source, is_of, nth_text};
 use gql_cst::{SyntaxKind, Tree};
 use jb_text::Memory;
 use std::alloc::Global;

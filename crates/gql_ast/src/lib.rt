@@ -13,23 +13,35 @@
 
 mod definition;
 mod document;
+mod extension;
+mod field_definition;
+mod operation;
+mod schema_definition;
+mod selection;
+mod type_definition;
 mod type_text;
 mod value_text;
 
 pub use definition::Definition;
 pub use document::Document;
+pub use extension::{
+    EnumTypeExtension, InputObjectTypeExtension, InterfaceTypeExtension, ObjectTypeExtension,
+    ScalarTypeExtension, SchemaExtension, UnionTypeExtension,
+};
+pub use field_definition::{EnumValueDefinition, FieldDefinition, InputValueDefinition};
 pub use gql_ast_base::{
     Argument, Boxed, Convert, Copying, Directive, Name, NameFault, OperationType, Source, TypeRef,
     Value, ValueKind,
 };
-pub use gql_ast_definitions::{
-    DirectiveDefinition, DirectiveLocation, EnumTypeDefinition, EnumTypeExtension,
-    EnumValueDefinition, Field, FieldDefinition, FragmentDefinition, FragmentSpread,
-    InlineFragment, InputObjectTypeDefinition, InputObjectTypeExtension, InputValueDefinition,
-    InterfaceTypeDefinition, InterfaceTypeExtension, ObjectTypeDefinition, ObjectTypeExtension,
-    OperationDefinition, ScalarTypeDefinition, ScalarTypeExtension, SchemaDefinition,
-    SchemaExtension, Selection, UnionTypeDefinition, UnionTypeExtension, VariableDefinition,
-};
 pub use jb_text::Memory;
+pub use operation::{FragmentDefinition, OperationDefinition, VariableDefinition};
+pub use schema_definition::{
+    DirectiveDefinition, DirectiveLocation, SchemaDefinition, location_word,
+};
+pub use selection::{Field, FragmentSpread, InlineFragment, Selection};
+pub use type_definition::{
+    EnumTypeDefinition, InputObjectTypeDefinition, InterfaceTypeDefinition, ObjectTypeDefinition,
+    ScalarTypeDefinition, UnionTypeDefinition,
+};
 pub use type_text::print_type;
 pub use value_text::print_value;

@@ -17,10 +17,10 @@ use Rattle.gql_cst.specs.Sentences.{shown}
 use Rattle.gql_ast_base.specs.Kinds.{is_kind}
 use Rattle.gql_ast_base.specs.Parts.{Text, gather, first as first_of, child, inside, nth_name}
 use Rattle.gql_ast_base.specs.NamedTypes.{named_type_in}
-use Rattle.gql_ast_definitions.specs.Operations.{operation_of, fragment_of}
-use Rattle.gql_ast_definitions.specs.Selections.{type_condition}
-use Rattle.gql_ast_definitions.specs.Definitions.{scalar_of, object_of, interface_of, union_of, enum_of, input_object_of}
-use Rattle.gql_ast_definitions.specs.Schemas.{directive_definition_of, schema_of}
+use Rattle.gql_ast.specs.Operations.{operation_of, fragment_of}
+use Rattle.gql_ast.specs.Selections.{type_condition}
+use Rattle.gql_ast.specs.Definitions.{scalar_of, object_of, interface_of, union_of, enum_of, input_object_of}
+use Rattle.gql_ast.specs.Schemas.{directive_definition_of, schema_of}
 use Rattle.std.specs.Option.{option_map}
 use Rattle.gql_ast.specs.declared.definition.Definition.{Definition}
 use Rattle.gql_ast.specs.declared.definition.Definition.TheVariants as definition

@@ -4,7 +4,7 @@ use Rattle.gql_source.specs.declared.file_id.FileId.{FileId}
 use Rattle.gql_grammar.specs.declared.syntax_kind.SyntaxKind.TheVariants as kind
 use Rattle.gql_cst.specs.Forest.{Forest}
 use Rattle.gql_cst.specs.Bare.{bare, TokensEnd}
-use Rattle.gql_ast_definitions.specs.Definitions.{interfaces, members, scalar_of, object_of, interface_of, union_of, enum_of, input_object_of}
+use Rattle.gql_ast.specs.Definitions.{interfaces, members, scalar_of, object_of, interface_of, union_of, enum_of, input_object_of}
 use Rattle.gql_ast_base.specs.Parts.{Text}
 use Rattle.gql_ast_laws.proofs.Blind.{Blind, none_at, choice_at}
 use Rattle.gql_ast_laws.proofs.Inner.{gather_inside}

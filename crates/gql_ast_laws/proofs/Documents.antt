@@ -17,18 +17,18 @@ use Rattle.gql_ast.specs.declared.definition.Definition.{Definition}
 use Rattle.gql_ast.specs.declared.definition.Definition.TheVariants as definition
 use Rattle.gql_ast.specs.Documents.{executable_definition_of, schema_definition_of, type_definition_of, extension_of, choice_of, definition_of}
 use Rattle.gql_ast_base.specs.Parts.{Text, head, gather, first, child, inside, nth_name, nth_text, is_word, span, tree_start, tree_end, location}
-use Rattle.gql_ast_definitions.specs.declared.extension.InputObjectTypeExtension.{InputObjectTypeExtension}
-use Rattle.gql_ast_definitions.specs.declared.field_definition.InputValueDefinition.{InputValueDefinition}
-use Rattle.gql_ast_definitions.specs.declared.type_definition.InputObjectTypeDefinition.{InputObjectTypeDefinition}
-use Rattle.gql_ast_definitions.specs.Definitions.{scalar_of, object_of, interface_of, union_of, enum_of, input_object_of}
-use Rattle.gql_ast_definitions.specs.Extensions.{extends, schema_extension_of, scalar_extension_of, object_extension_of, interface_extension_of}
-use Rattle.gql_ast_definitions.specs.Extensions.{union_extension_of, enum_extension_of, input_object_extension_of}
-use Rattle.gql_ast_definitions.specs.Fields.{input_value_of, input_fields}
-use Rattle.gql_ast_definitions.specs.Schemas.{directive_definition_of, schema_of}
+use Rattle.gql_ast.specs.declared.extension.InputObjectTypeExtension.{InputObjectTypeExtension}
+use Rattle.gql_ast.specs.declared.field_definition.InputValueDefinition.{InputValueDefinition}
+use Rattle.gql_ast.specs.declared.type_definition.InputObjectTypeDefinition.{InputObjectTypeDefinition}
+use Rattle.gql_ast.specs.Definitions.{scalar_of, object_of, interface_of, union_of, enum_of, input_object_of}
+use Rattle.gql_ast.specs.Extensions.{extends, schema_extension_of, scalar_extension_of, object_extension_of, interface_extension_of}
+use Rattle.gql_ast.specs.Extensions.{union_extension_of, enum_extension_of, input_object_extension_of}
+use Rattle.gql_ast.specs.Fields.{input_value_of, input_fields}
+use Rattle.gql_ast.specs.Schemas.{directive_definition_of, schema_of}
 use Rattle.gql_ast_laws.specs.Meant.{IsDocumentOf}
-use Rattle.gql_ast_definitions.specs.declared.operation.OperationDefinition.{OperationDefinition}
-use Rattle.gql_ast_definitions.specs.declared.operation.VariableDefinition.{VariableDefinition}
-use Rattle.gql_ast_definitions.specs.Operations.{variable_of, variables, operation_of, fragment_of}
+use Rattle.gql_ast.specs.declared.operation.OperationDefinition.{OperationDefinition}
+use Rattle.gql_ast.specs.declared.operation.VariableDefinition.{VariableDefinition}
+use Rattle.gql_ast.specs.Operations.{variable_of, variables, operation_of, fragment_of}
 use Rattle.gql_ast_base.specs.Types.{type_of}
 use Rattle.gql_ast_laws.specs.Defaults.{IsIn, IsConstantVariable, IsConstantField, HasConstantDefaults}
 use Rattle.gql_ast_laws.proofs.Kept.{IfAny, IsKnown, all-of, head-any, or-any, map-any, map-always, then-always, gather-each, kind-any, kind-also-any, inside-allowed}

@@ -7,7 +7,7 @@ use Rattle.gql_grammar.specs.declared.syntax_kind.SyntaxKind.TheVariants as kind
 use Rattle.gql_cst.specs.Forest.{Forest, Plain}
 use Rattle.gql_cst.specs.Bare.{bare, TokensEnd}
 use Rattle.gql_ast_base.specs.Kinds.{is_kind}
-use Rattle.gql_ast_definitions.specs.Extensions.{extends, schema_extension_of, scalar_extension_of, object_extension_of, interface_extension_of, union_extension_of, enum_extension_of, input_object_extension_of}
+use Rattle.gql_ast.specs.Extensions.{extends, schema_extension_of, scalar_extension_of, object_extension_of, interface_extension_of, union_extension_of, enum_extension_of, input_object_extension_of}
 use Rattle.gql_ast_base.specs.Parts.{Text, is_word, nth_text}
 use Rattle.gql_ast_laws.proofs.Blind.{tree, EndsAt, BlindAt, Blind, none_at, choice_at}
 use Rattle.gql_ast_laws.proofs.Named.{nth_text-bare, nth_name-bare}

@@ -4,7 +4,7 @@ use Rattle.gql_source.specs.declared.file_id.FileId.{FileId}
 use Rattle.gql_grammar.specs.declared.syntax_kind.SyntaxKind.TheVariants as kind
 use Rattle.gql_cst.specs.Forest.{Forest}
 use Rattle.gql_cst.specs.Bare.{bare, TokensEnd}
-use Rattle.gql_ast_definitions.specs.Fields.{input_value_of, argument_definitions, input_fields, field_of, fields, enum_value_of, enum_values}
+use Rattle.gql_ast.specs.Fields.{input_value_of, argument_definitions, input_fields, field_of, fields, enum_value_of, enum_values}
 use Rattle.gql_ast_base.specs.Parts.{Text}
 use Rattle.gql_ast_laws.proofs.Blind.{Blind, none_at, choice_at}
 use Rattle.gql_ast_laws.proofs.Gathered.{first_blind}

@@ -10,16 +10,16 @@ use Rattle.gql_ast.specs.Documents.{executable_definition_of, schema_definition_
 use Rattle.gql_ast_base.specs.Kinds.{is_kind}
 use Rattle.gql_ast_base.specs.Parts.{Text, head, gather, first, inside, nth_name}
 use Rattle.gql_ast_base.specs.Types.{type_of}
-use Rattle.gql_ast_definitions.specs.declared.extension.InterfaceTypeExtension.{InterfaceTypeExtension}
-use Rattle.gql_ast_definitions.specs.declared.extension.ObjectTypeExtension.{ObjectTypeExtension}
-use Rattle.gql_ast_definitions.specs.declared.type_definition.InterfaceTypeDefinition.{InterfaceTypeDefinition}
-use Rattle.gql_ast_definitions.specs.declared.type_definition.ObjectTypeDefinition.{ObjectTypeDefinition}
-use Rattle.gql_ast_definitions.specs.Definitions.{scalar_of, object_of, interface_of, union_of, enum_of, input_object_of}
-use Rattle.gql_ast_definitions.specs.Extensions.{extends, schema_extension_of, scalar_extension_of, object_extension_of, interface_extension_of}
-use Rattle.gql_ast_definitions.specs.Extensions.{union_extension_of, enum_extension_of, input_object_extension_of}
-use Rattle.gql_ast_definitions.specs.Fields.{field_of, fields}
-use Rattle.gql_ast_definitions.specs.Operations.{operation_of, fragment_of}
-use Rattle.gql_ast_definitions.specs.Schemas.{directive_definition_of, schema_of}
+use Rattle.gql_ast.specs.declared.extension.InterfaceTypeExtension.{InterfaceTypeExtension}
+use Rattle.gql_ast.specs.declared.extension.ObjectTypeExtension.{ObjectTypeExtension}
+use Rattle.gql_ast.specs.declared.type_definition.InterfaceTypeDefinition.{InterfaceTypeDefinition}
+use Rattle.gql_ast.specs.declared.type_definition.ObjectTypeDefinition.{ObjectTypeDefinition}
+use Rattle.gql_ast.specs.Definitions.{scalar_of, object_of, interface_of, union_of, enum_of, input_object_of}
+use Rattle.gql_ast.specs.Extensions.{extends, schema_extension_of, scalar_extension_of, object_extension_of, interface_extension_of}
+use Rattle.gql_ast.specs.Extensions.{union_extension_of, enum_extension_of, input_object_extension_of}
+use Rattle.gql_ast.specs.Fields.{field_of, fields}
+use Rattle.gql_ast.specs.Operations.{operation_of, fragment_of}
+use Rattle.gql_ast.specs.Schemas.{directive_definition_of, schema_of}
 use Rattle.gql_ast_laws.specs.FieldsIn.{IsFieldIn, HasFieldsIn}
 use Rattle.gql_ast_laws.specs.Meant.{IsDocumentOf}
 use Rattle.gql_ast_laws.proofs.Documents.{location-in}

@@ -7,7 +7,7 @@ use Rattle.gql_cst.specs.Forest.{Forest}
 use Rattle.gql_cst.specs.Bare.{bare, TokensEnd}
 use Rattle.gql_ast_base.specs.OperationTypes.{operation_word, operation_type_of, operation_type_in}
 use Rattle.gql_ast_base.specs.Values.{default_value, value_of}
-use Rattle.gql_ast_definitions.specs.Operations.{variable_of, variables, operation_of, fragment_of}
+use Rattle.gql_ast.specs.Operations.{variable_of, variables, operation_of, fragment_of}
 use Rattle.gql_ast_base.specs.Parts.{Text, first}
 use Rattle.gql_ast_laws.proofs.Blind.{Blind, none_at, choice_at}
 use Rattle.gql_ast_laws.proofs.Gathered.{gather_blind, first_blind}

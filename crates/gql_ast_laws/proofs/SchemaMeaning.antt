@@ -9,7 +9,7 @@ use Rattle.gql_cst.specs.Leaves.{Part, word, ignored, node, part_of}
 use Rattle.gql_cst.specs.Bare.{bare_then, bare, TokensEnd}
 use Rattle.gql_ast_base.specs.Kinds.{is_kind}
 use Rattle.gql_ast_base.specs.Parts.{Text, gather, word as name_text, after_word}
-use Rattle.gql_ast_definitions.specs.Schemas.{location_word, directive_location_of, directive_locations, root_operations, schema_of, directive_definition_of}
+use Rattle.gql_ast.specs.Schemas.{location_word, directive_location_of, directive_locations, root_operations, schema_of, directive_definition_of}
 use Rattle.gql_ast_base.specs.OperationTypes.{root_operation_of}
 use Rattle.gql_ast_laws.proofs.TokenKinds.{is_word_part, token_kind}
 use Rattle.gql_ast_laws.proofs.Blind.{tree, Blind, none_at, choice_at, then_at}

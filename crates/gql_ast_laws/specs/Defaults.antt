@@ -6,8 +6,8 @@ use Rattle.gql_source.specs.declared.file_id.FileId.{FileId}
 use Rattle.gql_ast.specs.declared.definition.Definition.{Definition}
 use Rattle.gql_ast.specs.declared.definition.Definition.TheVariants.{OperationDefinition, InputObjectTypeDefinition, InputObjectTypeExtension}
 use Rattle.gql_ast_laws.specs.Constants.{is_constant_default}
-use Rattle.gql_ast_definitions.specs.declared.field_definition.InputValueDefinition.{InputValueDefinition}
-use Rattle.gql_ast_definitions.specs.declared.operation.VariableDefinition.{VariableDefinition}
+use Rattle.gql_ast.specs.declared.field_definition.InputValueDefinition.{InputValueDefinition}
+use Rattle.gql_ast.specs.declared.operation.VariableDefinition.{VariableDefinition}
 
 -- a place, if there is one, that is in the file
 abbrev pub IsIn : FileId → Option Span → Type 0

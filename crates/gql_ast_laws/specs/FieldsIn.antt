@@ -3,7 +3,7 @@ use Rattle.std.specs.List.{All}
 use Rattle.gql_source.specs.declared.file_id.FileId.{FileId}
 use Rattle.gql_ast.specs.declared.definition.Definition.{Definition}
 use Rattle.gql_ast.specs.declared.definition.Definition.TheVariants as definition
-use Rattle.gql_ast_definitions.specs.declared.field_definition.FieldDefinition.{FieldDefinition}
+use Rattle.gql_ast.specs.declared.field_definition.FieldDefinition.{FieldDefinition}
 use Rattle.gql_ast_laws.specs.Defaults.{IsIn}
 
 abbrev pub IsFieldIn : FileId → FieldDefinition → Type 0

@@ -6,10 +6,10 @@ use Rattle.gql_grammar.specs.declared.syntax_kind.SyntaxKind.TheVariants as kind
 use Rattle.gql_cst.specs.Forest.{Forest}
 use Rattle.gql_cst.specs.TreeOf.{IsTreeOf}
 use Rattle.gql_ast.specs.declared.definition.Definition.{Definition}
-use Rattle.gql_ast_definitions.specs.declared.selection.Selection.{Selection}
+use Rattle.gql_ast.specs.declared.selection.Selection.{Selection}
 use Rattle.gql_ast_base.specs.declared.type_ref.TypeRef.{TypeRef}
 use Rattle.gql_ast.specs.Documents.{definitions}
-use Rattle.gql_ast_definitions.specs.Selections.{selections, selected}
+use Rattle.gql_ast.specs.Selections.{selections, selected}
 use Rattle.gql_ast_base.specs.Types.{type_of}
 
 -- the text is a document with these definitions

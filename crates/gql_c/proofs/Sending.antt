@@ -7,8 +7,8 @@ use Rattle.gql_engine.specs.contracts.service.Service as service
 use Rattle.gql_engine.specs.contracts.service.Service.TheInside as service_parts
 use Rattle.gql_rules_nodes.proofs.possible_types.PossibleTypes.TheSendSync as possible
 use Rattle.gql_schema_types.proofs.valid.Valid.TheSendSync as valid
-use Rattle.gql_sending.proofs.Documents.{document_send, document_sync}
-use Rattle.gql_sending.proofs.Schemas.{schema_send, schema_sync}
+use Rattle.gql_c.proofs.Documents.{document_send, document_sync}
+use Rattle.gql_c.proofs.Schemas.{schema_send, schema_sync}
 use Rattle.jb_map.proofs.pairs.Pairs.TheSendSync as pairs
 use Rattle.jb_text.proofs.byte_string.ByteString.TheSendSync as byte_string
 use Rattle.jb_text.proofs.listed.Listed.TheSendSync as listed

@@ -4,7 +4,7 @@ use Rattle.std.specs.Prelude.{◌≡◌, ◌≤◌, ◌<◌, ℕ, List, [], ◌�
 use Rattle.std.specs.Arc.{arc_value}
 use Rattle.gql_cost.specs.Told.{IsLimitedTold}
 use Rattle.gql_cost.specs.declared.limited_error.LimitedError.TheVariants as limited
-use Rattle.gql_cost_bound.specs.Sum.{cost}
+use Rattle.gql_cost.specs.Sum.{cost}
 use Rattle.gql_document_types.specs.ChosenOperation.{chosen, refusal, why_none}
 use Rattle.gql_document_types.specs.declared.document.ExecutableDocument.{ExecutableDocument}
 use Rattle.gql_document_types.specs.declared.operation.Operation.{Operation}

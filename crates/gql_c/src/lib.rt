@@ -29,6 +29,7 @@ mod query_new;
 mod reply;
 mod request;
 mod schema_new;
+pub mod sending_laws;
 mod share;
 mod status;
 mod step;

@@ -2,7 +2,7 @@
 
 ghost use Rattle.std.specs.Prelude.{◌≡◌, ◌≤◌, ◌<◌, IfErr, IfOk, OnOk, option_map};
 ghost use Rattle.gql_c.specs.Costs.{Costs, CostsIn, CostsNamed, IsCost, IsCostTold, IsErrorTold, IsNotChosen, IsTooCostlyTold, TellsCost, cost_in, number_of};
-ghost use Rattle.gql_cost_bound.specs.Refusal.{IsTooCostly};
+ghost use Rattle.gql_cost.specs.Refusal.{IsTooCostly};
 ghost use Rattle.gql_document_types.specs.ChosenOperation.{text_of};
 ghost use Rattle.gql_document_types.specs.Spreads.{AreAcyclic};
 

@@ -8,7 +8,7 @@ use Rattle.gql_engine.specs.ToldLine.{IsRefusalLine}
 use Rattle.gql_engine.specs.declared.answer_error.AnswerError.{AnswerError}
 use Rattle.gql_engine.specs.declared.answer_error.AnswerError.TheVariants as error
 use Rattle.gql_engine.specs.declared.output.Output.{Output}
-use Rattle.gql_request.specs.Request.{Asked}
+use Rattle.gql_engine.specs.Request.{Asked}
 use Rattle.gql_response_check.specs.declared.verdict.Verdict.{Verdict}
 use Rattle.gql_response_check.specs.declared.verdict.Verdict.TheVariants.{Explained, NotResponse, FalseError, BadValue}
 use Rattle.gql_checker.specs.Command.{Answers, Refuses, other, unready}

@@ -1,6 +1,6 @@
 -- Where a response is explained, it has no other verdict: what is wanted is ready in one way.
 use Rattle.std.proofs.Common.{◌≡◌, ℕ, Bool, true, false, List, Some, Result, Ok, Err, refl, sym, ap, ◌∙◌, subst}
-use Rattle.gql_check_laws.specs.Judgement.{IsJudgementOn, Judgement, bad_value, false_error, is_explained}
+use Rattle.gql_checker_laws.specs.Judgement.{IsJudgementOn, Judgement, bad_value, false_error, is_explained}
 use Rattle.gql_document_types.specs.declared.document.ExecutableDocument.{ExecutableDocument}
 use Rattle.gql_document_types.specs.declared.operation.Operation.{Operation}
 use Rattle.gql_document_types.specs.declared.selection.Selection.{Selection}
@@ -8,8 +8,8 @@ use Rattle.gql_engine.specs.Ready.{Ready}
 use Rattle.gql_engine.specs.Wanted.{Members, Wanted}
 use Rattle.gql_exec.specs.Thing.{of_user, type_of_thing}
 use Rattle.gql_exec.specs.ThingMeaning.{Resolving, thing_meaning}
-use Rattle.gql_exec_fields.specs.Executing.{request_by}
-use Rattle.gql_exec_fields.specs.Request.{Request}
+use Rattle.gql_exec.specs.Executing.{request_by}
+use Rattle.gql_exec.specs.Request.{Request}
 use Rattle.gql_response.specs.Reading.{response_read}
 use Rattle.gql_response.specs.declared.execution_response.ExecutionResponse.{ExecutionResponse}
 use Rattle.gql_response.specs.declared.fault.ResponseFault.{ResponseFault}

@@ -1,12 +1,12 @@
 -- What the engine answers, as it is read back, is explained; or it is too deep to be read.
 use Rattle.std.proofs.Common.{◌≡◌, ℕ, zero, suc, Bool, true, false, List, [], ◌∷◌, Result, Ok, Err, refl, sym, ap, ◌∙◌, subst}
 use Rattle.std.specs.List.{AllByRecursion}
-use Rattle.jb_level_laws.specs.Levels.{is_deep_at}
+use Rattle.jb_io.specs.Levels.{is_deep_at}
 use Rattle.jb_print.specs.Compact.{compact}
 use Rattle.jb_read.specs.Texts.{text_value}
 use Rattle.jb_read.specs.declared.fault.ReadFault.{ReadFault}
 use Rattle.jb_tree.specs.declared.value.Value.{Value}
-use Rattle.gql_check_laws.specs.Judgement.{is_explained}
+use Rattle.gql_checker_laws.specs.Judgement.{is_explained}
 use Rattle.gql_document_types.specs.declared.document.ExecutableDocument.{ExecutableDocument}
 use Rattle.gql_document_types.specs.declared.operation.Operation.{Operation}
 use Rattle.gql_document_types.specs.declared.selection.Selection.{Selection}
@@ -14,10 +14,10 @@ use Rattle.gql_engine.specs.Answered.{IsExecutionOf, IsFullyExplainedBy}
 use Rattle.gql_engine.specs.Wanted.{Members}
 use Rattle.gql_exec.specs.Thing.{of_user, type_of_thing}
 use Rattle.gql_exec.specs.ThingMeaning.{Resolving, thing_meaning}
-use Rattle.gql_exec_fields.specs.Executing.{request_by}
-use Rattle.gql_exec_fields.specs.NeverSkips.{IsFullyExplained}
-use Rattle.gql_exec_fields.specs.Request.{Request}
-use Rattle.gql_exec_fields.specs.RequestWorld.{plain_world}
+use Rattle.gql_exec.specs.Executing.{request_by}
+use Rattle.gql_exec.specs.NeverSkips.{IsFullyExplained}
+use Rattle.gql_exec.specs.Request.{Request}
+use Rattle.gql_exec.specs.RequestWorld.{plain_world}
 use Rattle.gql_resolvers.specs.World.{World}
 use Rattle.gql_response.specs.Held.{unplaced}
 use Rattle.gql_response.specs.Reading.{response_of, response_read}
@@ -29,9 +29,9 @@ use Rattle.gql_response_check.specs.Verdict.{IsVerdictBy, IsVerdictOf, IsVerdict
 use Rattle.gql_response_check.specs.declared.verdict.Verdict.TheVariants.{Explained, NotResponse}
 use Rattle.gql_schema_types.specs.declared.schema.Schema.{Schema}
 use Rattle.gql_schema_types.specs.declared.types.ObjectType.{ObjectType}
-use Rattle.gql_verdict.specs.Tells.{AreExplained, Tells}
-use Rattle.gql_verdict.specs.Verdict.{IsFirstFalse}
-use Rattle.gql_verdict.proofs.Monotone.{read-explained}
+use Rattle.gql_checker_laws.specs.Tells.{AreExplained, Tells}
+use Rattle.gql_checker_laws.specs.Verdict.{IsFirstFalse}
+use Rattle.gql_checker_laws.proofs.Monotone.{read-explained}
 
 -- no error is false where all are true
 none-false : {X T G S : Type 0} (w : World X T G S) (root : T) (initial : X) (all : S) (errors : List GraphQLError) (index : ℕ)

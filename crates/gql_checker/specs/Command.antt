@@ -6,7 +6,7 @@ use Rattle.gql_engine.specs.Serving.{line}
 use Rattle.gql_engine.specs.Told.{IsToldOf}
 use Rattle.gql_engine.specs.declared.answer_error.AnswerError.{AnswerError}
 use Rattle.gql_engine.specs.declared.answer_error.AnswerError.TheVariants as error
-use Rattle.gql_request.specs.Request.{Asked}
+use Rattle.gql_engine.specs.Request.{Asked}
 use Rattle.gql_response_check.specs.declared.verdict.Verdict.{Verdict}
 use Rattle.gql_response_check.specs.declared.verdict.Verdict.TheVariants.{Explained}
 use Rattle.gql_checker.specs.Judged.{IsJudgedAs}

@@ -5,7 +5,7 @@ use Rattle.gql_engine.specs.Ready.{Ready}
 use Rattle.gql_engine.specs.Reply.{root_of, wanted_of}
 use Rattle.gql_engine.specs.Wanted.{Wanted}
 use Rattle.gql_exec.specs.ThingMeaning.{Resolving}
-use Rattle.gql_request.specs.Request.{Asked}
+use Rattle.gql_engine.specs.Request.{Asked}
 use Rattle.gql_resolvers.specs.DataMeaning.{data_meaning}
 use Rattle.gql_response.specs.Reading.{response_read}
 use Rattle.gql_response.specs.declared.execution_response.ExecutionResponse.{ExecutionResponse}

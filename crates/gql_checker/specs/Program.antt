@@ -2,9 +2,9 @@
 use Rattle.std.specs.Prelude.{ℕ, List, String, [], ◌∷◌, Option, Some, None, codes}
 use Rattle.std.specs.declared.alloc.Global.{Global}
 use Rattle.gql_engine.specs.Serving.{line}
-use Rattle.gql_request.specs.Request.{Asked}
-use Rattle.gql_request.specs.declared.request.RequestForm.{RequestForm}
-use Rattle.gql_request.specs.declared.request.RequestForm.TheVariants as forms
+use Rattle.gql_engine.specs.Request.{Asked}
+use Rattle.gql_engine.specs.declared.request_form.RequestForm.{RequestForm}
+use Rattle.gql_engine.specs.declared.request_form.RequestForm.TheVariants as forms
 use Rattle.gql_checker.specs.Command.{Answers, MustAnswer, MustRefuse, Refuses}
 use Rattle.gql_checker.specs.declared.command.CheckCommand.{CheckCommand}
 

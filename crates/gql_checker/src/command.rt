@@ -5,7 +5,7 @@ ghost use Rattle.gql_checker.specs.Judged.{IsJudgedAs};
 ghost use Rattle.gql_checker.specs.Program as spec;
 ghost use Rattle.gql_engine.specs.Reply.{wanted_of};
 ghost use Rattle.gql_engine.specs.Responding.{HasCauseOf};
-ghost use Rattle.gql_request.specs.Request.{asked_in};
+ghost use Rattle.gql_engine.specs.Request.{asked_in};
 
 use crate::checking::check_prepared;
 use crate::verdict_line::verdict_line;

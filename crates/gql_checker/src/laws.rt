@@ -2,13 +2,13 @@
 
 ghost use Rattle.std.specs.Prelude.{◌≡◌, ◌≤◌, ◌<◌, ℕ, List};
 ghost use Rattle.jb_io.specs.Proper.{IsProper, depth};
-ghost use Rattle.jb_level_laws.specs.Levels.{is_deep_at};
+ghost use Rattle.jb_io.specs.Levels.{is_deep_at};
 ghost use Rattle.jb_tree.specs.Tree.{tree};
 ghost use Rattle.gql_checker.specs.Judged.{IsJudged, response_of};
 ghost use Rattle.gql_engine.specs.Answered.{Answered};
 ghost use Rattle.gql_engine.specs.Wanted.{Wanted as WantedOf};
 ghost use Rattle.gql_exec.specs.ThingMeaning.{Resolving};
-ghost use Rattle.gql_exec_fields.specs.NeverSkips.{NeverSkips};
+ghost use Rattle.gql_exec.specs.NeverSkips.{NeverSkips};
 ghost use Rattle.gql_response.specs.Held.{IsHeld};
 ghost use Rattle.gql_response.specs.Response.{response_value};
 ghost use Rattle.gql_response.specs.declared.fault.ResponseFault.TheVariants.{Read};
@@ -17,7 +17,7 @@ ghost use Rattle.gql_response_check.specs.declared.verdict.Verdict.TheVariants a
 
 use gql_diag::laws as response_laws;
 use gql_engine::laws as engine_laws;
-use jb_level_laws::laws as level_laws;
+use jb_io::level_laws;
 
 /// A response that is explained has no other verdict (GraphQL October 2021, sections 6.4.4 and 7.1).
 pub fn explained_responses_have_one_verdict<X>()

@@ -7,9 +7,9 @@ use Rattle.gql_document_types.specs.declared.fragment.Fragment.{Fragment}
 use Rattle.gql_document_types.specs.declared.operation.Operation.{Operation}
 use Rattle.gql_exec.specs.Partial.{request_of_schema}
 use Rattle.gql_exec.specs.Thing.{Thing, of_user}
-use Rattle.gql_exec_fields.specs.Response.{IsExecuted}
-use Rattle.gql_exec_fields.specs.Request.{Request}
-use Rattle.gql_exec_fields.specs.RequestWorld.{plain_world}
+use Rattle.gql_exec.specs.Response.{IsExecuted}
+use Rattle.gql_exec.specs.Request.{Request}
+use Rattle.gql_exec.specs.RequestWorld.{plain_world}
 use Rattle.gql_resolvers.proofs.OneRun.{one_run}
 use Rattle.gql_response.specs.Response.{data_value}
 use Rattle.gql_response.specs.declared.execution_response.ExecutionResponse.{ExecutionResponse}

@@ -11,7 +11,7 @@ use Rattle.gql_document_types.specs.declared.document.ExecutableDocument.{Execut
 use Rattle.gql_document_types.specs.declared.operation.Operation.{Operation}
 use Rattle.gql_exec.specs.Partial.{request_of_schema}
 use Rattle.gql_exec.specs.Thing.{of_user}
-use Rattle.gql_exec_fields.specs.Response.{IsExecuted}
+use Rattle.gql_exec.specs.Response.{IsExecuted}
 use Rattle.gql_parser.specs.DocumentAnswers.{IsBuiltOf}
 use Rattle.gql_response.specs.Response.{data_value}
 use Rattle.gql_response.specs.declared.execution_response.ExecutionResponse.{ExecutionResponse}

@@ -3,8 +3,8 @@ use Rattle.std.specs.Prelude.{ℕ, Bool, true, false, List, [], Option, Some, No
 use Rattle.jb_tree.specs.declared.value.Value.{Value}
 use Rattle.gql_ast_base.specs.Names.{Named}
 use Rattle.gql_ast_base.specs.declared.type_ref.TypeRef.{TypeRef}
-use Rattle.gql_ast_definitions.specs.Schemas.{location_word}
-use Rattle.gql_ast_definitions.specs.declared.schema_definition.DirectiveLocation.{DirectiveLocation}
+use Rattle.gql_ast.specs.Schemas.{location_word}
+use Rattle.gql_ast.specs.declared.schema_definition.DirectiveLocation.{DirectiveLocation}
 use Rattle.gql_sdl.specs.declared.shown.Deprecation.{Deprecation}
 use Rattle.gql_sdl.specs.declared.shown.ShownDirective.{ShownDirective}
 use Rattle.gql_sdl.specs.declared.shown.ShownEnumValue.{ShownEnumValue}

@@ -1,13 +1,13 @@
 //! Where directives may stand.
 
 ghost use Rattle.std.specs.Prelude.{◌≡◌};
-ghost use Rattle.gql_ast_definitions.specs.Schemas.{location_word};
+ghost use Rattle.gql_ast.specs.Schemas.{location_word};
 ghost use Rattle.gql_client_schema.specs.Parts as spec;
 ghost use Rattle.gql_client_schema.specs.Reading.{Answers};
 
 use crate::path::{Unread, misfit};
 use crate::reading::Read;
-use gql_ast_definitions::DirectiveLocation;
+use gql_ast::DirectiveLocation;
 use jb_tree::Value;
 use std::alloc::Global;
 
@@ -32,7 +32,7 @@ fn location_of(alloc: Global, text: &str) -> Result<DirectiveLocation, Unread>
 }
 
 /// The place that a word names (GraphQL October 2021, section 3.13).
-#[tactic(auto, unfolding(gql_ast_definitions::specs::Schemas::location_word))]
+#[tactic(auto, unfolding(gql_ast::specs::Schemas::location_word))]
 fn location_named(word: &str) -> Option<DirectiveLocation>
     ensures { result ≡ location_word word.now }
 {

@@ -5,7 +5,7 @@ ghost use Rattle.gql_client_schema.specs.Reading.{Answers};
 
 use crate::path::{Unread, misfit};
 use crate::reading::{Read, both, description_in, required, spared};
-use gql_ast_definitions::DirectiveLocation;
+use gql_ast::DirectiveLocation;
 use gql_sdl::ShownDirective;
 use jb_tree::{Map, Value};
 use std::alloc::Global;

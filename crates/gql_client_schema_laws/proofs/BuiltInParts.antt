@@ -5,10 +5,10 @@ use Rattle.gql_ast_base.specs.Names.{Named}
 use Rattle.gql_ast_base.specs.declared.directive.Directive.{Directive}
 use Rattle.gql_ast_base.specs.declared.value.Value.{Value}
 use Rattle.gql_ast_base.specs.declared.value.ValueKind.TheVariants as kind
-use Rattle.gql_ast_definitions.specs.declared.field_definition.EnumValueDefinition.{EnumValueDefinition}
-use Rattle.gql_ast_definitions.specs.declared.field_definition.FieldDefinition.{FieldDefinition}
-use Rattle.gql_ast_definitions.specs.declared.field_definition.InputValueDefinition.{InputValueDefinition}
-use Rattle.gql_ast_definitions.specs.declared.schema_definition.DirectiveDefinition.{DirectiveDefinition}
+use Rattle.gql_ast.specs.declared.field_definition.EnumValueDefinition.{EnumValueDefinition}
+use Rattle.gql_ast.specs.declared.field_definition.FieldDefinition.{FieldDefinition}
+use Rattle.gql_ast.specs.declared.field_definition.InputValueDefinition.{InputValueDefinition}
+use Rattle.gql_ast.specs.declared.schema_definition.DirectiveDefinition.{DirectiveDefinition}
 use Rattle.gql_client_schema_laws.specs.AsPrinted.{IsDeprecated, InputUses, FieldUses, ValueUses, HasConstantParts, HasConstantParameters}
 use Rattle.gql_client_schema_laws.specs.Parts.{said_type}
 use Rattle.gql_client_schema_laws.specs.PrintedDefinitions.{IsTypeAsPrinted, IsDirectiveAsPrinted}
@@ -22,7 +22,7 @@ use Rattle.gql_rules_values.specs.Written.{is_written}
 use Rattle.gql_schema.proofs.Known.{SoundLaw, by_rows}
 use Rattle.gql_schema.specs.BuiltInSchema.{IsBuiltIn}
 use Rattle.gql_schema.specs.Rows as rows
-use Rattle.gql_schema_alike_laws.specs.Uses.{AreUses, url_uses}
+use Rattle.gql_client_schema_laws.specs.Uses.{AreUses, url_uses}
 use Rattle.gql_schema_build.specs.Built.{built}
 use Rattle.gql_schema_build.specs.DirectiveDefinitionCollision.{directive_name}
 use Rattle.gql_schema_build.specs.declared.built_in.BuiltIn.{BuiltIn}

@@ -2,7 +2,7 @@
 use Rattle.std.proofs.Common.{◌≡◌, ℕ, true, List, None, refl, sym, ap, ◌∙◌, subst}
 use Rattle.std.specs.List.{AllByRecursion}
 use Rattle.gql_ast.specs.declared.definition.Definition.{Definition}
-use Rattle.gql_ast_definitions.specs.declared.schema_definition.DirectiveDefinition.{DirectiveDefinition}
+use Rattle.gql_ast.specs.declared.schema_definition.DirectiveDefinition.{DirectiveDefinition}
 use Rattle.gql_ast_laws.specs.Meant.{IsDocumentOf}
 use Rattle.gql_client_schema_laws.specs.Parts.{said_definition}
 use Rattle.gql_client_schema_laws.specs.Shown.{HasBuiltInNames}

@@ -12,7 +12,7 @@ use Rattle.gql_ast_laws.specs.Printed.{from_nowhere}
 use Rattle.gql_client_schema_laws.specs.Parts.{said_definition, said_type}
 use Rattle.gql_client_schema_laws.specs.Shown.{unfinished, is_own_name}
 use Rattle.gql_client_schema_laws.proofs.Lists.{apart}
-use Rattle.gql_schema_alike_laws.proofs.Lists.{all_weaker}
+use Rattle.gql_client_schema_laws.proofs.Pairs.{all_weaker}
 use Rattle.gql_client_schema_laws.proofs.OwnTypes.{not_built_in, no_own_name, built_said_name, said_name, same_built_in, said_unfinished}
 use Rattle.gql_schema_build.proofs.Whole.{extended_name}
 use Rattle.gql_schema_build.specs.Built.{built, part_faults}

@@ -11,9 +11,9 @@ use Rattle.gql_ast_laws.specs.Printed.{from_nowhere}
 use Rattle.gql_client_schema_laws.specs.Shown.{Shows}
 use Rattle.gql_client_schema_laws.proofs.LookUps.{found_alike}
 use Rattle.gql_diag_messages.specs.declared.diagnostic_data.DiagnosticData.{DiagnosticData}
-use Rattle.gql_rules_types.specs.DuplicateRootOperationType.{comes_first, second, ordered, duplicate, duplicates, duplicate_root_operation_type}
+use Rattle.gql_schema_rules_parts.specs.DuplicateRootOperationType.{comes_first, second, ordered, duplicate, duplicates, duplicate_root_operation_type}
 use Rattle.gql_rules_values.specs.Known.{is_known}
-use Rattle.gql_schema_alike_laws.proofs.Lists.{empty_left, empty_right}
+use Rattle.gql_client_schema_laws.proofs.Pairs.{empty_left, empty_right}
 use Rattle.gql_schema_types.specs.Schemas.{root_of}
 use Rattle.gql_schema_types.specs.declared.schema.Schema.{Schema}
 use Rattle.gql_schema_types.specs.declared.schema.SchemaDefinition.{SchemaDefinition}

@@ -1,3 +1,19 @@
+pub mod Pairs
+pub mod References
+mod Seconds
+mod Tops
+mod Found
+mod Subtypes
+mod ValueRules
+mod Literals
+mod Uses
+mod InputRules
+mod PartRules
+mod InterfaceRules
+mod Marks
+mod Cycles
+mod Ranks
+mod DirectiveGraph
 mod Names
 pub mod Lists
 mod Parts
@@ -19,3 +35,31 @@ mod ValidAgain
 mod StandardRows
 mod BuiltInParts
 mod PrintedAgain
+-- What each object of introspection is answered with.
+mod Forms
+mod Fits
+mod Arguments
+mod Sets
+mod Making
+mod Leaves
+mod Objects
+mod MadeReferences
+mod Spread
+mod Inputs
+mod MadeParts
+mod TypeParts
+mod TypeSets
+mod SchemaSet
+mod Lookups
+mod Answered
+-- The document.
+mod SpreadTokens
+mod Known
+mod Built
+mod Defined
+mod Document
+mod QueryGiven
+-- The types of introspection in a schema.
+mod BuiltInFields
+mod BuiltInTypes
+mod Introspecting

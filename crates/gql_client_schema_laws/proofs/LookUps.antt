@@ -9,7 +9,7 @@ use Rattle.gql_client_schema_laws.specs.Parts.{said_type}
 use Rattle.gql_client_schema_laws.specs.Shown.{Shows, finished, unfinished}
 use Rattle.gql_client_schema_laws.proofs.OwnTypes.{said_unfinished, unfinished_again}
 use Rattle.gql_introspection.specs.Deprecation.{default_reason}
-use Rattle.gql_rules_types.specs.OutputType.{is_input_object}
+use Rattle.gql_schema_rules_parts.specs.OutputType.{is_input_object}
 use Rattle.gql_rules_values.specs.Known.{is_known, is_built_in_scalar}
 use Rattle.gql_schema_types.specs.Implementers.{is_object}
 use Rattle.gql_schema_types.specs.Types.{type_called, type_name, is_composite}

@@ -15,8 +15,8 @@ use Rattle.gql_client_schema_laws.proofs.Rebuilt.{types_again, directives_again,
 use Rattle.gql_introspection.specs.Deprecation.{default_reason}
 use Rattle.gql_schema.proofs.Known.{SoundLaw}
 use Rattle.gql_schema.specs.BuiltInSchema.{IsBuiltIn}
-use Rattle.gql_schema_alike_laws.specs.Uses.{AreUses}
-use Rattle.gql_schema_alike_laws.proofs.Lists.{all_append, all_mapped, all_weaker}
+use Rattle.gql_client_schema_laws.specs.Uses.{AreUses}
+use Rattle.gql_client_schema_laws.proofs.Pairs.{all_append, all_mapped, all_weaker}
 use Rattle.gql_schema_build.specs.Build as build
 use Rattle.gql_schema_build.specs.Built.{built}
 use Rattle.gql_schema_build.specs.DirectiveDefinitionCollision.{directive_name}

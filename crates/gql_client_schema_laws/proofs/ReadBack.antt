@@ -7,9 +7,9 @@ use Rattle.std.specs.Map.{lookup}
 use Rattle.std.specs.Str.{bytes_eq}
 use Rattle.gql_ast_base.specs.Names.{Named}
 use Rattle.gql_ast_base.specs.declared.type_ref.TypeRef.{TypeRef}
-use Rattle.gql_ast_definitions.specs.Schemas.{location_word, location_name}
-use Rattle.gql_ast_definitions.specs.declared.schema_definition.DirectiveLocation.{DirectiveLocation}
-use Rattle.gql_ast_definitions.specs.declared.schema_definition.DirectiveLocation.TheVariants as location
+use Rattle.gql_ast.specs.Schemas.{location_word, location_name}
+use Rattle.gql_ast.specs.declared.schema_definition.DirectiveLocation.{DirectiveLocation}
+use Rattle.gql_ast.specs.declared.schema_definition.DirectiveLocation.TheVariants as location
 use Rattle.gql_sdl.specs.declared.shown.Deprecation.{Deprecation}
 use Rattle.gql_sdl.specs.declared.shown.ShownDirective.{ShownDirective}
 use Rattle.gql_sdl.specs.declared.shown.ShownEnumValue.{ShownEnumValue}

@@ -6,7 +6,7 @@ use Rattle.std.specs.Option.{option_map}
 use Rattle.std.specs.Str.{bytes_eq}
 use Rattle.std.proofs.lemmas.List.{map-append}
 use Rattle.gql_ast_base.specs.declared.value.Value.{Value}
-use Rattle.gql_ast_definitions.specs.declared.schema_definition.DirectiveDefinition.{DirectiveDefinition}
+use Rattle.gql_ast.specs.declared.schema_definition.DirectiveDefinition.{DirectiveDefinition}
 use Rattle.gql_ast_laws.specs.Printed.{from_nowhere}
 use Rattle.gql_introspection.specs.Deprecation.{default_in, default_reason}
 use Rattle.gql_client_schema_laws.specs.Parts.{said_definition, said_type, shown_directive}
@@ -18,7 +18,7 @@ use Rattle.gql_client_schema_laws.proofs.OwnTypes.{said_name, own_of}
 use Rattle.gql_client_schema_laws.proofs.Parts.{HasDistinctParts, all_built_distinct, all_faultless, all_said_built}
 use Rattle.gql_client_schema_laws.proofs.Roots.{texts_of, with_said, all_free as free_from, no_roots as no_texts, made, said_all, none_doubled, listed, listed_free}
 use Rattle.gql_diag_messages.specs.declared.diagnostic_data.DiagnosticData.{DiagnosticData}
-use Rattle.gql_schema_alike_laws.proofs.Lists.{empty_left, empty_right, all_mapped}
+use Rattle.gql_client_schema_laws.proofs.Pairs.{empty_left, empty_right, all_mapped}
 use Rattle.gql_schema_build.specs.Build as build
 use Rattle.gql_schema_build.specs.Built.{built, part_faults}
 use Rattle.gql_schema_build.specs.BuiltInScalarTypeRedefinition.{built_in_scalar_type_redefinitions, without_redefinitions}

@@ -8,10 +8,10 @@ use Rattle.gql_ast_base.specs.TypeParts.{named_type}
 use Rattle.gql_ast_base.specs.declared.type_ref.TypeRef.{TypeRef}
 use Rattle.gql_ast_base.specs.declared.value.Value.{Value}
 use Rattle.gql_ast_base.specs.declared.value.ValueKind.{ValueKind}
-use Rattle.gql_ast_definitions.specs.declared.field_definition.EnumValueDefinition.{EnumValueDefinition}
-use Rattle.gql_ast_definitions.specs.declared.field_definition.FieldDefinition.{FieldDefinition}
-use Rattle.gql_ast_definitions.specs.declared.field_definition.InputValueDefinition.{InputValueDefinition}
-use Rattle.gql_ast_definitions.specs.declared.schema_definition.DirectiveDefinition.{DirectiveDefinition}
+use Rattle.gql_ast.specs.declared.field_definition.EnumValueDefinition.{EnumValueDefinition}
+use Rattle.gql_ast.specs.declared.field_definition.FieldDefinition.{FieldDefinition}
+use Rattle.gql_ast.specs.declared.field_definition.InputValueDefinition.{InputValueDefinition}
+use Rattle.gql_ast.specs.declared.schema_definition.DirectiveDefinition.{DirectiveDefinition}
 use Rattle.gql_client_schema_laws.specs.AsPrinted.{reason_of, InputUses, FieldUses, ValueUses, TypeUses, DirectiveUses, UsesAsPrinted, IsConstantValue, HasConstantDefault, HasConstantArguments, HasConstantParts, HasConstantParameters, AreConstantDefaults}
 use Rattle.gql_client_schema_laws.specs.Parts.{reference, references, deprecation_in, shown_input, shown_field, shown_enum_value, shown_directive, said_type}
 use Rattle.gql_client_schema_laws.specs.Settled.{FieldsAre, InputsAre}
@@ -24,8 +24,8 @@ use Rattle.gql_print_laws.specs.Literal.{literal_of, literal_in}
 use Rattle.gql_print_laws.specs.ReadBack.{IsValueOf, StandsFor}
 use Rattle.gql_print_laws.specs.Written.{IsConstant}
 use Rattle.gql_rules_values.specs.Written.{is_written}
-use Rattle.gql_schema_alike_laws.specs.Pairs.{Paired}
-use Rattle.gql_schema_alike_laws.specs.Retold.{IsRetoldName, IsRetoldInput, IsRetoldInputField, IsRetoldField, IsRetoldValue, IsRetoldType, IsRetoldDirective, IsRetold}
+use Rattle.gql_client_schema_laws.specs.Pairs.{Paired}
+use Rattle.gql_client_schema_laws.specs.Retold.{IsRetoldName, IsRetoldInput, IsRetoldInputField, IsRetoldField, IsRetoldValue, IsRetoldType, IsRetoldDirective, IsRetold}
 use Rattle.gql_schema_types.specs.declared.schema.Schema.{Schema}
 use Rattle.gql_schema_types.specs.declared.types.ExtendedType.{ExtendedType}
 use Rattle.gql_schema_types.specs.declared.types.ExtendedType.TheVariants as type

@@ -11,14 +11,14 @@ use Rattle.gql_client_schema_laws.specs.Shown.{Shows}
 use Rattle.gql_client_schema_laws.proofs.LookUps.{found_alike}
 use Rattle.gql_diag_messages.specs.declared.diagnostic_data.DiagnosticData.{DiagnosticData}
 use Rattle.gql_diag_messages.specs.declared.rule.Rule.TheVariants as rule
-use Rattle.gql_rules_types.specs.ObjectTypes.{is_another_kind}
-use Rattle.gql_rules_types.specs.QueryRootOperationType.{query_root_operation_type}
-use Rattle.gql_rules_types.specs.RootOperationObjectType.{root_operation_object_type}
-use Rattle.gql_rules_types.specs.SchemaRules.{root_name_faults, root_faults, roots_faults}
-use Rattle.gql_rules_types.specs.UndefinedDefinition.{undefined_definition}
+use Rattle.gql_schema_rules_parts.specs.ObjectTypes.{is_another_kind}
+use Rattle.gql_schema_rules_parts.specs.QueryRootOperationType.{query_root_operation_type}
+use Rattle.gql_schema_rules_parts.specs.RootOperationObjectType.{root_operation_object_type}
+use Rattle.gql_schema_rules_parts.specs.SchemaRules.{root_name_faults, root_faults, roots_faults}
+use Rattle.gql_schema_rules_parts.specs.UndefinedDefinition.{undefined_definition}
 use Rattle.gql_rules_values.specs.Faults.{fault, name_fault, only_if}
 use Rattle.gql_rules_values.specs.Known.{is_known}
-use Rattle.gql_schema_alike_laws.proofs.Lists.{empty_left, empty_right}
+use Rattle.gql_client_schema_laws.proofs.Pairs.{empty_left, empty_right}
 use Rattle.gql_schema_types.specs.declared.schema.Schema.{Schema}
 use Rattle.gql_sdl.specs.declared.shown.ShownSchema.{ShownSchema}
 

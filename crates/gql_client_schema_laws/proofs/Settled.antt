@@ -5,9 +5,9 @@ use Rattle.std.specs.List.{AllByRecursion, list_any}
 use Rattle.std.specs.Str.{bytes_eq}
 use Rattle.gql_ast_base.specs.TypeParts.{named_type}
 use Rattle.gql_ast_base.specs.declared.value.Value.{Value}
-use Rattle.gql_ast_definitions.specs.declared.field_definition.FieldDefinition.{FieldDefinition}
-use Rattle.gql_ast_definitions.specs.declared.field_definition.InputValueDefinition.{InputValueDefinition}
-use Rattle.gql_ast_definitions.specs.declared.schema_definition.DirectiveDefinition.{DirectiveDefinition}
+use Rattle.gql_ast.specs.declared.field_definition.FieldDefinition.{FieldDefinition}
+use Rattle.gql_ast.specs.declared.field_definition.InputValueDefinition.{InputValueDefinition}
+use Rattle.gql_ast.specs.declared.schema_definition.DirectiveDefinition.{DirectiveDefinition}
 use Rattle.gql_client_schema_laws.specs.Parts.{shown_input, shown_field, shown_directive, said_type}
 use Rattle.gql_client_schema_laws.specs.Settled as shown
 use Rattle.gql_client_schema_laws.specs.Settled.{PartsAre, FieldsAre, InputsAre, IsInPlace, IsDirectiveInPlace, IsPlaced, settled, left, all_left, others}
@@ -15,7 +15,7 @@ use Rattle.gql_client_schema_laws.specs.Shown.{Shows, unfinished, all_finished}
 use Rattle.gql_client_schema_laws.proofs.LookUps.{its_name, all_unfinished}
 use Rattle.gql_introspection.specs.Deprecation.{default_reason}
 use Rattle.gql_rules_values.specs.Written.{is_written}
-use Rattle.gql_schema_alike_laws.proofs.References.{name_unplaced}
+use Rattle.gql_client_schema_laws.proofs.References.{name_unplaced}
 use Rattle.gql_schema_rules.specs.Scalars.{names, field_names, type_names, directive_names, is_named, built_in_scalars, new_scalar, with_missing, unless_unused, validated_types, validated}
 use Rattle.gql_schema_types.specs.Entries.{is_called, without}
 use Rattle.gql_schema_types.specs.Types.{type_name, type_called}

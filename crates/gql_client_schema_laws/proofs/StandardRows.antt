@@ -4,13 +4,13 @@ use Rattle.gql_ast_base.specs.Names.{Named}
 use Rattle.gql_ast_base.specs.Types.{non_null}
 use Rattle.gql_ast_base.specs.declared.type_ref.TypeRef.{TypeRef, the_lemmas}
 use Rattle.gql_ast_base.specs.declared.type_ref.TypeRef.TheVariants as ref
-use Rattle.gql_ast_definitions.specs.declared.schema_definition.DirectiveDefinition.{DirectiveDefinition}
+use Rattle.gql_ast.specs.declared.schema_definition.DirectiveDefinition.{DirectiveDefinition}
 use Rattle.gql_ast_laws.specs.Printed.{from_nowhere, unplaced}
 use Rattle.gql_client_schema_laws.proofs.BuiltIns.{OneDocument, same_directives, same_types}
 use Rattle.gql_schema.proofs.Known.{SoundLaw, by_rows}
 use Rattle.gql_schema.specs.BuiltInSchema.{IsBuiltIn}
 use Rattle.gql_schema.specs.Rows as rows
-use Rattle.gql_schema_alike_laws.specs.Standard.{IsStandard}
+use Rattle.gql_client_schema_laws.specs.Standard.{IsStandard}
 use Rattle.gql_schema_build.specs.Built.{built}
 use Rattle.gql_schema_build.specs.DirectiveDefinitionCollision.{directive_name}
 use Rattle.gql_schema_build.specs.declared.built_in.BuiltIn.{BuiltIn}

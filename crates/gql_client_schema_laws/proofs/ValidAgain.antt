@@ -1,6 +1,6 @@
 -- Where no rule finds a fault in a schema, none finds one in another of which the same is shown.
 use Rattle.std.proofs.Common.{◌≡◌, List, [], ◌++◌, sym, ap, ◌∙◌}
-use Rattle.gql_ast_definitions.specs.declared.schema_definition.DirectiveLocation.TheVariants as at
+use Rattle.gql_ast.specs.declared.schema_definition.DirectiveLocation.TheVariants as at
 use Rattle.gql_client_schema_laws.specs.AsPrinted.{UsesAsPrinted, AreConstantDefaults}
 use Rattle.gql_client_schema_laws.specs.Shown.{Shows}
 use Rattle.gql_client_schema_laws.specs.Throughout.{IsPlacedThroughout}
@@ -8,16 +8,16 @@ use Rattle.gql_client_schema_laws.proofs.Duplicates.{none_doubled_again}
 use Rattle.gql_client_schema_laws.proofs.Retold.{ReadsLaw, AloneLaw, retold}
 use Rattle.gql_client_schema_laws.proofs.RootRules.{has_query, roots_right}
 use Rattle.gql_diag_messages.specs.declared.diagnostic_data.DiagnosticData.{DiagnosticData}
-use Rattle.gql_rules_types.specs.DuplicateRootOperationType.{duplicate_root_operation_type}
-use Rattle.gql_rules_types.specs.InterfaceRules.{interfaces_faults}
-use Rattle.gql_rules_types.specs.QueryRootOperationType.{query_root_operation_type}
-use Rattle.gql_rules_types.specs.SchemaRules.{roots_faults, schema_definition_faults, directive_definitions_faults}
-use Rattle.gql_rules_types.specs.TypeRules.{types_faults}
+use Rattle.gql_schema_rules_parts.specs.DuplicateRootOperationType.{duplicate_root_operation_type}
+use Rattle.gql_schema_rules_parts.specs.InterfaceRules.{interfaces_faults}
+use Rattle.gql_schema_rules_parts.specs.QueryRootOperationType.{query_root_operation_type}
+use Rattle.gql_schema_rules_parts.specs.SchemaRules.{roots_faults, schema_definition_faults, directive_definitions_faults}
+use Rattle.gql_schema_rules_parts.specs.TypeRules.{types_faults}
 use Rattle.gql_rules_values.specs.Directives.{directive_faults}
 use Rattle.gql_rules_values.specs.declared.known.Defined.TheVariants.{TypesAndScalars}
-use Rattle.gql_schema_alike_laws.proofs.Lists.{empty_left, empty_right}
-use Rattle.gql_schema_alike_laws.specs.Retold.{IsRetold}
-use Rattle.gql_schema_alike_laws.specs.Standard.{HasStandard}
+use Rattle.gql_client_schema_laws.proofs.Pairs.{empty_left, empty_right}
+use Rattle.gql_client_schema_laws.specs.Retold.{IsRetold}
+use Rattle.gql_client_schema_laws.specs.Standard.{HasStandard}
 use Rattle.gql_schema_rules.specs.RecursiveDirectiveDefinition.{AreRecursiveDirectives}
 use Rattle.gql_schema_rules.specs.RecursiveInputObjectDefinition.{AreRecursiveInputObjects}
 use Rattle.gql_schema_rules.specs.RecursiveInterfaceDefinition.{AreRecursiveInterfaces}

@@ -1,8 +1,8 @@
 -- Types of two schemas that rules find alike: by name, and by kind.
 use Rattle.std.specs.Prelude.{◌≡◌, ℕ, Bool, false, List}
 use Rattle.std.specs.Option.{option_map_or}
-use Rattle.gql_rules_types.specs.ObjectTypes.{is_another_kind}
-use Rattle.gql_rules_types.specs.OutputType.{is_input_object}
+use Rattle.gql_schema_rules_parts.specs.ObjectTypes.{is_another_kind}
+use Rattle.gql_schema_rules_parts.specs.OutputType.{is_input_object}
 use Rattle.gql_rules_values.specs.Known.{is_known}
 use Rattle.gql_schema_types.specs.Types.{type_called, is_composite}
 use Rattle.gql_schema_types.specs.declared.types.ExtendedType.{ExtendedType}

@@ -4,15 +4,15 @@ use Rattle.std.specs.List.{AllByRecursion}
 use Rattle.std.specs.Option.{option_map}
 use Rattle.gql_ast_base.specs.declared.directive.Directive.{Directive}
 use Rattle.gql_ast_base.specs.declared.value.Value.{Value}
-use Rattle.gql_ast_definitions.specs.declared.field_definition.EnumValueDefinition.{EnumValueDefinition}
-use Rattle.gql_ast_definitions.specs.declared.field_definition.FieldDefinition.{FieldDefinition}
-use Rattle.gql_ast_definitions.specs.declared.field_definition.InputValueDefinition.{InputValueDefinition}
-use Rattle.gql_ast_definitions.specs.declared.schema_definition.DirectiveDefinition.{DirectiveDefinition}
+use Rattle.gql_ast.specs.declared.field_definition.EnumValueDefinition.{EnumValueDefinition}
+use Rattle.gql_ast.specs.declared.field_definition.FieldDefinition.{FieldDefinition}
+use Rattle.gql_ast.specs.declared.field_definition.InputValueDefinition.{InputValueDefinition}
+use Rattle.gql_ast.specs.declared.schema_definition.DirectiveDefinition.{DirectiveDefinition}
 use Rattle.gql_client_schema_laws.specs.Parts.{deprecation_in, says_one_of}
 use Rattle.gql_introspection.specs.Deprecation.{default_reason, specified_by}
 use Rattle.gql_print_laws.specs.Literal.{literal_in}
 use Rattle.gql_print_laws.specs.Written.{IsConstant}
-use Rattle.gql_schema_alike_laws.specs.Uses.{AreUses, deprecation_uses, url_uses, one_of_uses}
+use Rattle.gql_client_schema_laws.specs.Uses.{AreUses, deprecation_uses, url_uses, one_of_uses}
 use Rattle.gql_schema_types.specs.declared.schema.Schema.{Schema}
 use Rattle.gql_schema_types.specs.declared.types.ExtendedType.{ExtendedType}
 use Rattle.gql_schema_types.specs.declared.types.ExtendedType.TheVariants as type

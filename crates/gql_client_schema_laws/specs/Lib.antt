@@ -1,3 +1,7 @@
+pub mod Pairs
+pub mod Uses
+pub mod Retold
+pub mod Standard
 pub mod Parts
 pub mod Shown
 pub mod Alike
@@ -8,3 +12,11 @@ pub mod Proper
 pub mod Throughout
 pub mod AsPrinted
 pub mod PrintedDefinitions
+pub mod Asked
+pub mod FullQuery
+pub mod Selected
+pub mod Introspection
+pub mod Whole
+pub mod Built
+pub mod Data
+pub mod OwnText

@@ -3,11 +3,11 @@
 use Rattle.std.specs.Prelude.{[], Option}
 use Rattle.std.specs.List.{AllByRecursion}
 use Rattle.gql_ast_base.specs.declared.value.Value.{Value}
-use Rattle.gql_ast_definitions.specs.declared.schema_definition.DirectiveDefinition.{DirectiveDefinition}
-use Rattle.gql_ast_definitions.specs.declared.schema_definition.SchemaDefinition.{SchemaDefinition}
+use Rattle.gql_ast.specs.declared.schema_definition.DirectiveDefinition.{DirectiveDefinition}
+use Rattle.gql_ast.specs.declared.schema_definition.SchemaDefinition.{SchemaDefinition}
 use Rattle.gql_client_schema_laws.specs.AsPrinted.{TypeUses, DirectiveUses, HasConstantParts, HasConstantParameters}
 use Rattle.gql_client_schema_laws.specs.Throughout.{IsTypeThroughout, IsDirectiveThroughout}
-use Rattle.gql_schema_alike_laws.specs.Uses.{AreUses}
+use Rattle.gql_client_schema_laws.specs.Uses.{AreUses}
 use Rattle.gql_schema_build.specs.Built.{built}
 use Rattle.gql_schema_build.specs.declared.type_definition.TypeDefinition.{TypeDefinition}
 use Rattle.gql_schema_build.specs.declared.type_system.TypeSystem.{TypeSystem}

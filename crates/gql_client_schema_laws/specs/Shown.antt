@@ -11,7 +11,7 @@ use Rattle.gql_ast_base.specs.declared.operation_type.OperationType.TheVariants.
 use Rattle.gql_ast_base.specs.declared.type_ref.TypeRef.{TypeRef}
 use Rattle.gql_ast_base.specs.declared.type_ref.TypeRef.TheVariants as ref
 use Rattle.gql_ast_base.specs.declared.value.Value.{Value}
-use Rattle.gql_ast_definitions.specs.declared.schema_definition.SchemaDefinition.{SchemaDefinition}
+use Rattle.gql_ast.specs.declared.schema_definition.SchemaDefinition.{SchemaDefinition}
 use Rattle.gql_ast_laws.specs.Printed.{from_nowhere}
 use Rattle.gql_introspection.specs.Deprecation.{default_reason}
 use Rattle.gql_client_schema_laws.specs.Parts.{shown_directive, said_definition, said_type}

@@ -4,10 +4,10 @@ ghost use Rattle.std.specs.Prelude.{◌≡◌, ℕ, false, List, [], Some, codes
 ghost use Rattle.std.specs.Map.{lookup};
 ghost use Rattle.std.specs.Str.{bytes_eq};
 ghost use Rattle.gql_introspection.specs.Deprecation.{default_reason};
-ghost use Rattle.gql_ast_definitions.specs.declared.field_definition.EnumValueDefinition.{EnumValueDefinition};
-ghost use Rattle.gql_ast_definitions.specs.declared.field_definition.FieldDefinition.{FieldDefinition};
-ghost use Rattle.gql_ast_definitions.specs.declared.field_definition.InputValueDefinition.{InputValueDefinition};
-ghost use Rattle.gql_ast_definitions.specs.declared.schema_definition.DirectiveDefinition.{DirectiveDefinition};
+ghost use Rattle.gql_ast.specs.declared.field_definition.EnumValueDefinition.{EnumValueDefinition};
+ghost use Rattle.gql_ast.specs.declared.field_definition.FieldDefinition.{FieldDefinition};
+ghost use Rattle.gql_ast.specs.declared.field_definition.InputValueDefinition.{InputValueDefinition};
+ghost use Rattle.gql_ast.specs.declared.schema_definition.DirectiveDefinition.{DirectiveDefinition};
 ghost use Rattle.gql_client_schema.specs.Parts.{read_answer};
 ghost use Rattle.gql_client_schema.specs.Reading.{Gives};
 ghost use Rattle.gql_client_schema_laws.specs.Alike.{FindAlike};
@@ -20,11 +20,11 @@ ghost use Rattle.gql_client_schema_laws.specs.Settled.{IsPlaced, settled};
 ghost use Rattle.gql_client_schema_laws.specs.Shown as spec;
 ghost use Rattle.gql_client_schema_laws.specs.Throughout.{IsPlacedThroughout};
 ghost use Rattle.gql_diag_messages.specs.declared.diagnostic_data.DiagnosticData.{DiagnosticData};
-ghost use Rattle.gql_rules_types.specs.DuplicateRootOperationType.{duplicate_root_operation_type};
-ghost use Rattle.gql_rules_types.specs.QueryRootOperationType.{query_root_operation_type};
-ghost use Rattle.gql_rules_types.specs.SchemaRules.{roots_faults};
+ghost use Rattle.gql_schema_rules_parts.specs.DuplicateRootOperationType.{duplicate_root_operation_type};
+ghost use Rattle.gql_schema_rules_parts.specs.QueryRootOperationType.{query_root_operation_type};
+ghost use Rattle.gql_schema_rules_parts.specs.SchemaRules.{roots_faults};
 ghost use Rattle.gql_schema.specs.BuiltInSchema.{IsBuiltIn};
-ghost use Rattle.gql_schema_alike_laws.specs.Standard.{HasStandard};
+ghost use Rattle.gql_client_schema_laws.specs.Standard.{HasStandard};
 ghost use Rattle.gql_schema_build.specs.Build.{built, build_faults};
 ghost use Rattle.gql_schema_build.specs.declared.built_in.BuiltIn.{BuiltIn};
 ghost use Rattle.gql_schema_build.specs.declared.type_system.TypeSystem.{TypeSystem};
@@ -38,10 +38,10 @@ ghost use Rattle.gql_sdl.specs.declared.shown.ShownSchema.{ShownSchema};
 ghost use Rattle.gql_source.specs.File.{Files};
 ghost use Rattle.jb_tree.specs.declared.value.Value.{Object};
 
+use crate::alike_laws;
 use gql_ast_laws::laws as tree_laws;
 use gql_grammar::laws as grammar_laws;
 use gql_print_laws::laws as print_laws;
-use gql_schema_alike_laws::laws as alike_laws;
 
 /// Definitions that say what is shown of a schema build without a fault a schema of which the same is shown (sections 3 and 4 of
 /// GraphQL October 2021).

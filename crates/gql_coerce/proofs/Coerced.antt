@@ -7,7 +7,7 @@ use Rattle.jb_tree.specs.declared.value.Value.{Value, Null, Bool as Truth, Numbe
 use Rattle.jb_tree.specs.declared.value.Value.TheOpen.{Value-F}
 use Rattle.gql_ast_base.specs.Names.{Named}
 use Rattle.gql_ast_base.specs.declared.type_ref.TypeRef.{TypeRef}
-use Rattle.gql_ast_definitions.specs.declared.field_definition.InputValueDefinition.{InputValueDefinition}
+use Rattle.gql_ast.specs.declared.field_definition.InputValueDefinition.{InputValueDefinition}
 use Rattle.gql_schema_types.specs.declared.types.ExtendedType.{ExtendedType}
 use Rattle.gql_schema_types.specs.declared.types.InputObjectType.{InputObjectType}
 use Rattle.gql_coerce.specs.Outcome.{mapped, all_of}

@@ -4,7 +4,7 @@ use Rattle.std.specs.Str.{bytes_eq}
 use Rattle.std.specs.List.{IsDistinct}
 use Rattle.std.specs.Map.{keys_of, values_of}
 use Rattle.jb_map.proofs.Entries.{pair_at, new_at_place}
-use Rattle.gql_ast_definitions.specs.declared.field_definition.InputValueDefinition.{InputValueDefinition}
+use Rattle.gql_ast.specs.declared.field_definition.InputValueDefinition.{InputValueDefinition}
 use Rattle.gql_coerce.specs.InputTypes.{is_field}
 use Rattle.gql_coerce.specs.InputValue.{first_unknown, places}
 use Rattle.jb_text.specs.declared.refused.Refused.{Refused}

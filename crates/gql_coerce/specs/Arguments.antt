@@ -8,7 +8,7 @@ use Rattle.gql_ast_base.specs.declared.directive.Argument.{Argument}
 use Rattle.gql_ast_base.specs.declared.value.Value.{Value}
 use Rattle.gql_ast_base.specs.declared.value.ValueKind.{ValueKind, out-ValueKind}
 use Rattle.gql_ast_base.specs.declared.value.ValueKind.TheOpen.{ValueKind-F}
-use Rattle.gql_ast_definitions.specs.declared.field_definition.InputValueDefinition.{InputValueDefinition}
+use Rattle.gql_ast.specs.declared.field_definition.InputValueDefinition.{InputValueDefinition}
 use Rattle.gql_schema_types.specs.declared.types.ExtendedType.{ExtendedType}
 use Rattle.gql_coerce.specs.Outcome.{Outcome, mapped}
 use Rattle.gql_coerce.specs.Faults.{fault_at}

@@ -1,8 +1,8 @@
 -- Input types of a schema and their parts by name: sections 3.9 and 3.10 of GraphQL October 2021.
 use Rattle.std.specs.Prelude.{ℕ, Bool, Option, Some, None, List, is_some}
 use Rattle.std.specs.Option.{option_and_then}
-use Rattle.gql_ast_definitions.specs.declared.field_definition.EnumValueDefinition.{EnumValueDefinition}
-use Rattle.gql_ast_definitions.specs.declared.field_definition.InputValueDefinition.{InputValueDefinition}
+use Rattle.gql_ast.specs.declared.field_definition.EnumValueDefinition.{EnumValueDefinition}
+use Rattle.gql_ast.specs.declared.field_definition.InputValueDefinition.{InputValueDefinition}
 use Rattle.gql_schema_types.specs.Entries.{entry}
 use Rattle.gql_schema_types.specs.Types.{type_called}
 use Rattle.gql_schema_types.specs.declared.types.ExtendedType.{ExtendedType}

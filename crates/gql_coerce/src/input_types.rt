@@ -4,7 +4,7 @@ ghost use Rattle.std.specs.Prelude.{◌≡◌};
 ghost use Rattle.std.specs.Option.{option_copied};
 ghost use Rattle.gql_coerce.specs.InputTypes as spec;
 
-use gql_ast_definitions::{EnumValueDefinition, InputValueDefinition};
+use gql_ast::{EnumValueDefinition, InputValueDefinition};
 use gql_schema_types::{ExtendedType, InputObjectType, Table};
 
 /// The input object type itself, where the type is one.

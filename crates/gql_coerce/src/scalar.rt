@@ -4,7 +4,7 @@ ghost use Rattle.std.specs.Prelude.{◌≡◌};
 ghost use Rattle.gql_coerce.specs.Scalars.{number_is, is_int, is_float, is_signed, scalar_takes, enum_takes};
 
 use crate::input_types::is_enum_value;
-use gql_ast_definitions::EnumValueDefinition;
+use gql_ast::EnumValueDefinition;
 use gql_schema_types::Table;
 use jb_tree::Value;
 

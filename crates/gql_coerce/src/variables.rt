@@ -11,7 +11,7 @@ use crate::outcome::{given_value, put};
 use crate::subject::Subject;
 use crate::told::{InputCoercionError, tell_variables};
 use crate::wanted::Wanted;
-use gql_ast_definitions::VariableDefinition;
+use gql_ast::VariableDefinition;
 use gql_schema_types::{Schema, Valid};
 use jb_text::{Listed, Refused};
 use jb_tree::{Map, Map as JsonMap, Value};

@@ -3,7 +3,7 @@
 use Rattle.std.specs.Prelude.{◌≡◌, ℕ, zero, suc, List, map, Some, IfSome, Result, slice_get}
 use Rattle.std.specs.List.{AllByRecursion}
 use Rattle.std.specs.Option.{option_copied, unwrap_or}
-use Rattle.gql_ast_definitions.specs.declared.field_definition.FieldDefinition.{FieldDefinition}
+use Rattle.gql_ast.specs.declared.field_definition.FieldDefinition.{FieldDefinition}
 use Rattle.gql_coerce.specs.Arguments.{coerced_arguments}
 use Rattle.gql_coerce.specs.Filled.{Members}
 use Rattle.gql_coerce.specs.Outcome.{told_as}

@@ -6,7 +6,7 @@ ghost use Rattle.gql_collect.specs.Plan as spec;
 use crate::group::Group;
 use crate::kept_arguments::are_kept;
 use crate::planner::Planner;
-use gql_ast_definitions::FieldDefinition;
+use gql_ast::FieldDefinition;
 use gql_coerce::{ArgumentFault, coerce_arguments};
 use gql_document_types::Field;
 use gql_response::JsonMap;

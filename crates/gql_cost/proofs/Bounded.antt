@@ -8,10 +8,10 @@ use Rattle.gql_document_types.specs.declared.operation.Operation.{Operation}
 use Rattle.gql_document_types.specs.declared.selection.SelectionSet.{SelectionSet}
 use Rattle.gql_exec.specs.Thing.{of_user, type_of_thing}
 use Rattle.gql_exec.specs.ThingMeaning.{Resolving, thing_meaning}
-use Rattle.gql_exec_fields.specs.Executing.{request_by}
-use Rattle.gql_exec_fields.specs.Request.{Members, Request}
-use Rattle.gql_exec_fields.specs.RequestWorld.{plain_world}
-use Rattle.gql_exec_fields.specs.Response.{IsExecuted}
+use Rattle.gql_exec.specs.Executing.{request_by}
+use Rattle.gql_exec.specs.Request.{Members, Request}
+use Rattle.gql_exec.specs.RequestWorld.{plain_world}
+use Rattle.gql_exec.specs.Response.{IsExecuted}
 use Rattle.gql_graph.specs.Cycles.{IsOnCycle}
 use Rattle.gql_graph.specs.Graph.{Graph}
 use Rattle.gql_graph.specs.Ranks.{IsRanked}
@@ -24,16 +24,16 @@ use Rattle.gql_schema_types.specs.declared.types.ObjectType.{ObjectType}
 use Rattle.gql_engine.specs.Answered.{Answered, IsResponseBy}
 use Rattle.gql_engine.specs.Ready.{Ready}
 use Rattle.gql_engine.specs.Wanted.{Wanted}
-use Rattle.gql_cost_bound.proofs.Costs.{nodes-cost}
-use Rattle.gql_cost_bound.proofs.Evens.{set-even}
-use Rattle.gql_cost_bound.proofs.Standing.{stands-own}
-use Rattle.gql_rules_laws.specs.Covariant.{IsCovariant}
-use Rattle.gql_cost_bound.specs.HasNodes.{HasNodes}
-use Rattle.gql_rules_laws.specs.Merge.{HaveOneName, Merge, OperationsMerge}
-use Rattle.gql_cost_bound.specs.Short.{AreShort}
-use Rattle.gql_cost_bound.specs.Sum.{cost}
+use Rattle.gql_cost.proofs.Costs.{nodes-cost}
+use Rattle.gql_cost.proofs.Evens.{set-even}
+use Rattle.gql_cost.proofs.Standing.{stands-own}
+use Rattle.gql_valid_laws.specs.Covariant.{IsCovariant}
+use Rattle.gql_cost.specs.HasNodes.{HasNodes}
+use Rattle.gql_valid_laws.specs.Merge.{HaveOneName, Merge, OperationsMerge}
+use Rattle.gql_cost.specs.Short.{AreShort}
+use Rattle.gql_cost.specs.Sum.{cost}
 use Rattle.gql_cost.specs.Limited.{AnsweredWithin}
-use Rattle.gql_cost.specs.Nodes.{AreShortBy, HasDataNodes, HasNodesBy, HasShortLists, cost_of}
+use Rattle.gql_cost.specs.ReachedNodes.{AreShortBy, HasDataNodes, HasNodesBy, HasShortLists, cost_of}
 use Rattle.gql_cost.specs.declared.cost_limit.CostLimit.{CostLimit}
 use Rattle.gql_cost.proofs.Chosen.{chosen-among, holds-among}
 use Rattle.gql_cost.proofs.Exact.{one-cost}

@@ -8,9 +8,9 @@ use Rattle.gql_engine.specs.Responding.{HasCauseOf}
 use Rattle.gql_engine.specs.Wanted.{Members, Wanted}
 use Rattle.gql_engine.specs.declared.answer_error.AnswerError.{AnswerError}
 use Rattle.gql_engine.specs.declared.answer_error.AnswerError.TheVariants as error
-use Rattle.gql_cost_bound.specs.Sum.{cost}
+use Rattle.gql_cost.specs.Sum.{cost}
 use Rattle.gql_cost.specs.Limited.{HasLimitedCause, HasLimitedCauseOf, IsTooCostly, IsWithin, LimitedCause, LimitedComesFor}
-use Rattle.gql_cost.specs.Nodes.{cost_of}
+use Rattle.gql_cost.specs.ReachedNodes.{cost_of}
 use Rattle.gql_cost.specs.declared.cost_limit.CostLimit.{CostLimit}
 use Rattle.gql_cost.specs.declared.limited_error.LimitedError.{LimitedError}
 use Rattle.gql_cost.specs.declared.limited_error.LimitedError.TheVariants.{Answer, TooCostly}

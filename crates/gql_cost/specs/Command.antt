@@ -1,7 +1,7 @@
 -- What the program replies to a request.
 use Rattle.std.specs.Prelude.{◌≡◌, ◌≢◌, ℕ, List}
 use Rattle.gql_resolvers.specs.DataMeaning.{data_meaning}
-use Rattle.gql_request.specs.Request.{Asked}
+use Rattle.gql_engine.specs.Request.{Asked}
 use Rattle.gql_engine.specs.Answered.{IsAnsweredInFull}
 use Rattle.gql_engine.specs.Serving.{line}
 use Rattle.gql_engine.specs.Reply.{root_of, wanted_of}

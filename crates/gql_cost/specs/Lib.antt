@@ -1,6 +1,15 @@
+pub mod Size
+pub mod Sum
+pub mod Nodes
+pub mod Short
+pub mod HasNodes
+pub mod Even
+pub mod Walked
+pub mod Refusal
+pub mod Examples
 pub mod Words
 pub mod Costing
-pub mod Nodes
+pub mod ReachedNodes
 pub mod Limited
 pub mod Told
 pub mod Command

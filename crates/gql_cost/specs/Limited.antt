@@ -9,7 +9,7 @@ use Rattle.gql_engine.specs.Responding.{HasCauseOf}
 use Rattle.gql_engine.specs.Wanted.{Wanted}
 use Rattle.gql_engine.specs.declared.answer_error.AnswerError.{AnswerError}
 use Rattle.gql_engine.specs.declared.answer_error.AnswerError.TheVariants as error
-use Rattle.gql_cost.specs.Nodes.{HasDataNodes, HasShortLists, cost_of}
+use Rattle.gql_cost.specs.ReachedNodes.{HasDataNodes, HasShortLists, cost_of}
 use Rattle.gql_cost.specs.declared.cost_limit.CostLimit.{CostLimit}
 use Rattle.gql_cost.specs.declared.limited_error.LimitedError.{LimitedError}
 use Rattle.gql_cost.specs.declared.limited_error.LimitedError.TheVariants.{Answer, TooCostly}

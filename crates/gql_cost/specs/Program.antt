@@ -2,9 +2,9 @@
 use Rattle.std.specs.Prelude.{ℕ, List, Option, MatchOption}
 use Rattle.jb_io.specs.Sink.{Told}
 use Rattle.jb_io.specs.declared.serving.TheConstants.{ANSWERED, REFUSED}
-use Rattle.gql_request.specs.Request.{Asked}
-use Rattle.gql_request.specs.declared.request.RequestForm.{RequestForm}
-use Rattle.gql_request.specs.declared.request.RequestForm.TheVariants as forms
+use Rattle.gql_engine.specs.Request.{Asked}
+use Rattle.gql_engine.specs.declared.request_form.RequestForm.{RequestForm}
+use Rattle.gql_engine.specs.declared.request_form.RequestForm.TheVariants as forms
 use Rattle.gql_engine.specs.Serving.{AnswersBytes, IsServed, MustAnswerBytes, MustRefuseBytes, MustServe, RefusesBytes}
 use Rattle.gql_cost.specs.Command.{Answers, MustAnswer, MustRefuse, Refuses}
 use Rattle.gql_cost.specs.Words.{Asks, IsNoCommand, usage}

@@ -2,12 +2,12 @@
 
 ghost use Rattle.std.specs.Prelude.{◌≡◌, ◌≤◌, ◌+◌, IfErr, IfOk};
 ghost use Rattle.gql_cost.specs.Costing.{IsAboveLimit};
-ghost use Rattle.gql_cost_bound.specs.Sum.{cost as the_cost};
+ghost use Rattle.gql_cost.specs.Sum.{cost as the_cost};
 ghost use Rattle.gql_engine.specs.Depths.{all_selections};
 ghost use Rattle.gql_engine.specs.Phases.{IsReadyForSome};
 
+use crate::cost;
 use crate::limited_error::LimitedError;
-use gql_cost_bound::cost;
 use gql_engine::phases::ReadyOperation;
 use gql_engine::{AnswerError, Steps};
 use gql_parser::laws as text_laws;

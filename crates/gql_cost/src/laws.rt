@@ -1,12 +1,12 @@
 //! Laws of costs and responses.
 
 ghost use Rattle.std.specs.Prelude.{◌≤◌, ℕ, List};
-ghost use Rattle.gql_cost.specs.Nodes.{HasDataNodes, HasShortLists, cost_of};
+ghost use Rattle.gql_cost.specs.ReachedNodes.{HasDataNodes, HasShortLists, cost_of};
 ghost use Rattle.gql_engine.specs.Answered.{Answered};
 ghost use Rattle.gql_engine.specs.Wanted.{Wanted};
 ghost use Rattle.gql_exec.specs.ThingMeaning.{Resolving};
 
-use gql_cost_bound::laws as cost_laws;
+use crate::bound_laws as cost_laws;
 use gql_graph::laws as graph_laws;
 use gql_parser::laws as text_laws;
 

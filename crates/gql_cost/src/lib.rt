@@ -13,20 +13,26 @@
 #![tactic(auto)]
 
 mod answering;
+pub mod bound_laws;
 mod command;
 mod cost_limit;
+mod costing;
+pub mod examples;
 pub mod laws;
 mod limited_error;
 pub mod program;
 mod responding;
+mod walk;
 mod words;
 
 pub use cost_limit::CostLimit;
-pub use gql_cost_bound::{CostFault, cost};
+pub use costing::{CostFault, cost};
+pub use gql_collect::Steps;
 pub use gql_engine::phases::Wanted;
 pub use gql_engine::{
-    DataObject, Map, Prepared, Question, Refused, Service, Steps, refusal_of_diagnostics,
+    DataObject, Map, Prepared, Question, Refused, Service, refusal_of_diagnostics,
 };
 pub use jb_io::{ANSWERED, MISUSED, NO_MEMORY, REFUSED, SINK_FAILED, SOURCE_FAILED, TOO_LONG};
+pub use jb_text::Memory;
 pub use limited_error::LimitedError;
 pub use program::run_cost;

@@ -3,14 +3,14 @@
 ghost use Rattle.std.specs.Prelude.{◌≤◌, ℕ, IfErr, IfOk};
 ghost use Rattle.gql_cost.specs.Costing.{IsForMemory};
 ghost use Rattle.gql_cost.specs.Limited.{AnsweredWithin, HasLimitedCauseOf, IsUnexecuted};
-ghost use Rattle.gql_cost_bound.specs.Sum.{cost};
+ghost use Rattle.gql_cost.specs.Sum.{cost};
 ghost use Rattle.gql_engine.specs.Phases.{IsReady, IsReadyForSome};
 ghost use Rattle.gql_engine.specs.Wanted.{Wanted as WantedOf, wanted_over};
 
+use crate::bound_laws as cost_laws;
 use crate::cost_limit::CostLimit;
 use crate::limited_error::LimitedError;
 use bytes::Bytes;
-use gql_cost_bound::laws as cost_laws;
 use gql_engine::phases::{ReadyOperation, Wanted};
 use gql_engine::{AnswerError, Prepared, Steps, laws as engine_laws};
 use gql_graph::laws as graph_laws;

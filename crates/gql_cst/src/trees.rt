@@ -1,7 +1,7 @@
 //! Makes a concrete tree.
 
 ghost use Rattle.std.specs.Prelude.{◌≡◌, ℕ, ◌≤◌, ◌∷◌, ◌++◌, [], map, length, IfOk, OnOk};
-ghost use Rattle.gql_cst.specs.Forest as Forest;
+ghost use Rattle.gql_cst.specs.Forest;
 ghost use Rattle.gql_cst.specs.Forest.{plain};
 ghost use Rattle.gql_cst.specs.Machine as spec;
 ghost use Rattle.gql_cst.specs.Rowed.{gathered};

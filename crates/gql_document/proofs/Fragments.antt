@@ -2,7 +2,7 @@
 use Rattle.std.proofs.Common.{◌≡◌, ℕ, Bool, true, false, List, [], ◌∷◌, ◌++◌, fold, if◌then◌else◌}
 use Rattle.std.specs.List.{IsDistinct, AllByRecursion}
 use Rattle.std.specs.Str.{bytes_eq}
-use Rattle.gql_ast_definitions.specs.declared.operation.FragmentDefinition.{FragmentDefinition}
+use Rattle.gql_ast.specs.declared.operation.FragmentDefinition.{FragmentDefinition}
 use Rattle.gql_document_types.specs.RootFields.{fragment_name as built_name}
 use Rattle.gql_schema_types.specs.Entries.{texts, put}
 use Rattle.gql_schema_types.specs.declared.schema.Schema.{Schema}

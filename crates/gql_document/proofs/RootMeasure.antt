@@ -4,12 +4,12 @@ use Rattle.std.specs.Option.{option_map_or}
 use Rattle.std.specs.Str.{bytes_eq}
 use Rattle.std.proofs.lemmas.Slice.Eq.{bytes_eq-Decides}
 use Rattle.gql_ast_base.specs.Names.{Named}
-use Rattle.gql_ast_definitions.specs.declared.operation.FragmentDefinition.{FragmentDefinition}
-use Rattle.gql_ast_definitions.specs.declared.selection.Field.{Field}
-use Rattle.gql_ast_definitions.specs.declared.selection.FragmentSpread.{FragmentSpread}
-use Rattle.gql_ast_definitions.specs.declared.selection.InlineFragment.{InlineFragment}
-use Rattle.gql_ast_definitions.specs.declared.selection.Selection.{Selection, the_lemmas}
-use Rattle.gql_ast_definitions.specs.declared.selection.Selection.TheVariants as selection
+use Rattle.gql_ast.specs.declared.operation.FragmentDefinition.{FragmentDefinition}
+use Rattle.gql_ast.specs.declared.selection.Field.{Field}
+use Rattle.gql_ast.specs.declared.selection.FragmentSpread.{FragmentSpread}
+use Rattle.gql_ast.specs.declared.selection.InlineFragment.{InlineFragment}
+use Rattle.gql_ast.specs.declared.selection.Selection.{Selection, the_lemmas}
+use Rattle.gql_ast.specs.declared.selection.Selection.TheVariants as selection
 use Rattle.gql_schema_types.specs.Entries.{entry}
 use Rattle.gql_schema_types.specs.declared.schema.Schema.{Schema}
 use Rattle.gql_document_types.proofs.Measure.{still_found, now_found}
@@ -18,7 +18,7 @@ use Rattle.gql_document.specs.Nodes.{is_defined, is_open}
 use Rattle.gql_document.specs.OperationNameCollision.{itself, added}
 use Rattle.gql_document.specs.RootSelections.{own, total, total_inside, is_entered, body, body_of, inside_step, entered_step}
 use Rattle.gql_document.specs.RootWalk.{Walk, inside, entered_behind, with_first}
-use Rattle.gql_ast_definitions.proofs.Variants.{out-field, out-spread, out-inline, each}
+use Rattle.gql_ast.proofs.Variants.{out-field, out-spread, out-inline, each}
 
 own-field : (f : Field) → own (selection.Field f) ≡ 1
 own-field f = search (rules, the_lemmas)

@@ -3,8 +3,8 @@ use Rattle.std.proofs.Common.{arith, ◌≡◌, ℕ, zero, suc, ◌+◌, ◌<◌
 use Rattle.std.specs.Borrow.{Bor}
 use Rattle.std.proofs.lemmas.List.{reverse-append, append-nil}
 use Rattle.gql_ast_base.specs.Names.{Named}
-use Rattle.gql_ast_definitions.specs.declared.operation.FragmentDefinition.{FragmentDefinition}
-use Rattle.gql_ast_definitions.specs.declared.selection.Selection.{Selection}
+use Rattle.gql_ast.specs.declared.operation.FragmentDefinition.{FragmentDefinition}
+use Rattle.gql_ast.specs.declared.selection.Selection.{Selection}
 use Rattle.gql_schema_types.specs.declared.schema.Schema.{Schema}
 use Rattle.gql_document.specs.RootSelections.{own, total, total_inside, first_roots, root_selections}
 use Rattle.gql_document.specs.RootWalk.{Walk, lists_of, selections_of, walk_of, inside, entered_behind, with_first}

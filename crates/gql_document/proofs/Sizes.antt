@@ -1,10 +1,10 @@
 -- How large selections are, by which what is made of them comes to an end.
 use Rattle.std.proofs.Common.{ℕ, ◌+◌, List, [], ◌∷◌, map}
-use Rattle.gql_ast_definitions.specs.declared.selection.Field.{Field}
-use Rattle.gql_ast_definitions.specs.declared.selection.InlineFragment.{InlineFragment}
-use Rattle.gql_ast_definitions.specs.declared.selection.Selection.{Selection, fold-Selection}
-use Rattle.gql_ast_definitions.specs.declared.selection.Selection.TheVariants as selection
-use Rattle.gql_ast_definitions.specs.declared.selection.Selection.TheOpen.{Selection-F, Field-F, InlineFragment-F}
+use Rattle.gql_ast.specs.declared.selection.Field.{Field}
+use Rattle.gql_ast.specs.declared.selection.InlineFragment.{InlineFragment}
+use Rattle.gql_ast.specs.declared.selection.Selection.{Selection, fold-Selection}
+use Rattle.gql_ast.specs.declared.selection.Selection.TheVariants as selection
+use Rattle.gql_ast.specs.declared.selection.Selection.TheOpen.{Selection-F, Field-F, InlineFragment-F}
 
 abbrev added : List ℕ → ℕ
 added [] = 0

@@ -1,6 +1,6 @@
 -- An operation without a name is the only one: section 5.2.2.1 of GraphQL October 2021.
 use Rattle.std.specs.Prelude.{Bool, ◌&&◌, nat_lt, List, [], ◌∷◌, None, is_none, length, if◌then◌else◌}
-use Rattle.gql_ast_definitions.specs.declared.operation.OperationDefinition.{OperationDefinition}
+use Rattle.gql_ast.specs.declared.operation.OperationDefinition.{OperationDefinition}
 use Rattle.gql_diag_messages.specs.declared.rule.Rule.TheVariants.{AmbiguousAnonymousOperation}
 use Rattle.gql_diag_messages.specs.declared.diagnostic_data.DiagnosticData.{DiagnosticData}
 use Rattle.gql_document.specs.Faults.{fault}

@@ -2,7 +2,7 @@
 use Rattle.std.specs.Prelude.{List, ◌++◌}
 use Rattle.gql_source.specs.File.{Files}
 use Rattle.gql_ast_base.specs.Names.{Named}
-use Rattle.gql_ast_definitions.specs.declared.selection.Selection.{Selection}
+use Rattle.gql_ast.specs.declared.selection.Selection.{Selection}
 use Rattle.gql_diag.specs.List.{Diagnostics}
 use Rattle.gql_diag_messages.specs.declared.diagnostic_data.DiagnosticData.{DiagnosticData}
 use Rattle.gql_document_types.specs.declared.document.FieldSet.{FieldSet}

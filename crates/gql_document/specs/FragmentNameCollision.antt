@@ -1,7 +1,7 @@
 -- Fragments have distinct names: section 5.5.1.1 of GraphQL October 2021.
 use Rattle.std.specs.Prelude.{List, [], map}
 use Rattle.gql_ast_base.specs.Names.{Named}
-use Rattle.gql_ast_definitions.specs.declared.operation.FragmentDefinition.{FragmentDefinition}
+use Rattle.gql_ast.specs.declared.operation.FragmentDefinition.{FragmentDefinition}
 use Rattle.gql_diag_messages.specs.declared.rule.Rule.TheVariants.{FragmentNameCollision}
 use Rattle.gql_diag_messages.specs.declared.diagnostic_data.DiagnosticData.{DiagnosticData}
 use Rattle.gql_schema_types.specs.Entries.{joined, repeats}

@@ -2,7 +2,7 @@
 use Rattle.std.specs.Prelude.{◌≡◌, Bool, true, List, [], ◌∷◌, ◌++◌, Option, None, is_none, if◌then◌else◌}
 use Rattle.std.specs.Option.{option_map_or}
 use Rattle.gql_ast_base.specs.Names.{Named}
-use Rattle.gql_ast_definitions.specs.declared.operation.OperationDefinition.{OperationDefinition}
+use Rattle.gql_ast.specs.declared.operation.OperationDefinition.{OperationDefinition}
 use Rattle.gql_diag_messages.specs.declared.rule.Rule.TheVariants.{OperationNameCollision}
 use Rattle.gql_diag_messages.specs.declared.diagnostic_data.DiagnosticData.{DiagnosticData}
 use Rattle.gql_schema_types.specs.Entries.{entry, put_new}

@@ -3,11 +3,11 @@
 use Rattle.std.specs.Prelude.{ℕ, zero, suc, ◌+◌, Bool, List, [], ◌∷◌, ◌++◌, map, is_some, if◌then◌else◌}
 use Rattle.std.specs.Option.{option_map_or}
 use Rattle.gql_ast_base.specs.Names.{Named}
-use Rattle.gql_ast_definitions.specs.declared.operation.FragmentDefinition.{FragmentDefinition}
-use Rattle.gql_ast_definitions.specs.declared.selection.Field.{Field}
-use Rattle.gql_ast_definitions.specs.declared.selection.InlineFragment.{InlineFragment}
-use Rattle.gql_ast_definitions.specs.declared.selection.Selection.{Selection, out-Selection, fold-Selection}
-use Rattle.gql_ast_definitions.specs.declared.selection.Selection.TheOpen.{Selection-F, Field-F, InlineFragment-F}
+use Rattle.gql_ast.specs.declared.operation.FragmentDefinition.{FragmentDefinition}
+use Rattle.gql_ast.specs.declared.selection.Field.{Field}
+use Rattle.gql_ast.specs.declared.selection.InlineFragment.{InlineFragment}
+use Rattle.gql_ast.specs.declared.selection.Selection.{Selection, out-Selection, fold-Selection}
+use Rattle.gql_ast.specs.declared.selection.Selection.TheOpen.{Selection-F, Field-F, InlineFragment-F}
 use Rattle.gql_schema_types.specs.Entries.{entry}
 use Rattle.gql_schema_types.specs.declared.schema.Schema.{Schema}
 use Rattle.gql_document.specs.FragmentNameCollision.{fragment_name}

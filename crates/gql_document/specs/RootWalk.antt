@@ -2,9 +2,9 @@
 use Rattle.std.specs.Prelude.{List, [], ◌∷◌, ◌++◌, map, reverse, if◌then◌else◌}
 use Rattle.std.specs.Borrow.{Bor}
 use Rattle.gql_ast_base.specs.Names.{Named}
-use Rattle.gql_ast_definitions.specs.declared.operation.FragmentDefinition.{FragmentDefinition}
-use Rattle.gql_ast_definitions.specs.declared.selection.FragmentSpread.{FragmentSpread}
-use Rattle.gql_ast_definitions.specs.declared.selection.Selection.{Selection, out-Selection}
+use Rattle.gql_ast.specs.declared.operation.FragmentDefinition.{FragmentDefinition}
+use Rattle.gql_ast.specs.declared.selection.FragmentSpread.{FragmentSpread}
+use Rattle.gql_ast.specs.declared.selection.Selection.{Selection, out-Selection}
 use Rattle.gql_schema_types.specs.declared.schema.Schema.{Schema}
 use Rattle.gql_document.specs.RootSelections.{body, inside_step, entered_step, is_entered}
 

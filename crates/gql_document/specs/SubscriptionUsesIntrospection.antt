@@ -1,11 +1,11 @@
 -- The root field of a subscription is no field of introspection: section 5.2.3.1 of GraphQL October 2021.
 use Rattle.std.specs.Prelude.{ℕ, Bool, List, [], ◌∷◌, None, nat_eq, codes, if◌then◌else◌}
 use Rattle.std.specs.List.{flat_map, starts_with}
-use Rattle.gql_ast_definitions.specs.declared.operation.OperationDefinition.{OperationDefinition}
-use Rattle.gql_ast_definitions.specs.declared.selection.Field.{Field}
-use Rattle.gql_ast_definitions.specs.declared.selection.InlineFragment.{InlineFragment}
-use Rattle.gql_ast_definitions.specs.declared.selection.Selection.{Selection, out-Selection}
-use Rattle.gql_ast_definitions.specs.declared.selection.Selection.TheOpen.{Selection-F}
+use Rattle.gql_ast.specs.declared.operation.OperationDefinition.{OperationDefinition}
+use Rattle.gql_ast.specs.declared.selection.Field.{Field}
+use Rattle.gql_ast.specs.declared.selection.InlineFragment.{InlineFragment}
+use Rattle.gql_ast.specs.declared.selection.Selection.{Selection, out-Selection}
+use Rattle.gql_ast.specs.declared.selection.Selection.TheOpen.{Selection-F}
 use Rattle.gql_diag_messages.specs.declared.rule.Rule.TheVariants.{SubscriptionUsesIntrospection}
 use Rattle.gql_diag_messages.specs.declared.diagnostic_data.DiagnosticData.{DiagnosticData}
 use Rattle.gql_document.specs.Faults.{fault, operation_text}

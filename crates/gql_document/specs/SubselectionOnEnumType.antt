@@ -3,7 +3,7 @@ use Rattle.std.specs.Prelude.{◌&&◌, List, [], ◌∷◌, Option, None, if◌
 use Rattle.std.specs.Option.{option_map_or}
 use Rattle.gql_source.specs.Span.{Span}
 use Rattle.gql_ast_base.specs.Names.{Named}
-use Rattle.gql_ast_definitions.specs.declared.field_definition.FieldDefinition.{FieldDefinition}
+use Rattle.gql_ast.specs.declared.field_definition.FieldDefinition.{FieldDefinition}
 use Rattle.gql_ast.specs.TypeText.{type_text}
 use Rattle.gql_ast_base.specs.declared.type_ref.TypeRef.{TypeRef}
 use Rattle.gql_diag_messages.specs.declared.rule.Rule.TheVariants.{SubselectionOnEnumType}

@@ -4,7 +4,7 @@ ghost use Rattle.std.specs.Prelude.{◌≡◌, ◌++◌, OnOk};
 ghost use Rattle.gql_document.specs.AmbiguousAnonymousOperation as spec;
 
 use crate::fault::list_nameless;
-use gql_ast_definitions::OperationDefinition;
+use gql_ast::OperationDefinition;
 use gql_diag_messages::{DiagnosticData, Rule};
 use jb_text::{Listed, Memory};
 use std::alloc::Global;

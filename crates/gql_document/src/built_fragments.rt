@@ -8,8 +8,8 @@ ghost use Rattle.gql_document_types.specs.RootFields.{fragment_name as built_nam
 use crate::built_selections::built_set;
 use crate::fragment_tree::FragmentTree;
 use crate::type_kind::is_defined;
+use gql_ast::FragmentDefinition;
 use gql_ast_base::Copying;
-use gql_ast_definitions::FragmentDefinition;
 use gql_document_types::Fragment;
 use gql_schema_types::{Schema, Table};
 use jb_text::{Listed, Memory};

@@ -5,8 +5,8 @@ ghost use Rattle.gql_document.specs.Build as spec;
 
 use crate::ambiguous_anonymous_operation::{are_several, is_ambiguous};
 use crate::built_selections::built_set;
+use gql_ast::OperationDefinition;
 use gql_ast_base::{Copying, Name};
-use gql_ast_definitions::OperationDefinition;
 use gql_document_types::Operation;
 use gql_schema_types::Schema;
 use jb_text::{Listed, Memory};

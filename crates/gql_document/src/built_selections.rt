@@ -5,9 +5,9 @@ ghost use Rattle.gql_document.specs.BuiltSelections as spec;
 ghost use Rattle.gql_document.specs.Made as made_by;
 
 use crate::type_kind::{Leaf, is_open, leaf_of, type_inside};
+use gql_ast as ast;
+use gql_ast::FieldDefinition;
 use gql_ast_base::{Copying, Name, both};
-use gql_ast_definitions as ast;
-use gql_ast_definitions::FieldDefinition;
 use gql_document_types::{Field, FragmentSpread, InlineFragment, Selection, SelectionSet};
 use gql_schema_types::{Schema, Shared};
 use jb_text::{Listed, Memory};

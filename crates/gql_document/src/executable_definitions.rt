@@ -2,9 +2,8 @@
 
 ghost use Rattle.std.specs.Prelude.{◌≡◌, OnOk};
 
-use gql_ast::Definition;
+use gql_ast::{Definition, FragmentDefinition, OperationDefinition};
 use gql_ast_base::Copying;
-use gql_ast_definitions::{FragmentDefinition, OperationDefinition};
 use jb_text::{Listed, Memory};
 use std::alloc::Global;
 

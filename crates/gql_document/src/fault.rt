@@ -3,8 +3,8 @@
 ghost use Rattle.std.specs.Prelude.{◌≡◌, ◌++◌, [], ◌∷◌, OnOk};
 ghost use Rattle.gql_document.specs.Faults as spec;
 
+use gql_ast::OperationDefinition;
 use gql_ast_base::Name;
-use gql_ast_definitions::OperationDefinition;
 use gql_diag_messages::{DiagnosticData, Rule, list_fault};
 use gql_source::SourceSpan;
 use jb_text::{Listed, Memory};

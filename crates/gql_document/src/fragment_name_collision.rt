@@ -6,7 +6,7 @@ ghost use Rattle.gql_document.specs.FragmentNameCollision as spec;
 
 use crate::fault::list_name;
 use crate::fragment_tree::FragmentTree;
-use gql_ast_definitions::FragmentDefinition;
+use gql_ast::FragmentDefinition;
 use gql_diag_messages::{DiagnosticData, Rule};
 use gql_schema_types::{Named, Table};
 use jb_text::{Listed, Memory};

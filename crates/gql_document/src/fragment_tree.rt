@@ -2,8 +2,8 @@
 
 ghost use Rattle.std.specs.Prelude.{◌≡◌};
 
+use gql_ast::FragmentDefinition;
 use gql_ast_base::Name;
-use gql_ast_definitions::FragmentDefinition;
 use gql_schema_types::Named;
 use std::marker::Model;
 

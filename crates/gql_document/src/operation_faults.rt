@@ -16,8 +16,8 @@ use crate::subscription_uses_multiple_fields::list_subscription_uses_multiple_fi
 use crate::type_kind::is_defined;
 use crate::undefined_root_operation::list_undefined_root_operation;
 use crate::undefined_type_in_named_fragment_type_condition::list_undefined_type_in_named_fragment_type_condition;
+use gql_ast::{FragmentDefinition, OperationDefinition, Selection};
 use gql_ast_base::{Name, OperationType};
-use gql_ast_definitions::{FragmentDefinition, OperationDefinition, Selection};
 use gql_diag_messages::DiagnosticData;
 use gql_schema_types::{Schema, Table};
 use jb_text::{Listed, Memory};

@@ -4,8 +4,8 @@ ghost use Rattle.std.specs.Prelude.{◌≡◌, ◌++◌, IfOk, OnOk};
 ghost use Rattle.gql_document.specs.OperationNameCollision as spec;
 
 use crate::fault::list_name;
+use gql_ast::OperationDefinition;
 use gql_ast_base::{Copying, Name};
-use gql_ast_definitions::OperationDefinition;
 use gql_diag_messages::{DiagnosticData, Rule};
 use gql_schema_types::Table;
 use jb_text::{Listed, Memory};

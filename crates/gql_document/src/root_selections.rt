@@ -7,8 +7,8 @@ ghost use Rattle.gql_document.specs.RootWalk as walk;
 
 use crate::fragment_tree::FragmentTree;
 use crate::type_kind::{is_defined, is_open};
+use gql_ast::{FragmentSpread, Selection};
 use gql_ast_base::{Copying, Name};
-use gql_ast_definitions::{FragmentSpread, Selection};
 use gql_schema_types::{Schema, Table};
 use jb_text::{Listed, Memory};
 use std::alloc::{AllocError, Global};

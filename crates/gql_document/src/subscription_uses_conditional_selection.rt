@@ -7,8 +7,8 @@ ghost use Rattle.gql_document.specs.RootWalk.{selections_of};
 ghost use Rattle.gql_document.specs.SubscriptionUsesConditionalSelection as spec;
 
 use crate::fault::{list_word, operation_text};
+use gql_ast::{OperationDefinition, Selection};
 use gql_ast_base::Directive;
-use gql_ast_definitions::{OperationDefinition, Selection};
 use gql_diag_messages::{DiagnosticData, Rule};
 use gql_source::SourceSpan;
 use jb_text::{Listed, Memory};

@@ -8,7 +8,7 @@ ghost use Rattle.gql_document.specs.RootWalk.{selections_of};
 ghost use Rattle.gql_document.specs.SubscriptionUsesMultipleFields as spec;
 
 use crate::fault::{list_word, operation_text};
-use gql_ast_definitions::{Field, OperationDefinition, Selection};
+use gql_ast::{Field, OperationDefinition, Selection};
 use gql_diag_messages::{DiagnosticData, Rule};
 use jb_text::{Listed, Memory};
 use std::alloc::Global;

@@ -4,8 +4,8 @@ ghost use Rattle.std.specs.Prelude.{◌≡◌, ◌++◌, ◌∷◌, [], OnOk};
 ghost use Rattle.gql_document.specs.UndefinedRootOperation as spec;
 
 use crate::fault::list_word;
+use gql_ast::OperationDefinition;
 use gql_ast_base::OperationType;
-use gql_ast_definitions::OperationDefinition;
 use gql_diag_messages::{DiagnosticData, Rule};
 use jb_text::{Listed, Memory};
 use std::alloc::Global;

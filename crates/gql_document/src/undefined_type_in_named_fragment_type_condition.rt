@@ -4,7 +4,7 @@ ghost use Rattle.std.specs.Prelude.{◌≡◌, ◌++◌, ◌∷◌, [], OnOk};
 ghost use Rattle.gql_document.specs.UndefinedTypeInNamedFragmentTypeCondition as spec;
 
 use crate::fault::list_name;
-use gql_ast_definitions::FragmentDefinition;
+use gql_ast::FragmentDefinition;
 use gql_diag_messages::{DiagnosticData, Rule};
 use jb_text::{Listed, Memory};
 use std::alloc::Global;

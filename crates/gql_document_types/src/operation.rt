@@ -3,8 +3,8 @@
 ghost use Rattle.std.specs.Prelude.{◌≡◌};
 
 use crate::selection::SelectionSet;
+use gql_ast::VariableDefinition;
 use gql_ast_base::{Copying, Directive, Name, OperationType, all_four};
-use gql_ast_definitions::VariableDefinition;
 use gql_source::SourceSpan;
 use jb_text::{Listed, Memory};
 use std::alloc::Global;

@@ -2,8 +2,8 @@
 
 ghost use Rattle.std.specs.Prelude.{◌≡◌, IfOk};
 
+use gql_ast::FieldDefinition;
 use gql_ast_base::{Argument, Copying, Directive, Name, all_four, all_three, both};
-use gql_ast_definitions::FieldDefinition;
 use gql_schema_types::Shared;
 use gql_source::SourceSpan;
 use jb_text::{Listed, Memory};

@@ -2,9 +2,9 @@
 use Rattle.std.proofs.Common.{◌≡◌, ◌⊎◌, inl, inr, ℕ, List, ◌++◌, Option, Some, None, Result, Ok, Err, IfOk, ◌∙◌, sym, ap, subst, arith, append-nil}
 use Rattle.jb_io.specs.Source.{ReadsWhole}
 use Rattle.jb_io.specs.declared.serving.TheConstants.{NO_MEMORY, REFUSED, SINK_FAILED, SOURCE_FAILED, TOO_LONG}
-use Rattle.gql_request.specs.NotAsked.{IsAsked, NotAsked}
-use Rattle.gql_request.specs.Request.{Asked}
-use Rattle.gql_request.specs.declared.request.RequestForm.{RequestForm}
+use Rattle.gql_engine.specs.NotAsked.{IsAsked, NotAsked}
+use Rattle.gql_engine.specs.Request.{Asked}
+use Rattle.gql_engine.specs.declared.request_form.RequestForm.{RequestForm}
 use Rattle.gql_engine.specs.Serving.{AnswersBytes, IsInput, IsOutput, IsRefusedOutput, MustAnswerBytes, MustRefuseBytes, RefusesBytes, message_line, no_request, not_asked, refusable, status_of, text_of, unanswered}
 use Rattle.gql_engine.specs.declared.output.Output.{Output}
 use Rattle.gql_engine.specs.declared.output.Output.TheVariants.{Done, Refused}

@@ -1,3 +1,14 @@
+mod Computed
+mod Query
+mod Schema
+mod BuiltIn
+mod Leaves
+mod Facts
+mod Documents
+mod Requests
+mod Readings
+pub mod Ways
+mod Items
 mod Results
 mod InTurn
 mod KeptTexts

@@ -6,8 +6,8 @@ use Rattle.jb_print.specs.Compact.{compact}
 use Rattle.gql_diag.specs.List.{Diagnostics}
 use Rattle.gql_diag.specs.Refusal.{refusal_value}
 use Rattle.gql_document_types.specs.ChosenOperation.{text_of}
-use Rattle.gql_request.specs.Request.{Asked, asked_in}
-use Rattle.gql_request.specs.declared.request.Request.{Request}
+use Rattle.gql_engine.specs.Request.{Asked, asked_in}
+use Rattle.gql_engine.specs.declared.request_form.Request.{Request}
 use Rattle.gql_resolvers.proofs.DataSkips.{data-whole}
 use Rattle.gql_resolvers.specs.Data.{Data}
 use Rattle.gql_resolvers.specs.DataMeaning.{data_meaning}

@@ -17,10 +17,10 @@ use Rattle.gql_exec.specs.ThingMeaning.{Resolving, thing_meaning}
 use Rattle.gql_exec.specs.Execution.{Answers as ExecutionAnswers, Counts as ExecutionCounts, IsAnswer as IsExecutionAnswer, Looks as ExecutionLooksOf}
 use Rattle.gql_exec.specs.Execution.{Prepared, on_root, request_in, started, undefined_root, with_implementers, with_introspection, with_operation, with_values}
 use Rattle.gql_exec.proofs.ThingSkips.{things-never-skip}
-use Rattle.gql_exec_fields.proofs.Skipless.{fully-explained, request-never}
-use Rattle.gql_exec_fields.specs.Executing.{request_by}
-use Rattle.gql_exec_fields.specs.Looks.{AreLooks}
-use Rattle.gql_exec_fields.specs.NeverSkips.{NeverSkips}
+use Rattle.gql_exec.proofs.Skipless.{fully-explained, request-never}
+use Rattle.gql_exec.specs.Executing.{request_by}
+use Rattle.gql_exec.specs.Looks.{AreLooks}
+use Rattle.gql_exec.specs.NeverSkips.{NeverSkips}
 use Rattle.gql_exec.specs.declared.execution.Execution.{Execution}
 use Rattle.gql_exec.specs.declared.execution.Given.TheVariants.{Coerced}
 use Rattle.gql_collect.specs.RequestErrors.{request_error as fault_told}

@@ -9,19 +9,19 @@ use Rattle.gql_document_types.specs.declared.document.ExecutableDocument.{Execut
 use Rattle.gql_document_types.specs.declared.operation.Operation.{Operation}
 use Rattle.gql_exec.specs.Thing.{of_user, type_of_thing}
 use Rattle.gql_exec.specs.ThingMeaning.{Resolving, thing_meaning}
-use Rattle.gql_exec_fields.specs.Executing.{answers_by}
+use Rattle.gql_exec.specs.Executing.{answers_by}
 use Rattle.gql_resolvers.specs.Data.{Data}
 use Rattle.gql_resolvers.specs.DataMeaning.{data_meaning}
-use Rattle.gql_request.specs.NotAsked.{IsAsked}
-use Rattle.gql_request.specs.Request.{Asked}
-use Rattle.gql_request.specs.SelfTest.{self_test}
-use Rattle.gql_request.specs.declared.request.RequestForm.TheVariants.{Plain}
+use Rattle.gql_engine.specs.NotAsked.{IsAsked}
+use Rattle.gql_engine.specs.Request.{Asked}
+use Rattle.gql_engine.specs.SelfTest.{self_test}
+use Rattle.gql_engine.specs.declared.request_form.RequestForm.TheVariants.{Plain}
 use Rattle.gql_parser.specs.SchemaText.{SchemaText}
 use Rattle.gql_schema_types.specs.declared.schema.Schema.{Schema}
 use Rattle.gql_schema_types.specs.declared.types.ObjectType.{ObjectType}
-use Rattle.gql_request.specs.Meaning.{IsSelfTest}
-use Rattle.gql_request.specs.Texts.{query_text, schema_text}
-use Rattle.gql_request.proofs.Ways.{few_looks, few_selections}
+use Rattle.gql_engine.specs.Meaning.{IsSelfTest}
+use Rattle.gql_engine.specs.Texts.{query_text, schema_text}
+use Rattle.gql_engine.proofs.Ways.{few_looks, few_selections}
 use Rattle.gql_engine.specs.Output.{IsMeasured, Line, Measures, summary}
 use Rattle.gql_engine.specs.Reply.{Answers, RespondsTo, root_of}
 use Rattle.gql_engine.specs.declared.response_bytes.Written.{Written}

@@ -4,8 +4,8 @@ use Rattle.jb_io.specs.Sink.{Told}
 use Rattle.jb_io.specs.declared.serving.TheConstants.{MISUSED, SINK_FAILED}
 use Rattle.jb_print.specs.Compact.{compact}
 use Rattle.gql_diag.specs.Refusal.{message_error, refusal_value}
-use Rattle.gql_request.specs.declared.request.RequestForm.{RequestForm}
-use Rattle.gql_request.specs.declared.request.RequestForm.TheVariants.{Plain}
+use Rattle.gql_engine.specs.declared.request_form.RequestForm.{RequestForm}
+use Rattle.gql_engine.specs.declared.request_form.RequestForm.TheVariants.{Plain}
 use Rattle.gql_engine.specs.Output.{IsDone, IsRefused}
 use Rattle.gql_engine.specs.Program.{BreaksOff, Writes}
 use Rattle.gql_engine.specs.Reply.{MustDo, MustRefuse, WishAnswers, WishMust, WishMustNot, WishRefuses, faulty, no_answer, no_request as refused_request}

@@ -5,9 +5,9 @@ use Rattle.gql_document_types.specs.declared.document.ExecutableDocument.{Execut
 use Rattle.gql_document_types.specs.declared.operation.Operation.{Operation}
 use Rattle.gql_exec.specs.Thing.{of_user, type_of_thing}
 use Rattle.gql_exec.specs.ThingMeaning.{Resolving, thing_meaning}
-use Rattle.gql_exec_fields.specs.Executing.{request_by}
-use Rattle.gql_exec_fields.specs.NeverSkips.{NeverSkips, IsFullyExplained}
-use Rattle.gql_exec_fields.specs.Looks.{AreLooks}
+use Rattle.gql_exec.specs.Executing.{request_by}
+use Rattle.gql_exec.specs.NeverSkips.{NeverSkips, IsFullyExplained}
+use Rattle.gql_exec.specs.Looks.{AreLooks}
 use Rattle.gql_exec.specs.Response.{IsExecuted, IsExplained}
 use Rattle.gql_response.specs.Response.{response_value}
 use Rattle.gql_response.specs.declared.execution_response.ExecutionResponse.{ExecutionResponse}

@@ -1,3 +1,9 @@
+-- What the request of the self-test means.
+pub mod Texts
+pub mod Meaning
+pub mod Request
+pub mod NotAsked
+pub mod SelfTest
 pub mod Wanted
 pub mod Depths
 pub mod Meant

@@ -3,7 +3,7 @@ use Rattle.std.specs.Prelude.{◌≡◌, ◌≤◌, ◌+◌, ℕ, List, ◌++◌
 use Rattle.std.specs.Fmt.{decimal}
 use Rattle.gql_engine.specs.Answered.{errors_in}
 use Rattle.gql_engine.specs.declared.response_bytes.Written.{Written}
-use Rattle.gql_request.specs.SelfTest.{self_test}
+use Rattle.gql_engine.specs.SelfTest.{self_test}
 use Rattle.gql_engine.specs.Reply.{Answers, AreReports, Passes, Refuses, SaysNotAsked}
 use Rattle.gql_engine.specs.Serving.{line}
 use Rattle.gql_engine.specs.declared.task.Task.{Task}

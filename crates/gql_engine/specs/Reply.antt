@@ -10,11 +10,11 @@ use Rattle.gql_resolvers.specs.Data.{Data}
 use Rattle.gql_resolvers.specs.DataMeaning.{data_meaning}
 use Rattle.gql_diag.specs.Refusal.{message_error, refusal_value}
 use Rattle.gql_engine.specs.Reports.{reports_of}
-use Rattle.gql_request.specs.NotAsked.{IsAsked, NotAsked}
-use Rattle.gql_request.specs.Request.{Asked}
+use Rattle.gql_engine.specs.NotAsked.{IsAsked, NotAsked}
+use Rattle.gql_engine.specs.Request.{Asked}
 use Rattle.gql_response.specs.declared.graphql_error.GraphQLError.{GraphQLError}
 use Rattle.gql_engine.specs.Meant.{AreFaults, Meant}
-use Rattle.gql_request.specs.declared.request.RequestForm.TheVariants.{Plain}
+use Rattle.gql_engine.specs.declared.request_form.RequestForm.TheVariants.{Plain}
 use Rattle.gql_engine.specs.Responding.{Responds}
 use Rattle.gql_engine.specs.Serving.{line}
 use Rattle.gql_engine.specs.declared.response_bytes.Written.{Written}

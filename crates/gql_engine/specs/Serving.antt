@@ -7,9 +7,9 @@ use Rattle.jb_io.specs.declared.stream.TheConstants.{INPUT_LIMIT}
 use Rattle.jb_io.specs.declared.serving.TheConstants.{ANSWERED, MISUSED, NO_MEMORY, REFUSED, SINK_FAILED, SOURCE_FAILED, TOO_LONG}
 use Rattle.jb_print.specs.Compact.{compact}
 use Rattle.gql_diag.specs.Refusal.{message_error, refusal_value}
-use Rattle.gql_request.specs.NotAsked.{IsAsked, NotAsked}
-use Rattle.gql_request.specs.Request.{Asked}
-use Rattle.gql_request.specs.declared.request.RequestForm.{RequestForm}
+use Rattle.gql_engine.specs.NotAsked.{IsAsked, NotAsked}
+use Rattle.gql_engine.specs.Request.{Asked}
+use Rattle.gql_engine.specs.declared.request_form.RequestForm.{RequestForm}
 use Rattle.gql_engine.specs.declared.output.Output.{Output}
 use Rattle.gql_engine.specs.declared.output.Output.TheVariants.{Done, Refused}
 

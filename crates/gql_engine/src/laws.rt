@@ -5,8 +5,8 @@ ghost use Rattle.gql_engine.specs.AnswerError.{Call, ComesFor, HasCause, IsNoVar
 ghost use Rattle.std.specs.Borrow.{Bor};
 ghost use Rattle.std.specs.Option.{unwrap_or};
 ghost use Rattle.gql_diag.specs.List.{Diagnostics};
-ghost use Rattle.gql_request.specs.Request.{asked_in};
-ghost use Rattle.gql_request.specs.declared.request.Request.{Request as RequestOf};
+ghost use Rattle.gql_engine.specs.Request.{asked_in};
+ghost use Rattle.gql_engine.specs.declared.request_form.Request.{Request as RequestOf};
 ghost use Rattle.gql_response.specs.declared.graphql_error.GraphQLError.{GraphQLError as ErrorOf};
 ghost use Rattle.gql_engine.specs.Meant.{AreFaults, Meant};
 ghost use Rattle.gql_engine.specs.Ready.{Ready};
@@ -17,13 +17,13 @@ ghost use Rattle.gql_engine.specs.Wanted.{Members, Wanted as WantedOf, wanted_ov
 ghost use Rattle.gql_engine.specs.declared.answer_error.AnswerError.{AnswerError as Refusal};
 ghost use Rattle.gql_engine.specs.declared.answer_error.AnswerError.TheVariants as refusal;
 
+pub use crate::request_laws::bytes_ask_one_thing;
 use gql_parser::laws as text_laws;
 pub use gql_parser::laws::{
     documents_are_typed, fields_have_output_types, operations_select_something,
     roots_are_object_types, texts_have_one_document_each, texts_have_one_schema,
     valid_documents_run,
 };
-pub use gql_request::laws::bytes_ask_one_thing;
 use jb_read::laws as json_laws;
 
 /// The causes of refusals exclude one another: where one holds, another is the same refusal, or want of memory, whose cause always

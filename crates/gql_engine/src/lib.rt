@@ -31,10 +31,14 @@ mod question;
 mod ready;
 mod reply;
 mod request_command;
+mod request_form;
+pub mod request_laws;
+mod request_reading;
 mod request_serving;
 mod responding;
 mod response_bytes;
 mod self_test;
+mod self_test_request;
 mod service;
 mod steps_before;
 mod task;
@@ -121,9 +125,10 @@ pub mod introspection {
 
 /// Requests: their JSON, and the steps between the texts and the execution (section 6.1).
 pub mod request {
+    pub use crate::request_form::{Member, Request, RequestFault, RequestForm, decode};
+    pub use crate::request_reading::read_message;
     pub use gql_collect::coerce_variable_values;
     pub use gql_diag::{RequestError, refusal_of_request};
-    pub use gql_request::{Member, Request, RequestFault, RequestForm, decode, read_message};
 }
 
 /// The steps of an answer one by one, for programs that do something else in between: what is wanted, the texts, what nothing is in

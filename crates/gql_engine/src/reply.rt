@@ -1,7 +1,7 @@
 //! What is done with a request by the wish: it is answered, or its texts are checked.
 
 ghost use Rattle.std.specs.Prelude.{◌≡◌, ℕ, IfOk};
-ghost use Rattle.gql_request.specs.Request.{asked_in};
+ghost use Rattle.gql_engine.specs.Request.{asked_in};
 ghost use Rattle.gql_engine.specs.declared.task.Wish.TheVariants as wished;
 ghost use Rattle.gql_engine.specs.Reply.{RespondsTo, WishAnswers, WishMust, WishMustNot, WishRefuses, wanted_of};
 ghost use Rattle.gql_engine.specs.Reports.{reports_of};
@@ -15,6 +15,7 @@ use crate::list_reports::reports;
 use crate::meaning::faults_of_texts;
 use crate::output::{Output, done_with, refused_for};
 use crate::request_command::RequestCommand;
+use crate::request_form::{Request, RequestForm};
 use crate::responding::respond;
 use crate::response_bytes::Written;
 use crate::task::Wish;
@@ -22,14 +23,13 @@ use crate::wanted::Wanted;
 use bytes::Bytes;
 use gql_collect::Steps;
 use gql_diag::DiagnosticList;
-use gql_request::{Request, RequestForm};
 use gql_resolvers::DataObject;
 use jb_tree::{Map, Memory};
 use std::alloc::Global;
 use std::sync::ledger::Ledger;
 
 impl RequestCommand for Wish {
-    ghost use Rattle.gql_request.specs.declared.request.RequestForm.TheVariants.{Plain};
+    ghost use Rattle.gql_engine.specs.declared.request_form.RequestForm.TheVariants.{Plain};
     ghost use Rattle.gql_engine.specs.Reply.{WishAnswers, WishMust, WishMustNot, WishRefuses};
 
     ghost form_of = { λ _. Plain };

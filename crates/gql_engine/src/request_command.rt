@@ -1,8 +1,8 @@
 //! What the words of a program ask to do with a request.
 
 use crate::output::Output;
+use crate::request_form::{Request, RequestForm};
 use gql_collect::Steps;
-use gql_request::{Request, RequestForm};
 use jb_tree::Memory;
 use std::alloc::Global;
 use std::sync::ledger::Ledger;
@@ -10,8 +10,8 @@ use std::sync::ledger::Ledger;
 /// What is made of each request that is read.
 pub trait RequestCommand {
     ghost use Rattle.std.specs.Prelude.{◌≡◌, List, ℕ, IfOk};
-    ghost use Rattle.gql_request.specs.Request.{Asked, HasForm, asked_in};
-    ghost use Rattle.gql_request.specs.declared.request.RequestForm.{RequestForm as FormOf};
+    ghost use Rattle.gql_engine.specs.Request.{Asked, HasForm, asked_in};
+    ghost use Rattle.gql_engine.specs.declared.request_form.RequestForm.{RequestForm as FormOf};
     ghost use Rattle.gql_engine.specs.Serving.{IsDoneOutput, IsOutput, IsRefusedOutput};
 
     // Which members its requests must have.

@@ -1,16 +1,18 @@
 //! The run of a program that reads requests: its words, its input, its output.
 
 ghost use Rattle.std.specs.Prelude.{◌≡◌, ◌<◌, ℕ, List, Some, IfOk};
-ghost use Rattle.gql_request.specs.NotAsked.{read_message as message_of};
-ghost use Rattle.gql_request.specs.Request.{fault_message};
+ghost use Rattle.gql_engine.specs.NotAsked.{read_message as message_of};
+ghost use Rattle.gql_engine.specs.Request.{fault_message};
 ghost use Rattle.gql_engine.specs.declared.output.Output.TheVariants as outputs;
 ghost use Rattle.gql_engine.specs.Serving.{AnswersBytes, IsDoneOutput, IsOutput, IsRefusedOutput, IsServed, MustAnswerBytes, MustRefuseBytes, MustServe, RefusesBytes, message_line};
 
 use crate::output::{Output, refused_with};
 use crate::request_command::RequestCommand;
+use crate::request_form::{RequestFault, decode};
+use crate::request_laws;
+use crate::request_reading::read_message;
 use bytes::Bytes;
 use gql_collect::Steps;
-use gql_request::{RequestFault, decode, laws as request_laws, read_message};
 use jb_io::{
     ANSWERED, InputFault, MISUSED, NO_MEMORY, REFUSED, SINK_FAILED, SOURCE_FAILED, Sink, SinkFault,
     Source, TOO_LONG, read_to_end, write_all,

@@ -5,10 +5,12 @@ ghost use Rattle.gql_engine.specs.Output.{IsMeasured, Line, Measures, summary as
 
 use crate::output::line;
 use crate::reply::respond_to_request;
+use crate::request_form::{RequestForm, decode};
+use crate::request_laws;
 use crate::response_bytes::Written;
+use crate::self_test_request::self_test_text;
 use bytes::Bytes;
 use gql_collect::Steps;
-use gql_request::{RequestForm, decode, laws as request_laws, self_test_text};
 use jb_read::from_bytes_whole;
 use jb_tree::Memory;
 use std::alloc::{AllocError, Global};

@@ -1,152 +1,175 @@
--- Objects of introspection are executed alike, whatever the user's objects are.
-use Rattle.std.proofs.Common.{◌≡◌, ℕ, zero, suc, ◌+◌, Bool, true, false, if◌then◌else◌, List, [], ◌∷◌, Option, Some, None, Result, Ok, Err, refl, sym, ap, ◌∙◌, codes}
-use Rattle.std.specs.Str.{bytes_eq}
+-- Groups that are the same once repeated fields are left out are executed alike.
+use Rattle.std.proofs.Common.{◌≡◌, ℕ, zero, suc, ◌+◌, List, [], ◌∷◌, ◌++◌, Option, Some, None, refl, sym, ap, ◌∙◌, subst}
+use Rattle.std.specs.List.{AllByRecursion}
 use Rattle.jb_tree.specs.declared.value.Value.{Value}
-use Rattle.jb_tree.specs.declared.value.Value.TheVariants as json
 use Rattle.gql_ast_base.specs.declared.type_ref.TypeRef.{TypeRef}
-use Rattle.gql_coerce.specs.declared.told.ArgumentFault.{ArgumentFault}
-use Rattle.gql_document_types.specs.declared.fragment.Fragment.{Fragment}
 use Rattle.gql_document_types.specs.declared.selection.Field.{Field}
 use Rattle.gql_document_types.specs.declared.selection.Selection.{Selection}
-use Rattle.gql_schema_types.specs.declared.schema.Schema.{Schema}
 use Rattle.gql_schema_types.specs.declared.types.ObjectType.{ObjectType}
-use Rattle.gql_source.specs.File.{Files}
-use Rattle.gql_resolvers.specs.Execute.{Made, Member, then_rest, settled, unless_misfit, one_array, one_object, with_key, Below, object_made, value_made, items_made, field_made, groups_made, execute}
-use Rattle.gql_resolvers.specs.Resolved.{Meaning, Meanings, gives_leaf, gives_object, gives_list, gives_skip, fails_with, no_answer, answer_then, Misfit, Outcome, answered, refused}
-use Rattle.gql_resolvers.specs.Spot.{Spot, trail, item_spot, field_spot}
-use Rattle.gql_resolvers.specs.Trail.{Trail}
-use Rattle.gql_resolvers.specs.World.{World, key_of}
-use Rattle.gql_introspection.specs.Meta.{Meta}
-use Rattle.gql_introspection.specs.MetaMeaning.{meta_meaning}
-use Rattle.gql_exec_fields.specs.Asks.{definition_on, arguments_at, answer, fault_of, asked, asks, is_introspection}
-use Rattle.gql_exec_fields.specs.Group.{Group}
-use Rattle.gql_exec_fields.specs.Request.{Members, Request}
-use Rattle.gql_exec_fields.specs.RequestWorld.{plain_world}
-use Rattle.gql_exec.specs.Mapped.{mapped, all_mapped}
-use Rattle.gql_exec.specs.Request.{introspected_request}
-use Rattle.gql_exec.specs.Thing.{Thing, of_library}
-use Rattle.gql_exec.specs.ThingMeaning.{Resolving, root_meaning}
+use Rattle.gql_collect.specs.Flat.{flat, flat_sets}
+use Rattle.gql_collect.specs.Groups.{response_name, FieldGroup, SameGroups, none_same, one_same, applying}
+use Rattle.gql_collect.specs.Same.{SameFirst}
+use Rattle.gql_collect.proofs.GroupFacts.{groups-same, defined-same}
+use Rattle.gql_collect.proofs.SameFacts.{same-map, same-flat_map}
+use Rattle.gql_resolvers.specs.Resolved.{Meaning, Meanings, gives_leaf, gives_object, gives_list, gives_skip, fails_with, no_answer, answer_then}
+use Rattle.gql_resolvers.specs.Resolved.{Outcome, answered, refused}
+use Rattle.gql_resolvers.specs.Depth.{AllGroups, Suffices}
+use Rattle.gql_resolvers.specs.World.{World, key_of, DistinctKeys}
+use Rattle.gql_resolvers.specs.Trail.{Segment, Trail}
+use Rattle.gql_resolvers.specs.Spot.{Spot, item_spot, field_spot}
+use Rattle.gql_resolvers.specs.Execute.{Made, Member, then_rest, settled, unless_misfit}
+use Rattle.gql_resolvers.specs.Execute.{one_array, one_object, with_key, Below, object_made, value_made, items_made, field_made, groups_made, execute}
+use Rattle.gql_exec.specs.Group.{Group, piece_of, started, groups_from}
+use Rattle.gql_exec.specs.Request.{Request}
+use Rattle.gql_exec.specs.RequestWorld.{setting_on, plain, plain_world}
+use Rattle.gql_exec.specs.Runs.{RunsAs}
+use Rattle.gql_exec.proofs.Lawful.{lawful}
 
--- what introspection answers, as an answer of an execution
-abbrev pub told_of : {X : Type 0} → Schema → Meaning Meta → Meaning (Thing X)
-told_of own m = mapped (of_library own) m
+abbrev pub IsAlike : Group → Group → Type 0
+IsAlike g h = (g.first ≡ h.first) × SameFirst g.pieces h.pieces
 
-abbrev pub outcome_of : {X : Type 0} → Schema → Outcome Meta → Outcome (Thing X)
-outcome_of own (answered m) = answered (told_of own m)
-outcome_of own (refused fault) = refused fault
+abbrev pub AreAlike : List Group → List Group → Type 0
+AreAlike [] [] = Unit {0}
+AreAlike [] (h ∷ hs) = ⊥
+AreAlike (g ∷ gs) [] = ⊥
+AreAlike (g ∷ gs) (h ∷ hs) = IsAlike g h × AreAlike gs hs
 
--- `__typename`, else this
-abbrev pub named_or : ObjectType → List ℕ → Meaning Meta → Meaning Meta
-named_or U f m = if bytes_eq f (codes "__typename") then gives_leaf (json.String U.name.text) else m
+alike-started : (o : Option Field) (fs hs : List Field) (gs rest : List Group) → SameFirst fs hs → AreAlike gs rest → AreAlike (started o fs ++ gs) (started o hs ++ rest)
+alike-started None fs hs gs rest same others = others
+alike-started (Some f) fs hs gs rest same others = ((refl, same-map piece_of fs hs same), others)
 
-abbrev pub after_arguments : (Members → Meaning Meta) → Result Members ArgumentFault → Outcome Meta
-after_arguments answers (Ok arguments) = answered (answers arguments)
-after_arguments answers (Err fault) = refused (fault_of fault)
+pub groups-alike : {gs hs : List FieldGroup} → SameGroups gs hs → AreAlike (groups_from gs) (groups_from hs)
+groups-alike none_same = tt
+groups-alike (one_same {g = g} {h = h} {gs = gs} {hs = hs} key first fields rest) =
+    subst (λ o. AreAlike (groups_from (g ∷ gs)) (started o h.fields ++ groups_from hs)) first
+    (alike-started g.first g.fields h.fields (groups_from gs) (groups_from hs) fields (groups-alike rest))
 
--- what an object of introspection answers
-abbrev pub library_answer : ObjectType → Schema → Meta → List ℕ → Members → Meaning Meta
-library_answer U own m f arguments = named_or U f (if is_introspection own U f then root_meaning own f arguments else meta_meaning m f arguments)
+module _ {X : Type 0} (r : Request X) where
+  abbrev w : World X ObjectType Group (List (List Selection))
+  w = plain_world r
 
-module _ {X : Type 0} (schema : Schema) (sources : Files) (fragments : List Fragment) (variables : Members) (types : X → List ℕ) (resolves : Resolving X) where
-  abbrev pub introspected : Request (Thing X)
-  introspected = introspected_request schema sources fragments variables types resolves
+  pub sets-alike : (U : ObjectType) (ps qs : List (List Selection)) → SameFirst ps qs → AreAlike (plain r U ps) (plain r U qs)
+  sets-alike U ps qs same =
+      let s = setting_on r U in
+      groups-alike (defined-same r.schema U (groups-same (flat_sets s ps) (flat_sets s qs) (same-flat_map (flat s) ps qs same)))
 
-  library-answer : (U : ObjectType) (own : Schema) (m : Meta) (f : List ℕ) (arguments : Members)
-      → answer introspected U (of_library own m) f arguments ≡ told_of own (library_answer U own m f arguments)
-  library-answer U own m f arguments = by (bytes_eq f (codes "__typename")) (is_introspection own U f)
-    where
-      by : (named root : Bool)
-          → (if named then gives_leaf (json.String U.name.text) else (if root then told_of {X = X} own (root_meaning own f arguments) else told_of {X = X} own (meta_meaning m f arguments)))
-          ≡ told_of {X = X} own (if named then gives_leaf (json.String U.name.text) else (if root then root_meaning own f arguments else meta_meaning m f arguments))
-      by true root = refl
-      by false true = refl
-      by false false = refl
+  -- a run that does not see repeated sets
+  abbrev IsBlind : Below w → Type 0
+  IsBlind run = (U : ObjectType) (y : X) (outer : Trail) (ps qs : List (List Selection)) → SameFirst ps qs → run U y outer ps ≡ run U y outer qs
 
-  pub library-asks : (U : ObjectType) (own : Schema) (m : Meta) (f : Field)
-      → asks introspected U (of_library own m) f
-      ≡ outcome_of own (after_arguments (library_answer U own m f.name.text) (arguments_at introspected (definition_on schema U f) f))
-  library-asks U own m f = by (arguments_at introspected (definition_on schema U f) f)
-    where
-      by : (found : Result Members ArgumentFault)
-          → asked introspected U (of_library own m) f.name.text found ≡ outcome_of own (after_arguments (library_answer U own m f.name.text) found)
-      by (Ok arguments) = ap answered (library-answer U own m f.name.text arguments)
-      by (Err fault) = refl
+  abbrev one : Field → List (List Selection) → Group
+  one f ps = record { first = f; pieces = ps }
 
-module _ {X Y : Type 0} (schema : Schema) (sources : Files) (fragments : List Fragment) (variables : Members)
-    (types : X → List ℕ) (resolves : Resolving X) (others : Y → List ℕ) (answers : Resolving Y) where
-  abbrev pub one : World (Thing X) ObjectType Group (List (List Selection))
-  one = plain_world (introspected schema sources fragments variables types resolves)
+  abbrev at : Trail → Segment → TypeRef → Group → Spot Group
+  at around step ty g = record { around = around; step = step; type = ty; group = g }
 
-  abbrev pub two : World (Thing Y) ObjectType Group (List (List Selection))
-  two = plain_world (introspected schema sources fragments variables others answers)
+  module _ (run : Below w) (blind : IsBlind run) where
+    module _ (f : Field) (ps qs : List (List Selection)) (same : SameFirst ps qs) where
+      alike_object : (a : Trail) (s : Segment) (t : TypeRef) (x : X) (o : Option ObjectType)
+          → object_made w run (at a s t (one f ps)) x o ≡ object_made w run (at a s t (one f qs)) x o
+      alike_object a s t x None = refl
+      alike_object a s t x (Some U) = ap one_object (blind U x ((s, t) ∷ a) ps qs same)
 
-  -- runs that agree on objects of introspection
-  abbrev pub Agree : Below one → Below two → Type 0
-  Agree run other = (U : ObjectType) (own : Schema) (m : Meta) (outer : Trail) (sets : List (List Selection)) → run U (of_library own m) outer sets ≡ other U (of_library own m) outer sets
+      mutual
+        alike_value : (a : Trail) (s : Segment) (t : TypeRef) (m : Meaning X) → value_made w run (at a s t (one f ps)) m ≡ value_made w run (at a s t (one f qs)) m
+        alike_value a s t (gives_leaf v) = refl
+        alike_value a s t (gives_object x) = alike_object a s t x (w.type_of x)
+        alike_value a s t (gives_list ms) = ap one_array (alike_items a s t 0 ms)
+        alike_value a s t gives_skip = refl
+        alike_value a s t (fails_with text) = refl
 
-  misfit-same : (ty : TypeRef) (own : Schema) (m : Meaning Meta) → one.misfit ty (told_of own m) ≡ two.misfit ty (told_of own m)
-  misfit-same ty own (gives_leaf v) = refl
-  misfit-same ty own (gives_object m) = refl
-  misfit-same ty own (gives_list ms) = refl
-  misfit-same ty own gives_skip = refl
-  misfit-same ty own (fails_with text) = refl
+        alike_items : (a : Trail) (s : Segment) (t : TypeRef) (i : ℕ) (ms : Meanings X)
+            → items_made w run (at a s t (one f ps)) i ms ≡ items_made w run (at a s t (one f qs)) i ms
+        alike_items a s t i no_answer = refl
+        alike_items a s t i (answer_then m ms) =
+            let it = item_spot (at a s t (one f ps)) i in
+            let other = item_spot (at a s t (one f qs)) i in
+            ap (λ (v : Made Value). then_rest (settled it (unless_misfit w it (w.misfit it.type m) v)) (items_made w run (at a s t (one f ps)) (i + 1) ms)) (alike_value it.around it.step it.type m)
+            ∙ ap (λ (rest : Made Value). then_rest (settled other (unless_misfit w other (w.misfit other.type m) (value_made w run other m))) rest) (alike_items a s t (i + 1) ms)
 
-  unless-same : (spot : Spot Group) (o : Option Misfit) (made : Made Value) → unless_misfit one spot o made ≡ unless_misfit two spot o made
-  unless-same spot None made = refl
-  unless-same spot (Some misfit) made = refl
+      alike_field : (a : Trail) (s : Segment) (t : TypeRef) (outcome : Outcome X) → field_made w run (at a s t (one f ps)) outcome ≡ field_made w run (at a s t (one f qs)) outcome
+      alike_field a s t (answered m) =
+          ap (λ (v : Made Value). settled (at a s t (one f ps)) (unless_misfit w (at a s t (one f ps)) (w.misfit t m) v)) (alike_value a s t m)
+      alike_field a s t (refused fault) = refl
 
-  module _ (run : Below one) (other : Below two) (agree : Agree run other) where
-    object-same : (spot : Spot Group) (own : Schema) (m : Meta) (found : Option ObjectType)
-        → object_made one run spot (of_library own m) found ≡ object_made two other spot (of_library own m) found
-    object-same spot own m None = refl
-    object-same spot own m (Some U) = ap (one_object) (agree U own m (trail spot) (one.below spot.group))
+    abbrev made_of : ObjectType → X → Trail → Group → Made Member
+    made_of U x outer g = with_key (key_of w g) (field_made w run (field_spot w U outer g) (w.asks U x g))
 
-    -- at a place, whatever is made of it there
-    fit-same : (spot : Spot Group) (own : Schema) (m : Meaning Meta) → value_made one run spot (told_of own m) ≡ value_made two other spot (told_of own m)
-        → unless_misfit one spot (one.misfit spot.type (told_of own m)) (value_made one run spot (told_of own m))
-        ≡ unless_misfit two spot (two.misfit spot.type (told_of own m)) (value_made two other spot (told_of own m))
-    fit-same spot own m same =
-        ap (λ (v : Made Value). unless_misfit one spot (one.misfit spot.type (told_of own m)) v) same
-        ∙ ap (λ (o : Option Misfit). unless_misfit one spot o (value_made two other spot (told_of own m))) (misfit-same spot.type own m)
-        ∙ unless-same spot (two.misfit spot.type (told_of own m)) (value_made two other spot (told_of own m))
+    alike_one : (U : ObjectType) (x : X) (outer : Trail) (g h : Group) → IsAlike g h → made_of U x outer g ≡ made_of U x outer h
+    alike_one U x outer g h alike =
+        let here = field_spot w U outer g in
+        ap (with_key (key_of w g)) (alike_field g.first g.pieces h.pieces alike.1 here.around here.step here.type (w.asks U x g))
+        ∙ ap (λ f. made_of U x outer (one f h.pieces)) alike.0
 
-    mutual
-      value-same : (spot : Spot Group) (own : Schema) (m : Meaning Meta) → value_made one run spot (told_of own m) ≡ value_made two other spot (told_of own m)
-      value-same spot own (gives_leaf v) = refl
-      value-same spot own (gives_object m) = object-same spot own m (one.type_of (of_library own m))
-      value-same spot own (gives_list ms) = ap (one_array) (items-same spot 0 own ms)
-      value-same spot own gives_skip = refl
-      value-same spot own (fails_with text) = refl
+    pub alike_groups : (U : ObjectType) (x : X) (outer : Trail) (gs hs : List Group) → AreAlike gs hs → groups_made w run U x outer gs ≡ groups_made w run U x outer hs
+    alike_groups U x outer [] [] alike = refl
+    alike_groups U x outer [] (h ∷ hs) alike = absurd alike
+    alike_groups U x outer (g ∷ gs) [] alike = absurd alike
+    alike_groups U x outer (g ∷ gs) (h ∷ hs) alike =
+        ap (λ (v : Made Member). then_rest v (groups_made w run U x outer gs)) (alike_one U x outer g h alike.0)
+        ∙ ap (λ (rest : Made Member). then_rest (made_of U x outer h) rest) (alike_groups U x outer gs hs alike.1)
 
-      items-same : (list : Spot Group) (i : ℕ) (own : Schema) (ms : Meanings Meta)
-          → items_made one run list i (all_mapped (of_library own) ms) ≡ items_made two other list i (all_mapped (of_library own) ms)
-      items-same list i own no_answer = refl
-      items-same list i own (answer_then m ms) =
-          let spot = item_spot list i in
-          let first = ap (λ (v : Made Value). settled spot v) (fit-same spot own m (value-same spot own m)) in
-          ap (λ (v : Made Value). then_rest v (items_made one run list (i + 1) (all_mapped (of_library own) ms))) first
-          ∙ ap (λ (r : Made Value). then_rest (settled spot (unless_misfit two spot (two.misfit spot.type (told_of own m)) (value_made two other spot (told_of own m)))) r)
-          (items-same list (i + 1) own ms)
+  pub blind : (d : ℕ) → IsBlind (execute w d)
+  blind zero U y outer ps qs same = refl
+  blind (suc d) U y outer ps qs same = alike_groups (execute w d) (blind d) U y outer (plain r U ps) (plain r U qs) (sets-alike U ps qs same)
 
-    pub field-same : (spot : Spot Group) (own : Schema) (o : Outcome Meta) → field_made one run spot (outcome_of own o) ≡ field_made two other spot (outcome_of own o)
-    field-same spot own (answered m) = ap (λ (v : Made Value). settled spot v) (fit-same spot own m (value-same spot own m))
-    field-same spot own (refused fault) = refl
+  -- ---- how deep is enough
 
-    field-on : (spot : Spot Group) (U : ObjectType) (own : Schema) (m : Meta) (g : Group)
-        → field_made one run spot (one.asks U (of_library own m) g) ≡ field_made two other spot (two.asks U (of_library own m) g)
-    field-on spot U own m g =
-        let o = after_arguments (library_answer U own m g.first.name.text) (arguments_at (introspected schema sources fragments variables types resolves) (definition_on schema U g.first) g.first) in
-        ap (λ (x : Outcome (Thing X)). field_made one run spot x) (library-asks schema sources fragments variables types resolves U own m g.first)
-        ∙ field-same spot own o
-        ∙ ap (λ (x : Outcome (Thing Y)). field_made two other spot x) (sym (library-asks schema sources fragments variables others answers U own m g.first))
+  nothing-alike : (gs hs : List Group) → AreAlike gs hs → hs ≡ [] → gs ≡ []
+  nothing-alike [] hs alike none = refl
+  nothing-alike (g ∷ gs) [] alike none = absurd alike
+  nothing-alike (g ∷ gs) (h ∷ hs) alike none = cc
 
-    groups-same : (U : ObjectType) (own : Schema) (m : Meta) (outer : Trail) (gs : List Group)
-        → groups_made one run U (of_library own m) outer gs ≡ groups_made two other U (of_library own m) outer gs
-    groups-same U own m outer [] = refl
-    groups-same U own m outer (g ∷ gs) =
-        ap (λ (v : Made Value). then_rest (with_key (key_of one g) v) (groups_made one run U (of_library own m) outer gs)) (field-on (field_spot one U outer g) U own m g)
-        ∙ ap (λ (r : Made Member). then_rest (with_key (key_of one g) (field_made two other (field_spot two U outer g) (two.asks U (of_library own m) g))) r) (groups-same U own m outer gs)
+  abbrev IsEnough : ℕ → Group → Type 0
+  IsEnough d g = (W : ObjectType) → Suffices w d W (w.below g)
 
-  pub alike : (depth : ℕ) → Agree (execute one depth) (execute two depth)
-  alike zero U own m outer sets = refl
-  alike (suc d) U own m outer sets = groups-same (execute one d) (execute two d) (alike d) U own m outer (one.groups U sets)
+  -- sets for which a depth is enough where it is for others
+  abbrev IsAsDeep : ℕ → Type 0
+  IsAsDeep d = (W : ObjectType) (ps qs : List (List Selection)) → SameFirst ps qs → Suffices w d W qs → Suffices w d W ps
+
+  enough-alike : (d : ℕ) → IsAsDeep d → (gs hs : List Group) → AreAlike gs hs → AllGroups w (IsEnough d) hs → AllGroups w (IsEnough d) gs
+  enough-alike d deep [] hs alike enough = tt
+  enough-alike d deep (g ∷ gs) [] alike enough = absurd alike
+  enough-alike d deep (g ∷ gs) (h ∷ hs) alike enough =
+      (λ W. deep W g.pieces h.pieces alike.0.1 (enough.0 W), enough-alike d deep gs hs alike.1 enough.1)
+
+  as-deep : (d : ℕ) → IsAsDeep d
+  as-deep zero W ps qs same enough = nothing-alike (plain r W ps) (plain r W qs) (sets-alike W ps qs same) enough
+  as-deep (suc d) W ps qs same enough = enough-alike d (as-deep d) (plain r W ps) (plain r W qs) (sets-alike W ps qs same) enough
+
+  -- ---- keys
+
+  others-alike : (k : List ℕ) (gs hs : List Group) → AreAlike gs hs → AllByRecursion (λ h. ¬ (k ≡ key_of w h)) hs → AllByRecursion (λ h. ¬ (k ≡ key_of w h)) gs
+  others-alike k [] hs alike all = tt
+  others-alike k (g ∷ gs) [] alike all = absurd alike
+  others-alike k (g ∷ gs) (h ∷ hs) alike all =
+      (λ same. all.0 (same ∙ ap (λ f. (response_name f).text) alike.0.0), others-alike k gs hs alike.1 all.1)
+
+  distinct-alike : (gs hs : List Group) → AreAlike gs hs → DistinctKeys w hs → DistinctKeys w gs
+  distinct-alike [] hs alike apart = tt
+  distinct-alike (g ∷ gs) [] alike apart = absurd alike
+  distinct-alike (g ∷ gs) (h ∷ hs) alike apart = (
+    others-alike (key_of w g) gs hs alike.1 (subst (λ f. AllByRecursion (λ i. ¬ ((response_name f).text ≡ key_of w i)) hs) (sym alike.0.0) apart.0),
+    distinct-alike gs hs alike.1 apart.1,
+  )
+
+  -- ---- collected groups
+
+  pub collected-distinct : (U : ObjectType) (gs : List FieldGroup) (sets : List (List Selection)) → SameGroups gs (applying (setting_on r U) sets)
+      → DistinctKeys w (groups_from gs)
+  collected-distinct U gs sets same = distinct-alike (groups_from gs) (w.groups U sets) (groups-alike same) ((lawful r).distinct_keys U sets)
+
+  pub collected-runs : (U : ObjectType) (gs : List FieldGroup) (sets : List (List Selection)) → SameGroups gs (applying (setting_on r U) sets)
+      → (depth : ℕ) → Suffices w depth U sets → RunsAs w depth U sets (groups_from gs)
+  collected-runs U gs sets same zero enough =
+      let none : groups_from gs ≡ [] = nothing-alike (groups_from gs) (w.groups U sets) (groups-alike same) enough in
+      record {
+        depth = zero;
+        enough = subst (AllGroups w (IsEnough zero)) (sym none) tt;
+        runs = λ x outer. sym (ap (groups_made w (execute w zero) U x outer) none);
+      }
+  collected-runs U gs sets same (suc d) enough = record {
+    depth = d;
+    enough = enough-alike d (as-deep d) (groups_from gs) (w.groups U sets) (groups-alike same) enough;
+    runs = λ x outer. sym (alike_groups (execute w d) (blind d) U x outer (groups_from gs) (w.groups U sets) (groups-alike same));
+  }

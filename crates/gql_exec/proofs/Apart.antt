@@ -12,12 +12,12 @@ use Rattle.gql_collect.specs.declared.plan.Node.{Node}
 use Rattle.gql_collect.specs.declared.plan.Part.{Part}
 use Rattle.gql_collect.proofs.Joined.{all-of, map-one, one-joined, apart-map, apart-joined}
 use Rattle.gql_collect.proofs.Nodes.{IsNodeTo, HasNodesTo}
-use Rattle.gql_exec_fields.specs.RequestWorld.{plain_world}
-use Rattle.gql_exec_fields.specs.Executing.{request_of}
-use Rattle.gql_exec_fields.specs.Planning.{ground_in}
-use Rattle.gql_exec_fields.specs.declared.executing.Executing.{Executing}
-use Rattle.gql_exec_fields.proofs.Collecting.{views-apart}
-use Rattle.gql_exec_fields.proofs.Views.{views}
+use Rattle.gql_exec.specs.RequestWorld.{plain_world}
+use Rattle.gql_exec.specs.Executing.{request_of}
+use Rattle.gql_exec.specs.Planning.{ground_in}
+use Rattle.gql_exec.specs.declared.executing.Executing.{Executing}
+use Rattle.gql_exec.proofs.Collecting.{views-apart}
+use Rattle.gql_exec.proofs.Views.{views}
 
 all-in : {A : Type 0} (P : A → Type 0) (xs : List A) (x : A) → AllByRecursion P xs → IsOneOf x xs → P x
 all-in P [] x all is = absurd is

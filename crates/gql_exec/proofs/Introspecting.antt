@@ -8,11 +8,11 @@ use Rattle.gql_resolvers.specs.Execute.{Member}
 use Rattle.gql_exec.specs.Thing.{of_user, type_of_thing}
 use Rattle.gql_exec.specs.ThingMeaning.{Resolving, thing_meaning}
 use Rattle.gql_exec.specs.Execution.{Prepared, prepared, AnswersBy, Answers, IsAnswer, Looks, CountsBy, Counts, IsCounted}
-use Rattle.gql_exec_fields.specs.Output.{AreWritten, Finds}
+use Rattle.gql_exec.specs.Output.{AreWritten, Finds}
 use Rattle.gql_exec.specs.Running.{Runs, RunsBy, RunsOver, response_of}
 use Rattle.gql_exec.specs.declared.executed.Executed.{Executed}
 use Rattle.gql_exec.specs.declared.execution.Execution.{Execution}
-use Rattle.gql_exec_fields.proofs.Outputs.{finds-as}
+use Rattle.gql_exec.proofs.Outputs.{finds-as}
 
 module _ {X : Type 0} (execution : Execution) (types : X → List ℕ) (resolves : Resolving X) (x : X) (before after : ℕ) (wanted : Result Prepared RequestError) where
   answer-counted : (answer : Result ExecutionResponse (Refused RequestError)) → IsCounted execution types resolves x before after wanted answer

@@ -14,16 +14,16 @@ use Rattle.gql_collect.specs.declared.plan.Part.{Part}
 use Rattle.gql_collect.proofs.Joined.{all-of}
 use Rattle.gql_collect.proofs.Nodes.{same-collected}
 use Rattle.gql_collect.proofs.Ways.{fresh-ways}
-use Rattle.gql_exec_fields.specs.Group.{Group}
-use Rattle.gql_exec_fields.specs.RequestWorld.{plain_world}
-use Rattle.gql_exec_fields.specs.Executing.{request_of}
-use Rattle.gql_exec_fields.specs.Looks.{AreLooks, PartsGrow}
-use Rattle.gql_exec_fields.specs.Opened.{Opens, OpensBy}
-use Rattle.gql_exec_fields.specs.Planning.{ground_in}
-use Rattle.gql_exec_fields.specs.declared.executing.Executing.{Executing}
+use Rattle.gql_exec.specs.Group.{Group}
+use Rattle.gql_exec.specs.RequestWorld.{plain_world}
+use Rattle.gql_exec.specs.Executing.{request_of}
+use Rattle.gql_exec.specs.Looks.{AreLooks, PartsGrow}
+use Rattle.gql_exec.specs.Opened.{Opens, OpensBy}
+use Rattle.gql_exec.specs.Planning.{ground_in}
+use Rattle.gql_exec.specs.declared.executing.Executing.{Executing}
 use Rattle.gql_exec.proofs.Apart.{all-apart}
-use Rattle.gql_exec_fields.proofs.Opening.{opens-collected}
-use Rattle.gql_exec_fields.proofs.Views.{views}
+use Rattle.gql_exec.proofs.Opening.{opens-collected}
+use Rattle.gql_exec.proofs.Views.{views}
 
 module _ {X : Type 0} (e : Executing) (types : X → List ℕ) (resolves : Resolving X) (U : ObjectType) (x : X) (sets : List (List Selection))
     (alone : sets ≡ e.operation.now.selection_set.selections ∷ []) (before between after : ℕ) (parts now : List Part) (planned : ArePartsOf (ground_in e) U sets parts)

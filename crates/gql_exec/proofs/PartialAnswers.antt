@@ -11,11 +11,11 @@ use Rattle.gql_schema_types.specs.Schemas.{object_of}
 use Rattle.gql_schema_types.specs.declared.implementers.Implementers.{Implementers}
 use Rattle.gql_schema_types.specs.declared.schema.Schema.{Schema}
 use Rattle.gql_schema_types.specs.declared.types.ObjectType.{ObjectType}
-use Rattle.gql_exec.specs.Request.{no_name, no_field}
+use Rattle.gql_exec.specs.IntrospectedRequest.{no_name, no_field}
 use Rattle.gql_exec.specs.Thing.{of_user, type_of_thing}
 use Rattle.gql_exec.specs.ThingMeaning.{thing_meaning}
-use Rattle.gql_exec_fields.specs.Request.{Members}
-use Rattle.gql_exec_fields.specs.Response.{IsExecuted, IsExplained}
+use Rattle.gql_exec.specs.Request.{Members}
+use Rattle.gql_exec.specs.Response.{IsExecuted, IsExplained}
 use Rattle.gql_exec.specs.Execution.{started, with_operation, with_implementers, with_values, with_introspection, Prepared, undefined_root, on_root, request_in, IsAnswer, Answers}
 use Rattle.gql_exec.specs.Partial.{IsPartialOn, IsPartial}
 use Rattle.gql_exec.specs.declared.execution.Execution.{Execution}

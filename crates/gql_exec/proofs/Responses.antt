@@ -13,13 +13,13 @@ use Rattle.gql_resolvers.specs.Trail.{Trail}
 use Rattle.gql_resolvers.proofs.Distinct.{distinct_paths}
 use Rattle.gql_resolvers.proofs.Explains.{explained}
 use Rattle.gql_resolvers.proofs.Faults.{true_faults}
-use Rattle.gql_exec_fields.specs.Nesting.{nesting}
-use Rattle.gql_exec_fields.specs.Request.{Request}
-use Rattle.gql_exec_fields.specs.RequestWorld.{plain_world}
-use Rattle.gql_exec_fields.specs.Response.{response_at, IsExecuted, IsExplained}
-use Rattle.gql_exec_fields.proofs.Lawful.{lawful}
-use Rattle.gql_exec_fields.proofs.Nests.{suffices}
-use Rattle.gql_exec_fields.specs.Executed.{Executes}
+use Rattle.gql_exec.specs.Nesting.{nesting}
+use Rattle.gql_exec.specs.Request.{Request}
+use Rattle.gql_exec.specs.RequestWorld.{plain_world}
+use Rattle.gql_exec.specs.Response.{response_at, IsExecuted, IsExplained}
+use Rattle.gql_exec.proofs.Lawful.{lawful}
+use Rattle.gql_exec.proofs.Nests.{suffices}
+use Rattle.gql_exec.specs.Executed.{Executes}
 
 module _ {X : Type 0} (r : Request X) (rank : ℕ → ℕ) (ranked : AreRanked r.fragments rank) (root : ObjectType) (x : X) (selections : List Selection) where
   explained-at : (depth : ℕ) → Suffices (plain_world r) depth root (selections ∷ []) → IsExplained r root x selections (response_at r root x selections depth)

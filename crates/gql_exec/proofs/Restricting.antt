@@ -11,17 +11,17 @@ use Rattle.gql_resolvers.specs.Depth.{AllGroups, Suffices}
 use Rattle.gql_resolvers.specs.Execute.{Made, Member, execute}
 use Rattle.gql_resolvers.specs.World.{World, key_of}
 use Rattle.gql_resolvers.proofs.Deeper.{deeper}
-use Rattle.gql_exec_fields.specs.Asks.{definition_on, arguments_at}
-use Rattle.gql_exec_fields.specs.Group.{Group}
-use Rattle.gql_exec_fields.specs.Request.{Members, Request}
-use Rattle.gql_exec_fields.specs.RequestWorld.{plain, plain_world}
-use Rattle.gql_exec_fields.specs.Response.{IsExecuted}
-use Rattle.gql_exec_fields.proofs.Lawful.{lawful}
-use Rattle.gql_exec.specs.Request.{no_name, no_field, introspected_request, partial_request}
+use Rattle.gql_exec.specs.Asks.{definition_on, arguments_at}
+use Rattle.gql_exec.specs.Group.{Group}
+use Rattle.gql_exec.specs.Request.{Members, Request}
+use Rattle.gql_exec.specs.RequestWorld.{plain, plain_world}
+use Rattle.gql_exec.specs.Response.{IsExecuted}
+use Rattle.gql_exec.proofs.Lawful.{lawful}
+use Rattle.gql_exec.specs.IntrospectedRequest.{no_name, no_field, introspected_request, partial_request}
 use Rattle.gql_exec.specs.Restricted.{is_meta, is_meta_key, restricted, HasNoOwn, OthersCoerce}
 use Rattle.gql_exec.specs.Thing.{Thing, of_user}
 use Rattle.gql_exec.specs.ThingMeaning.{Resolving}
-use Rattle.gql_exec.proofs.Alike.{alike}
+use Rattle.gql_exec.proofs.ThingsAlike.{alike}
 use Rattle.gql_exec.proofs.Depths.{one_more, any-depth}
 use Rattle.gql_exec.proofs.Roots.{is-root, groups-defined, own-keys, IsDefined}
 use Rattle.gql_exec.proofs.Split.{IsSplit, split}

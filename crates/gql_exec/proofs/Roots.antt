@@ -3,7 +3,7 @@ use Rattle.std.proofs.Common.{◌≡◌, Bool, true, false, cond, ◌&&◌, ◌|
 use Rattle.std.specs.List.{AllByRecursion, filter}
 use Rattle.std.specs.Option.{option_or, option_and_then, option_map_or}
 use Rattle.std.specs.Str.{bytes_eq}
-use Rattle.gql_ast_definitions.specs.declared.field_definition.FieldDefinition.{FieldDefinition}
+use Rattle.gql_ast.specs.declared.field_definition.FieldDefinition.{FieldDefinition}
 use Rattle.gql_document_types.specs.declared.selection.Field.{Field}
 use Rattle.gql_document_types.specs.declared.selection.Selection.{Selection}
 use Rattle.gql_schema_types.specs.Entries.{entry}
@@ -18,9 +18,9 @@ use Rattle.gql_collect.specs.Groups.{FieldGroup, groups_of, has_field, is_define
 use Rattle.gql_collect.proofs.Keys.{Text, text-same, text-itself}
 use Rattle.gql_resolvers.specs.Depth.{AllGroups}
 use Rattle.gql_resolvers.specs.World.{World, key_of, DistinctKeys}
-use Rattle.gql_exec_fields.specs.Group.{Group, started, groups_from}
-use Rattle.gql_exec_fields.specs.Request.{Request}
-use Rattle.gql_exec_fields.specs.RequestWorld.{plain, plain_world, setting_on}
+use Rattle.gql_exec.specs.Group.{Group, started, groups_from}
+use Rattle.gql_exec.specs.Request.{Request}
+use Rattle.gql_exec.specs.RequestWorld.{plain, plain_world, setting_on}
 use Rattle.gql_exec.specs.Restricted.{is_meta, is_meta_key, HasNoOwn}
 use Rattle.gql_exec.proofs.Split.{IsRoot}
 

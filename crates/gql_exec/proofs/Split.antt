@@ -21,14 +21,14 @@ use Rattle.gql_resolvers.specs.Spot.{Spot, field_spot}
 use Rattle.gql_resolvers.specs.Trail.{Trail}
 use Rattle.gql_resolvers.specs.World.{World, key_of}
 use Rattle.gql_introspection.specs.Meta.{Meta}
-use Rattle.gql_exec_fields.specs.Asks.{definition_on, arguments_at, answer, asked, asks, is_introspection}
-use Rattle.gql_exec_fields.specs.Group.{Group}
-use Rattle.gql_exec_fields.specs.Request.{Members, Request}
-use Rattle.gql_exec.specs.Request.{no_name, no_field}
+use Rattle.gql_exec.specs.Asks.{definition_on, arguments_at, answer, asked, asks, is_introspection}
+use Rattle.gql_exec.specs.Group.{Group}
+use Rattle.gql_exec.specs.Request.{Members, Request}
+use Rattle.gql_exec.specs.IntrospectedRequest.{no_name, no_field}
 use Rattle.gql_exec.specs.Restricted.{is_meta_name, is_meta}
 use Rattle.gql_exec.specs.Thing.{Thing, of_user}
 use Rattle.gql_exec.specs.ThingMeaning.{Resolving, root_meaning, own_meaning}
-use Rattle.gql_exec.proofs.Alike.{told_of, outcome_of, named_or, after_arguments, introspected, one, two, Agree, field-same}
+use Rattle.gql_exec.proofs.ThingsAlike.{told_of, outcome_of, named_or, after_arguments, introspected, one, two, Agree, field-same}
 
 -- a field with a name of introspection is one of introspection, unless it is `__typename`
 abbrev pub IsRoot : Schema → ObjectType → Group → Type 0

@@ -8,9 +8,9 @@ use Rattle.gql_introspection.specs.RootFields.{schema_field_meaning, type_field_
 use Rattle.gql_exec.specs.Mapped.{mapped, all_mapped}
 use Rattle.gql_exec.specs.Thing.{Thing, of_user, of_library, schema_of_thing}
 use Rattle.gql_exec.specs.ThingMeaning.{Resolving, root_meaning, own_meaning, thing_meaning}
-use Rattle.gql_exec_fields.proofs.Skipless.{either-skipless}
-use Rattle.gql_exec_fields.specs.Asks.{is_introspection}
-use Rattle.gql_exec_fields.specs.NeverSkips.{NeverSkips}
+use Rattle.gql_exec.proofs.Skipless.{either-skipless}
+use Rattle.gql_exec.specs.Asks.{is_introspection}
+use Rattle.gql_exec.specs.NeverSkips.{NeverSkips}
 use Rattle.gql_resolvers.specs.Meaning.{Members}
 use Rattle.gql_resolvers.specs.Resolved.{Meaning, Meanings, gives_leaf, gives_object, gives_list, gives_skip, fails_with, no_answer, answer_then}
 use Rattle.gql_resolvers.specs.Skips.{SkipsNothing, SkipNothing}

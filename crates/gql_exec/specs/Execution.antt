@@ -18,10 +18,10 @@ use Rattle.gql_schema_types.specs.declared.types.ObjectType.{ObjectType}
 use Rattle.gql_collect.specs.RequestErrors.{request_error}
 use Rattle.gql_exec.specs.Thing.{of_user, type_of_thing}
 use Rattle.gql_exec.specs.ThingMeaning.{Resolving, thing_meaning}
-use Rattle.gql_exec_fields.specs.Request.{Members, Request}
-use Rattle.gql_exec_fields.specs.Response.{IsExecuted, IsExplained}
-use Rattle.gql_exec_fields.specs.Executing.{request_by}
-use Rattle.gql_exec_fields.specs.Looks.{AreLooks}
+use Rattle.gql_exec.specs.Request.{Members, Request}
+use Rattle.gql_exec.specs.Response.{IsExecuted, IsExplained}
+use Rattle.gql_exec.specs.Executing.{request_by}
+use Rattle.gql_exec.specs.Looks.{AreLooks}
 use Rattle.gql_exec.specs.declared.execution.Execution.{Execution}
 use Rattle.gql_exec.specs.declared.execution.Given.{Given}
 use Rattle.gql_exec.specs.declared.execution.Given.TheVariants.{Nothing, Coerced, Raw}

@@ -9,10 +9,10 @@ use Rattle.gql_response.specs.declared.execution_response.ExecutionResponse.{Exe
 use Rattle.gql_schema_types.specs.Schemas.{object_of}
 use Rattle.gql_schema_types.specs.declared.schema.Schema.{Schema}
 use Rattle.gql_schema_types.specs.declared.types.ObjectType.{ObjectType}
-use Rattle.gql_exec.specs.Request.{partial_request}
+use Rattle.gql_exec.specs.IntrospectedRequest.{partial_request}
 use Rattle.gql_exec.specs.Thing.{Thing, of_user}
-use Rattle.gql_exec_fields.specs.Request.{Members, Request}
-use Rattle.gql_exec_fields.specs.Response.{IsExecuted, IsExplained}
+use Rattle.gql_exec.specs.Request.{Members, Request}
+use Rattle.gql_exec.specs.Response.{IsExecuted, IsExplained}
 use Rattle.gql_exec.specs.Execution.{undefined_root}
 
 -- the request with introspection on an object that leaves every field out

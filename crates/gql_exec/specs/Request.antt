@@ -1,30 +1,22 @@
--- What an execution with introspection on goes by: section 4 of GraphQL October 2021.
-use Rattle.std.specs.Prelude.{ℕ, List, []}
+-- What an execution goes by.
+use Rattle.std.specs.Prelude.{ℕ, List}
+use Rattle.jb_tree.specs.declared.value.Value.{Value}
 use Rattle.gql_source.specs.File.{Files}
 use Rattle.gql_document_types.specs.declared.fragment.Fragment.{Fragment}
 use Rattle.gql_schema_types.specs.declared.schema.Schema.{Schema}
-use Rattle.gql_resolvers.specs.Resolved.{gives_skip}
-use Rattle.gql_exec_fields.specs.Request.{Members, Request}
-use Rattle.gql_exec.specs.Thing.{Thing, type_of_thing}
-use Rattle.gql_exec.specs.ThingMeaning.{Resolving, thing_meaning}
+use Rattle.gql_schema_types.specs.declared.types.ObjectType.{ObjectType}
+use Rattle.gql_resolvers.specs.Resolved.{Meaning}
 
-abbrev pub introspected_request : {X : Type 0} → Schema → Files → List Fragment → Members → (X → List ℕ) → Resolving X → Request (Thing X)
-introspected_request schema sources fragments variables types resolves = record {
-  schema = schema;
-  sources = sources;
-  fragments = fragments;
-  variables = variables;
-  type_of = type_of_thing types;
-  answers = thing_meaning resolves schema;
-}
+-- the values of variables or of arguments, by their names
+abbrev pub Members : Type 0
+Members = List (List ℕ × Value)
 
--- ---- an object of no name that leaves every field out
-
-abbrev pub no_name : Unit {0} → List ℕ
-no_name object = []
-
-abbrev pub no_field : Resolving (Unit {0})
-no_field schema T object f arguments = gives_skip
-
-abbrev pub partial_request : Schema → Files → List Fragment → Members → Request (Thing (Unit {0}))
-partial_request schema sources fragments variables = introspected_request schema sources fragments variables no_name no_field
+-- The schema; the document's files and fragments; the values of the variables; the name of each object's type; and what a
+-- field of an object is on an object type, by its name and its arguments. X: the objects, the user's and the library's
+pub record Request (X : Type 0) : Type 0 where
+  pub schema : Schema
+  pub sources : Files
+  pub fragments : List Fragment
+  pub variables : Members
+  pub type_of : X → List ℕ
+  pub answers : ObjectType → X → List ℕ → Members → Meaning X

@@ -11,10 +11,10 @@ use Rattle.gql_schema_types.specs.declared.types.ObjectType.{ObjectType}
 use Rattle.gql_collect.specs.Groups.{response_key}
 use Rattle.gql_resolvers.specs.Depth.{AllGroups}
 use Rattle.gql_resolvers.specs.Execute.{Member}
-use Rattle.gql_exec_fields.specs.Asks.{definition_on, arguments_at}
-use Rattle.gql_exec_fields.specs.Group.{Group}
-use Rattle.gql_exec_fields.specs.Request.{Request}
-use Rattle.gql_exec_fields.specs.RequestWorld.{plain, plain_world}
+use Rattle.gql_exec.specs.Asks.{definition_on, arguments_at}
+use Rattle.gql_exec.specs.Group.{Group}
+use Rattle.gql_exec.specs.Request.{Request}
+use Rattle.gql_exec.specs.RequestWorld.{plain, plain_world}
 
 abbrev pub is_meta_name : List ℕ → Bool
 is_meta_name f = bytes_eq f (codes "__typename") || (bytes_eq f (codes "__schema") || bytes_eq f (codes "__type"))

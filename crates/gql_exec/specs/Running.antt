@@ -9,7 +9,7 @@ use Rattle.gql_exec.specs.Thing.{of_user, type_of_thing}
 use Rattle.gql_exec.specs.ThingMeaning.{Resolving, thing_meaning}
 use Rattle.gql_resolvers.specs.Execute.{Member}
 use Rattle.gql_exec.specs.Execution.{Prepared, prepared, Answers, Counts, IsCounted}
-use Rattle.gql_exec_fields.specs.Output.{Finds}
+use Rattle.gql_exec.specs.Output.{Finds}
 use Rattle.gql_exec.specs.declared.executed.Executed.{Executed}
 use Rattle.gql_exec.specs.declared.execution.Execution.{Execution}
 use Rattle.gql_exec.specs.declared.written_response.WrittenResponse.{WrittenResponse}

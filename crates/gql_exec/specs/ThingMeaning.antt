@@ -3,12 +3,12 @@ use Rattle.std.specs.Prelude.{ℕ, List, if◌then◌else◌, codes}
 use Rattle.std.specs.Str.{bytes_eq}
 use Rattle.gql_resolvers.specs.Resolved.{Meaning}
 use Rattle.gql_resolvers.specs.Meaning.{Members}
-use Rattle.gql_exec_fields.specs.Asks.{is_introspection}
+use Rattle.gql_exec.specs.Asks.{is_introspection}
 use Rattle.gql_schema_types.specs.declared.schema.Schema.{Schema}
 use Rattle.gql_introspection.specs.Meta.{Meta}
 use Rattle.gql_introspection.specs.MetaMeaning.{meta_meaning}
 use Rattle.gql_introspection.specs.RootFields.{schema_field_meaning, type_field_meaning}
-pub use Rattle.gql_exec_fields.specs.Executing.{Resolving}
+pub use Rattle.gql_exec.specs.Executing.{Resolving}
 use Rattle.gql_exec.specs.Mapped.{mapped}
 use Rattle.gql_exec.specs.Thing.{Thing, of_user, of_library, schema_of_thing}
 

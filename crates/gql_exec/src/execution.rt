@@ -8,9 +8,9 @@ ghost use Rattle.gql_exec.specs.Running.{AnswersWritten};
 ghost use Rattle.gql_exec.specs.declared.execution.Given.TheVariants as given;
 
 use crate::written_response::{WrittenResponse, written};
+use crate::{TextOutput, TreeOutput};
 use gql_collect::Steps;
 use gql_document_types::{ExecutableDocument, Operation};
-use gql_exec_fields::{TextOutput, TreeOutput};
 use gql_resolvers::ObjectValue;
 use gql_response::{ExecutionResponse, JsonMap, RequestError};
 use gql_schema_types::{ImplementersMap, Schema, Valid};

@@ -9,8 +9,8 @@ ghost use Rattle.gql_exec.specs.Seen.{thing_by};
 ghost use Rattle.gql_exec.specs.Thing.{of_library, of_user};
 ghost use Rattle.gql_exec.specs.ThingMeaning.{own_meaning, root_meaning};
 
+use crate::is_introspection;
 use crate::standing::{Standing, answer};
-use gql_exec_fields::is_introspection;
 use gql_introspection::{MetaObject, schema_field, type_field};
 use gql_resolvers::{ObjectValue, ResolveError, ResolveInfo, ResolvedValue};
 use gql_schema_types::{Schema, Valid};

@@ -9,15 +9,28 @@
 //! `__type`, and any other field as the object that it stands for.
 #![tactic(auto)]
 
+mod asking;
+mod completed;
 mod executed;
+mod executing;
 mod execution;
+mod faults;
+pub mod field_laws;
+mod ground;
 mod introspected;
 pub mod laws;
+mod output;
 mod partial;
+mod path;
+mod place;
 mod running;
 mod standing;
+mod text_output;
+mod tree_output;
 mod written_response;
 
+pub use asking::{Asked, is_introspection};
+pub use executing::Executing;
 pub use execution::Execution;
 pub use gql_collect::{
     Grouped, Pieces, Steps, check_max_depth, coerce_variable_values, collect_fields,
@@ -28,5 +41,10 @@ pub use gql_resolvers::{
 };
 pub use introspected::Introspected;
 pub use jb_text::Memory;
+pub use output::Output;
 pub use partial::partial_execute;
+pub use path::{Path, Step};
+pub use place::{Place, item_of};
+pub use text_output::{OpenList, OpenObject, TextOutput};
+pub use tree_output::TreeOutput;
 pub use written_response::WrittenResponse;

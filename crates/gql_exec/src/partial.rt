@@ -16,7 +16,7 @@ use std::alloc::Global;
 struct NoFields;
 
 impl ObjectValue for NoFields {
-    ghost use Rattle.gql_exec.specs.Request.{no_name, no_field};
+    ghost use Rattle.gql_exec.specs.IntrospectedRequest.{no_name, no_field};
 
     ghost Seen = { Unit {0} };
 

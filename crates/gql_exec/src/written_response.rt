@@ -3,12 +3,12 @@
 ghost use Rattle.std.specs.Prelude.{◌≡◌, [], List, Option, IfOk};
 ghost use Rattle.jb_print.specs.Compact.{compact};
 ghost use Rattle.gql_resolvers.specs.Execute.{Member};
-ghost use Rattle.gql_exec_fields.specs.Output.{AreWritten};
-ghost use Rattle.gql_exec_fields.specs.Written.{IsOpenObject};
+ghost use Rattle.gql_exec.specs.Output.{AreWritten};
+ghost use Rattle.gql_exec.specs.Written.{IsOpenObject};
 ghost use Rattle.gql_response.specs.Response.{data_value};
 
 use crate::executed::Executed;
-use gql_exec_fields::{OpenObject, Output, TextOutput};
+use crate::{OpenObject, Output, TextOutput};
 use gql_response::GraphQLError;
 use jb_text::{Listed, Memory, Text};
 use jb_tree::Value;

@@ -12,10 +12,10 @@ use Rattle.gql_resolvers.specs.Depth.{Suffices}
 use Rattle.gql_resolvers.specs.Execute.{Made, Member, execute, groups_made}
 use Rattle.gql_resolvers.specs.Trail.{Trail}
 use Rattle.gql_resolvers.specs.World.{World}
-use Rattle.gql_exec_fields.specs.Group.{Group, groups_from}
-use Rattle.gql_exec_fields.specs.Nesting.{nesting}
-use Rattle.gql_exec_fields.specs.RequestWorld.{plain_world, setting_on}
-use Rattle.gql_exec_fields.proofs.Nests.{suffices}
+use Rattle.gql_exec.specs.Group.{Group, groups_from}
+use Rattle.gql_exec.specs.Nesting.{nesting}
+use Rattle.gql_exec.specs.RequestWorld.{plain_world, setting_on}
+use Rattle.gql_exec.proofs.Nests.{suffices}
 use Rattle.gql_response.specs.Response.{response_value}
 use Rattle.gql_response.specs.declared.execution_response.ExecutionResponse.{ExecutionResponse}
 use Rattle.gql_schema_types.specs.declared.types.ObjectType.{ObjectType}

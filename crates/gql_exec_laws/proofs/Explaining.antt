@@ -3,11 +3,11 @@ use Rattle.std.proofs.Common.{◌≡◌, ℕ, zero, List, [], ◌∷◌, Option,
 use Rattle.std.specs.Prelude.{Contains}
 use Rattle.std.specs.List.{AllByRecursion}
 use Rattle.std.proofs.lemmas.List.Elements.{All-contains_itself, recursion_from_All}
-use Rattle.gql_exec_fields.specs.NeverSkips.{IsNeverSkipped, IsFullyExplained}
-use Rattle.gql_exec_fields.specs.Nesting.{nesting}
-use Rattle.gql_exec_fields.proofs.Lawful.{lawful}
-use Rattle.gql_exec_fields.proofs.Nests.{suffices}
-use Rattle.gql_exec_fields.proofs.Skipless.{reaches-none}
+use Rattle.gql_exec.specs.NeverSkips.{IsNeverSkipped, IsFullyExplained}
+use Rattle.gql_exec.specs.Nesting.{nesting}
+use Rattle.gql_exec.proofs.Lawful.{lawful}
+use Rattle.gql_exec.proofs.Nests.{suffices}
+use Rattle.gql_exec.proofs.Skipless.{reaches-none}
 use Rattle.gql_response.specs.declared.graphql_error.GraphQLError.{GraphQLError}
 use Rattle.gql_resolvers.specs.Depth.{Suffices}
 use Rattle.gql_resolvers.specs.Distinct.{DistinctPaths}

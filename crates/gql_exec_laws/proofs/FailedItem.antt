@@ -1,11 +1,11 @@
 -- Items that fail: each nulls itself, or the list where items must not be null.
 use Rattle.std.proofs.Common.{◌≡◌, ℕ, List, [], ◌∷◌, Some, refl, ◌∙◌, codes, pos}
 use Rattle.jb_tree.specs.declared.value.Value.TheVariants as json
-use Rattle.gql_ast_definitions.specs.declared.field_definition.FieldDefinition.{FieldDefinition}
+use Rattle.gql_ast.specs.declared.field_definition.FieldDefinition.{FieldDefinition}
 use Rattle.gql_collect.specs.Flat.{flat_sets}
 use Rattle.gql_resolvers.specs.Execute.{Made, Member, execute}
-use Rattle.gql_exec_fields.specs.Group.{Group}
-use Rattle.gql_exec_fields.specs.RequestWorld.{setting_on}
+use Rattle.gql_exec.specs.Group.{Group}
+use Rattle.gql_exec.specs.RequestWorld.{setting_on}
 use Rattle.gql_response.specs.declared.graphql_error.GraphQLError.{GraphQLError}
 use Rattle.gql_response.specs.declared.path.ResponseDataPathSegment.TheVariants.{Field, ListIndex}
 use Rattle.gql_exec_laws.specs.Example.{IsAnswered, root, request}

@@ -15,7 +15,7 @@ use Rattle.gql_collect.specs.Groups.{response_key, has_key, distinct_after, keys
 use Rattle.gql_collect.specs.Kept.{Variables}
 use Rattle.gql_document_types.specs.Ranks.{AreRanked}
 use Rattle.gql_collect.specs.Setting.{Setting}
-use Rattle.gql_exec_fields.specs.Group.{Group, piece_of, pieces_of, started, group_from, groups_from}
+use Rattle.gql_exec.specs.Group.{Group, piece_of, pieces_of, started, group_from, groups_from}
 use Rattle.gql_exec_laws.proofs.Flats.{flat-agrees}
 use Rattle.gql_exec_laws.proofs.Steady.{flat-more}
 

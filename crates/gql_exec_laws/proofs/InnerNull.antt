@@ -6,8 +6,8 @@ use Rattle.gql_collect.specs.Flat.{flat_sets}
 use Rattle.gql_resolvers.specs.Execute.{Made, Member, Below, execute, groups_made}
 use Rattle.gql_resolvers.specs.Resolved.{Meaning, fails_with}
 use Rattle.gql_resolvers.specs.Trail.{Trail}
-use Rattle.gql_exec_fields.specs.Group.{Group}
-use Rattle.gql_exec_fields.specs.RequestWorld.{setting_on}
+use Rattle.gql_exec.specs.Group.{Group}
+use Rattle.gql_exec.specs.RequestWorld.{setting_on}
 use Rattle.gql_response.specs.declared.path.ResponseDataPathSegment.TheVariants.{Field}
 use Rattle.gql_response.specs.declared.graphql_error.GraphQLError.{GraphQLError}
 use Rattle.gql_exec_laws.specs.Example.{IsAnswered, Thing, root, inner, request}

@@ -5,8 +5,8 @@ use Rattle.gql_document_types.specs.declared.selection.Selection.{Selection}
 use Rattle.gql_collect.specs.Flat.{flat_sets}
 use Rattle.gql_resolvers.specs.Execute.{Made, Member, Below, execute, groups_made}
 use Rattle.gql_resolvers.specs.Trail.{Trail}
-use Rattle.gql_exec_fields.specs.Group.{Group}
-use Rattle.gql_exec_fields.specs.RequestWorld.{setting_on}
+use Rattle.gql_exec.specs.Group.{Group}
+use Rattle.gql_exec.specs.RequestWorld.{setting_on}
 use Rattle.gql_exec_laws.specs.Example.{IsAnswered, root, inner, request}
 use Rattle.gql_exec_laws.specs.Examples.{merged, object_query, inner_type, a, x, y}
 use Rattle.gql_exec_laws.specs.Parts.{field_at, select}

@@ -6,13 +6,13 @@ use Rattle.gql_ast_base.specs.declared.type_ref.TypeRef.{TypeRef, out-TypeRef, t
 use Rattle.gql_ast_base.specs.declared.type_ref.TypeRef.TheVariants as ty
 use Rattle.gql_ast_base.specs.declared.type_ref.TypeRef.TheOpen.{TypeRef-F}
 use Rattle.gql_ast_base.specs.TypeParts.{named_type}
-use Rattle.gql_ast_definitions.specs.declared.field_definition.FieldDefinition.{FieldDefinition}
+use Rattle.gql_ast.specs.declared.field_definition.FieldDefinition.{FieldDefinition}
 use Rattle.gql_document_types.specs.declared.selection.Selection.{Selection}
 use Rattle.gql_collect.specs.Flat.{flat_sets}
 use Rattle.gql_resolvers.specs.Execute.{Made, Member, Below, execute, groups_made}
 use Rattle.gql_resolvers.specs.Trail.{Trail, held}
-use Rattle.gql_exec_fields.specs.Group.{Group}
-use Rattle.gql_exec_fields.specs.RequestWorld.{setting_on}
+use Rattle.gql_exec.specs.Group.{Group}
+use Rattle.gql_exec.specs.RequestWorld.{setting_on}
 use Rattle.gql_response.specs.declared.graphql_error.GraphQLError.{GraphQLError}
 use Rattle.gql_response.specs.declared.path.ResponseDataPathSegment.TheVariants.{Field, ListIndex}
 use Rattle.gql_exec_laws.specs.Example.{Example, IsAnswered, root, inner, request}

@@ -2,8 +2,8 @@
 use Rattle.std.proofs.Common.{◌≡◌, [], ◌∷◌, None, refl, ◌∙◌, codes}
 use Rattle.gql_collect.specs.Flat.{flat_sets}
 use Rattle.gql_resolvers.specs.Execute.{Made, Member, execute}
-use Rattle.gql_exec_fields.specs.Group.{Group}
-use Rattle.gql_exec_fields.specs.RequestWorld.{setting_on}
+use Rattle.gql_exec.specs.Group.{Group}
+use Rattle.gql_exec.specs.RequestWorld.{setting_on}
 use Rattle.gql_response.specs.declared.path.ResponseDataPathSegment.TheVariants.{Field}
 use Rattle.gql_response.specs.declared.graphql_error.GraphQLError.{GraphQLError}
 use Rattle.gql_exec_laws.specs.Example.{IsAnswered, root, request}

@@ -16,10 +16,10 @@ use Rattle.gql_resolvers.specs.Resolved.{Outcome, answered, refused}
 use Rattle.gql_resolvers.specs.Spot.{Spot, item_spot, field_spot}
 use Rattle.gql_resolvers.specs.Trail.{Segment, Trail}
 use Rattle.gql_resolvers.specs.World.{World, key_of}
-use Rattle.gql_exec_fields.specs.Group.{Group}
-use Rattle.gql_exec_fields.specs.Request.{Request}
-use Rattle.gql_exec_fields.specs.RequestWorld.{plain, plain_world}
-use Rattle.gql_exec_fields.specs.Response.{IsExecuted}
+use Rattle.gql_exec.specs.Group.{Group}
+use Rattle.gql_exec.specs.Request.{Request}
+use Rattle.gql_exec.specs.RequestWorld.{plain, plain_world}
+use Rattle.gql_exec.specs.Response.{IsExecuted}
 use Rattle.gql_response.specs.declared.execution_response.ExecutionResponse.{ExecutionResponse}
 use Rattle.gql_exec_laws.specs.Others.{among}
 use Rattle.gql_exec_laws.proofs.Groups.{with_pieces, groups-expanded}

@@ -14,7 +14,7 @@ use Rattle.gql_resolvers.specs.Resolved.{Meanings, gives_leaf, gives_object, giv
 use Rattle.gql_resolvers.specs.Spot.{Spot, trail, item_spot, field_spot}
 use Rattle.gql_resolvers.specs.Trail.{Trail}
 use Rattle.gql_resolvers.specs.World.{World}
-use Rattle.gql_exec_fields.specs.Group.{Group, groups_from}
+use Rattle.gql_exec.specs.Group.{Group, groups_from}
 use Rattle.gql_exec_laws.specs.Example.{Thing, root}
 use Rattle.gql_exec_laws.specs.Examples.{failed_items, list_query, f}
 use Rattle.gql_exec_laws.specs.Explaining.{nulls}

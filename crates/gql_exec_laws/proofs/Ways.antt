@@ -9,9 +9,9 @@ use Rattle.gql_schema_types.specs.declared.types.ObjectType.{ObjectType}
 use Rattle.gql_resolvers.specs.Resolved.{gives_object, gives_list}
 use Rattle.gql_resolvers.specs.Types.{item_type}
 use Rattle.gql_resolvers.specs.World.{World, key_of}
-use Rattle.gql_exec_fields.specs.Group.{Group, groups_from}
-use Rattle.gql_exec_fields.specs.Opened.{Way, AnyGroup, Brings, AnyGives, Opens, Turns}
-use Rattle.gql_exec_fields.specs.RequestWorld.{plain_world, setting_on}
+use Rattle.gql_exec.specs.Group.{Group, groups_from}
+use Rattle.gql_exec.specs.Opened.{Way, AnyGroup, Brings, AnyGives, Opens, Turns}
+use Rattle.gql_exec.specs.RequestWorld.{plain_world, setting_on}
 use Rattle.gql_exec_laws.specs.Example.{Thing, root, inner}
 use Rattle.gql_exec_laws.specs.Examples.{y}
 use Rattle.gql_exec_laws.specs.Opening.{l, objects_query, item, things, objects, within_items, of_items, IsOpened, to_items}

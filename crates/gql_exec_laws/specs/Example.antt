@@ -7,8 +7,8 @@ use Rattle.gql_response.specs.declared.execution_response.ExecutionResponse.{Exe
 use Rattle.gql_schema_types.specs.declared.schema.Schema.{Schema}
 use Rattle.gql_schema_types.specs.declared.types.ObjectType.{ObjectType}
 use Rattle.gql_resolvers.specs.Resolved.{Meaning}
-use Rattle.gql_exec_fields.specs.Request.{Request}
-use Rattle.gql_exec_fields.specs.Response.{IsExecuted}
+use Rattle.gql_exec.specs.Request.{Request}
+use Rattle.gql_exec.specs.Response.{IsExecuted}
 use Rattle.gql_exec_laws.specs.Parts.{query_file}
 
 -- the objects of the examples: the root, and one of the type A

@@ -3,7 +3,7 @@ use Rattle.std.specs.Prelude.{ℕ, List, [], ◌∷◌, None, codes, pos}
 use Rattle.jb_tree.specs.declared.value.Value.{Value}
 use Rattle.jb_tree.specs.declared.value.Value.TheVariants as json
 use Rattle.gql_ast_base.specs.declared.type_ref.TypeRef.TheVariants as ty
-use Rattle.gql_ast_definitions.specs.declared.operation.VariableDefinition.{VariableDefinition}
+use Rattle.gql_ast.specs.declared.operation.VariableDefinition.{VariableDefinition}
 use Rattle.gql_coerce.specs.Faults.{fault}
 use Rattle.gql_coerce.specs.Inputs.{Coerced, NotCoerced}
 use Rattle.gql_schema_types.specs.MetaFields.{named}

@@ -1,14 +1,14 @@
 -- A list of objects of one type, and the ways that are opened there.
 use Rattle.std.specs.Prelude.{ℕ, zero, suc, List, [], ◌∷◌, codes}
 use Rattle.gql_ast_base.specs.declared.type_ref.TypeRef.TheVariants as ty
-use Rattle.gql_ast_definitions.specs.declared.field_definition.FieldDefinition.{FieldDefinition}
+use Rattle.gql_ast.specs.declared.field_definition.FieldDefinition.{FieldDefinition}
 use Rattle.gql_document_types.specs.declared.selection.Selection.{Selection}
 use Rattle.gql_schema_types.specs.MetaFields.{named}
 use Rattle.gql_schema_types.specs.declared.types.ObjectType.{ObjectType}
 use Rattle.gql_resolvers.specs.Resolved.{Meaning, Meanings, gives_object, gives_list, no_answer, answer_then}
-use Rattle.gql_exec_fields.specs.Opened.{Way, Opens}
-use Rattle.gql_exec_fields.specs.Request.{Request}
-use Rattle.gql_exec_fields.specs.RequestWorld.{plain_world}
+use Rattle.gql_exec.specs.Opened.{Way, Opens}
+use Rattle.gql_exec.specs.Request.{Request}
+use Rattle.gql_exec.specs.RequestWorld.{plain_world}
 use Rattle.gql_exec_laws.specs.Example.{Thing, root, inner}
 use Rattle.gql_exec_laws.specs.Examples.{number, y}
 use Rattle.gql_exec_laws.specs.Parts.{schema, object, plain, select}

@@ -3,7 +3,7 @@ use Rattle.std.specs.Prelude.{ℕ, ◌+◌, List, [], ◌∷◌, map, length, So
 use Rattle.gql_source.specs.declared.file_id.FileId.{FileId}
 use Rattle.gql_ast_base.specs.Names.{Named}
 use Rattle.gql_ast_base.specs.declared.type_ref.TypeRef.{TypeRef}
-use Rattle.gql_ast_definitions.specs.declared.field_definition.FieldDefinition.{FieldDefinition}
+use Rattle.gql_ast.specs.declared.field_definition.FieldDefinition.{FieldDefinition}
 use Rattle.gql_ast_base.specs.TypeParts.{named_type}
 use Rattle.gql_document_types.specs.declared.selection.Field.{Field}
 use Rattle.gql_document_types.specs.declared.selection.Selection.{Selection}

@@ -4,9 +4,9 @@ ghost use Rattle.std.specs.Prelude.{◌≡◌, ◌⊎◌, ◌∷◌, ℕ, [], co
 ghost use Rattle.gql_ast_base.specs.declared.type_ref.TypeRef.TheVariants as ty;
 ghost use Rattle.gql_collect.specs.DepthPlace.{depth_place};
 ghost use Rattle.gql_collect.specs.View.{fragments_nested, nested};
-ghost use Rattle.gql_exec_fields.specs.NeverSkips.{IsFullyExplained};
-ghost use Rattle.gql_exec_fields.specs.Opened.{Way};
-ghost use Rattle.gql_exec_fields.specs.RequestWorld.{plain_world};
+ghost use Rattle.gql_exec.specs.NeverSkips.{IsFullyExplained};
+ghost use Rattle.gql_exec.specs.Opened.{Way};
+ghost use Rattle.gql_exec.specs.RequestWorld.{plain_world};
 ghost use Rattle.gql_resolvers.specs.Execute.{Member};
 ghost use Rattle.gql_resolvers.specs.Explained.{IsExplainedBy};
 ghost use Rattle.gql_resolvers.specs.Trail.{held};

@@ -9,12 +9,12 @@ use Rattle.gql_engine.specs.Responding.{HasCauseOf}
 use Rattle.gql_engine.specs.Wanted.{Members, Wanted}
 use Rattle.gql_engine.specs.declared.answer_error.AnswerError.{AnswerError}
 use Rattle.gql_engine.specs.declared.answer_error.AnswerError.TheVariants as error
-use Rattle.gql_gateway_parts.specs.Divided.{DividesTo, IsBeforeRemote}
-use Rattle.gql_gateway_parts.specs.Remote.{Telling}
-use Rattle.gql_gateway_parts.specs.declared.dividing.DivideFault.{DivideFault}
-use Rattle.gql_gateway_parts.specs.declared.dividing.DivideFault.TheVariants as fault
+use Rattle.gql_gateway.specs.Divided.{DividesTo, IsBeforeRemote}
+use Rattle.gql_gateway.specs.Remote.{Telling}
+use Rattle.gql_gateway.specs.declared.dividing.DivideFault.{DivideFault}
+use Rattle.gql_gateway.specs.declared.dividing.DivideFault.TheVariants as fault
 use Rattle.gql_gateway.specs.Causes.{CauseBy, HasGatewayCause, HasGatewayCauseOf, HasLocalCause, IsBeforeAsking, JoinsOrCause}
-use Rattle.gql_gateway.specs.Joined.{Fits, IsJoinedBy, IsTooLarge, LacksKey}
+use Rattle.gql_gateway.specs.Gateway.{Fits, IsJoinedBy, IsTooLarge, LacksKey}
 use Rattle.gql_gateway.specs.Told.{of_answer, of_division}
 use Rattle.gql_gateway.specs.declared.gateway_error.GatewayError.{GatewayError}
 use Rattle.gql_gateway.specs.declared.gateway_error.GatewayError.TheVariants.{Answer, TooLarge, Remote, MissingKey, Memory}

@@ -13,13 +13,13 @@ use Rattle.gql_document_types.specs.declared.document.ExecutableDocument.{Execut
 use Rattle.gql_document_types.specs.declared.operation.Operation.{Operation}
 use Rattle.gql_document_types.specs.declared.selection.Field.{Field}
 use Rattle.gql_exec.specs.Restricted.{HasNoOwn, is_meta_name}
-use Rattle.gql_gateway_parts.specs.Pure.{AreLike, IsLike}
-use Rattle.gql_gateway_parts.specs.Whole.{IsDivisible}
+use Rattle.gql_gateway.specs.Pure.{AreLike, IsLike}
+use Rattle.gql_gateway.specs.Whole.{IsDivisible}
 use Rattle.gql_parser.specs.DocumentText.{DocumentText}
 use Rattle.gql_parser.specs.OutputFields.{HaveNoReservedFields}
 use Rattle.gql_parser.specs.SchemaText.{SchemaText}
-use Rattle.gql_rules_laws.specs.Covariant.{Stands}
-use Rattle.gql_rules_laws.specs.Merge.{AreOfOneName, HaveOneName}
+use Rattle.gql_valid_laws.specs.Covariant.{Stands}
+use Rattle.gql_valid_laws.specs.Merge.{AreOfOneName, HaveOneName}
 use Rattle.gql_schema_types.specs.Schemas.{object_of}
 use Rattle.gql_schema_types.specs.Types.{as_object, type_called, type_name}
 use Rattle.gql_schema_types.specs.declared.schema.Schema.{Schema}

@@ -2,7 +2,7 @@
 use Rattle.std.proofs.Common.{◌≡◌, ℕ, true, List, Result, Ok, Err, IfOk, refl, sym, subst}
 use Rattle.gql_resolvers.specs.Data.{Data}
 use Rattle.gql_resolvers.specs.DataMeaning.{data_meaning}
-use Rattle.gql_request.specs.Request.{Asked}
+use Rattle.gql_engine.specs.Request.{Asked}
 use Rattle.gql_engine.specs.Answered.{Answered}
 use Rattle.gql_engine.specs.Reply.{root_of}
 use Rattle.gql_engine.specs.Serving.{IsDoneOutput, IsOutput, IsRefusedOutput, line}
@@ -10,7 +10,7 @@ use Rattle.gql_engine.specs.declared.output.Output.{Output}
 use Rattle.gql_engine.specs.declared.output.Output.TheVariants.{Done}
 use Rattle.gql_gateway.specs.Causes.{HasLocalCause}
 use Rattle.gql_gateway.specs.Command.{Answers, DataTells, Refuses, wanted_here}
-use Rattle.gql_gateway.specs.Joined.{HasData, IsJoinedBy}
+use Rattle.gql_gateway.specs.Gateway.{HasData, IsJoinedBy}
 use Rattle.gql_gateway.specs.Told.{IsGatewayLine, IsGatewayTold}
 use Rattle.gql_gateway.specs.declared.gateway_error.GatewayError.{GatewayError}
 use Rattle.gql_gateway.specs.declared.gateway_error.GatewayError.TheVariants.{Memory}

@@ -12,19 +12,19 @@ use Rattle.gql_document_types.specs.declared.fragment.Fragment.{Fragment}
 use Rattle.gql_document_types.specs.declared.operation.Operation.{Operation}
 use Rattle.gql_document_types.specs.declared.selection.Selection.{Selection}
 use Rattle.gql_exec.specs.ThingMeaning.{Resolving}
-use Rattle.gql_exec_fields.specs.NeverSkips.{NeverSkips}
+use Rattle.gql_exec.specs.NeverSkips.{NeverSkips}
 use Rattle.gql_parser.specs.DocumentText.{DocumentText}
 use Rattle.gql_response.specs.Response.{response_value}
 use Rattle.gql_response.specs.declared.execution_response.ExecutionResponse.{ExecutionResponse}
 use Rattle.gql_schema_types.specs.declared.schema.Schema.{Schema}
-use Rattle.gql_gateway_parts.specs.Divided.{Divides}
-use Rattle.gql_gateway_parts.specs.Remote.{TellsBy}
-use Rattle.gql_gateway_parts.specs.Whole.{IsWhole}
-use Rattle.gql_gateway_parts.proofs.Locally.{joined-whole, none-missing}
+use Rattle.gql_gateway.specs.Divided.{Divides}
+use Rattle.gql_gateway.specs.Remote.{TellsBy}
+use Rattle.gql_gateway.specs.Whole.{IsWhole}
+use Rattle.gql_gateway.proofs.Locally.{joined-whole, none-missing}
 use Rattle.gql_engine.specs.Answered.{Answered, IsExecutionOf}
 use Rattle.gql_engine.specs.Ready.{Ready}
 use Rattle.gql_engine.specs.Wanted.{Members, Wanted}
-use Rattle.gql_gateway.specs.Joined.{HasData, IsJoinedBy, LacksKey}
+use Rattle.gql_gateway.specs.Gateway.{HasData, IsJoinedBy, LacksKey}
 use Rattle.gql_gateway.proofs.Divisible.{TextLaws, ready-divisible}
 
 pub record LocalLaws : Type 0 where

@@ -3,9 +3,9 @@ use Rattle.std.specs.Prelude.{◌≡◌, ◌≢◌, ℕ, List, Result, IfOk, IfE
 use Rattle.gql_engine.specs.AnswerError.{Asks, Call, HasCause}
 use Rattle.gql_engine.specs.declared.answer_error.AnswerError.{AnswerError}
 use Rattle.gql_engine.specs.declared.answer_error.AnswerError.TheVariants as error
-use Rattle.gql_gateway_parts.specs.Remote.{Telling}
+use Rattle.gql_gateway.specs.Remote.{Telling}
 use Rattle.gql_gateway.specs.Causes.{ComesForCause, ComesForFitting, ComesForSize, HasGatewayCause}
-use Rattle.gql_gateway.specs.Joined.{Fits, IsJoinedBy, IsTooLarge}
+use Rattle.gql_gateway.specs.Gateway.{Fits, IsJoinedBy, IsTooLarge}
 use Rattle.gql_gateway.specs.declared.gateway_error.GatewayError.{GatewayError}
 
 -- A joined response to what the call wants, or a refusal by its cause. Where the engine has a cause to refuse, its refusal comes, and

@@ -6,8 +6,8 @@ use Rattle.gql_engine.specs.Responding.{HasCauseOf}
 use Rattle.gql_engine.specs.Wanted.{Wanted}
 use Rattle.gql_engine.specs.declared.answer_error.AnswerError.{AnswerError}
 use Rattle.gql_engine.specs.declared.answer_error.AnswerError.TheVariants as error
-use Rattle.gql_gateway_parts.specs.Remote.{Telling}
-use Rattle.gql_gateway.specs.Joined.{Fits, IsJoinedBy, IsTooLarge, LacksKey}
+use Rattle.gql_gateway.specs.Remote.{Telling}
+use Rattle.gql_gateway.specs.Gateway.{Fits, IsJoinedBy, IsTooLarge, LacksKey}
 use Rattle.gql_gateway.specs.declared.gateway_error.GatewayError.{GatewayError}
 use Rattle.gql_gateway.specs.declared.gateway_error.GatewayError.TheVariants.{Answer, TooLarge, Remote, MissingKey, Memory}
 

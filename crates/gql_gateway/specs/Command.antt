@@ -1,15 +1,15 @@
 -- What the program replies to a request, whose own data are what the other place executes on.
 use Rattle.std.specs.Prelude.{◌≡◌, ◌≢◌, ℕ, true, List}
 use Rattle.gql_engine.specs.Answered.{Answered}
-use Rattle.gql_request.specs.Request.{Asked}
+use Rattle.gql_engine.specs.Request.{Asked}
 use Rattle.gql_engine.specs.Reply.{root_of, wanted_of}
 use Rattle.gql_engine.specs.Serving.{line}
 use Rattle.gql_engine.specs.Wanted.{Wanted}
-use Rattle.gql_gateway_parts.specs.Remote.{Telling, TellsBy}
+use Rattle.gql_gateway.specs.Remote.{Telling, TellsBy}
 use Rattle.gql_resolvers.specs.Data.{Data}
 use Rattle.gql_resolvers.specs.DataMeaning.{data_meaning}
 use Rattle.gql_gateway.specs.Causes.{HasLocalCause}
-use Rattle.gql_gateway.specs.Joined.{Fits, HasData, IsJoinedBy}
+use Rattle.gql_gateway.specs.Gateway.{Fits, HasData, IsJoinedBy}
 use Rattle.gql_gateway.specs.Told.{IsGatewayTold}
 use Rattle.gql_gateway.specs.declared.gateway_error.GatewayError.{GatewayError}
 use Rattle.gql_gateway.specs.declared.gateway_error.GatewayError.TheVariants.{Memory}

@@ -1,4 +1,14 @@
+pub mod Concrete
+pub mod Part
+pub mod Pure
+pub mod Remote
 pub mod Joined
+pub mod KeysSeen
+pub mod Sides
+pub mod Joining
+pub mod Divided
+pub mod Whole
+pub mod Gateway
 pub mod Causes
 pub mod Answering
 pub mod Told

@@ -10,8 +10,8 @@ use Rattle.gql_engine.specs.declared.answer_error.AnswerError.{AnswerError}
 use Rattle.gql_engine.specs.declared.answer_error.AnswerError.TheVariants as error
 use Rattle.gql_engine.specs.declared.output.Output.{Output}
 use Rattle.gql_engine.specs.declared.output.Output.TheVariants as outputs
-use Rattle.gql_gateway_parts.specs.declared.dividing.DivideFault.{DivideFault}
-use Rattle.gql_gateway_parts.specs.declared.dividing.DivideFault.TheVariants as fault
+use Rattle.gql_gateway.specs.declared.dividing.DivideFault.{DivideFault}
+use Rattle.gql_gateway.specs.declared.dividing.DivideFault.TheVariants as fault
 use Rattle.gql_response.specs.declared.graphql_error.GraphQLError.{GraphQLError}
 use Rattle.gql_gateway.specs.declared.gateway_error.GatewayError.{GatewayError}
 use Rattle.gql_gateway.specs.declared.gateway_error.GatewayError.TheVariants.{Answer, TooLarge, Remote, MissingKey, Memory}

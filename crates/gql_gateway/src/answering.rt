@@ -5,15 +5,15 @@ ghost use Rattle.gql_engine.specs.AnswerError.{Asks, call_of, wanted_with};
 ghost use Rattle.gql_engine.specs.Service.{asked_of};
 ghost use Rattle.gql_gateway.specs.Answering.{GivesJoined};
 ghost use Rattle.gql_gateway.specs.Causes.{HasGatewayCause, IsBeforeAsking, JoinsOrCause};
-ghost use Rattle.gql_gateway.specs.Joined.{IsJoinedBy};
+ghost use Rattle.gql_gateway.specs.Gateway.{IsJoinedBy};
 ghost use Rattle.jb_io.specs.Stream.{HasFailed};
 
+use crate::Remote;
 use crate::gateway_error::GatewayError;
 use crate::responding::respond_joined;
 use bytes::Bytes;
 use gql_engine::phases::{Wanted, read_variables};
 use gql_engine::{Question, Steps, laws as engine_laws};
-use gql_gateway_parts::Remote;
 use jb_tree::Map;
 use std::alloc::Global;
 use std::marker::Brand;

@@ -1,23 +1,22 @@
 //! What the program makes of a request.
 
 ghost use Rattle.std.specs.Prelude.{◌≡◌, IfErr, IfOk};
-ghost use Rattle.gql_request.specs.Request.{asked_in};
+ghost use Rattle.gql_engine.specs.Request.{asked_in};
 ghost use Rattle.gql_engine.specs.Reply.{root_of};
 ghost use Rattle.gql_gateway.specs.Causes.{HasLocalCause};
 ghost use Rattle.gql_gateway.specs.Command.{DataTells, wanted_here};
-ghost use Rattle.gql_gateway.specs.Joined.{IsJoinedBy};
+ghost use Rattle.gql_gateway.specs.Gateway.{IsJoinedBy};
 ghost use Rattle.gql_gateway.specs.Program as spec;
 ghost use Rattle.gql_gateway.specs.Told.{IsGatewayLine};
 
 use crate::gateway_error::GatewayError;
-use crate::laws;
 use crate::responding::respond_joined;
+use crate::{LocalRemote, laws};
 use bytes::Bytes;
 use gql_engine::phases::Wanted;
 use gql_engine::request::{Request, RequestForm};
 use gql_engine::serving::{Output, RequestCommand, done_with, line};
 use gql_engine::{DataObject, Steps, laws as engine_laws};
-use gql_gateway_parts::LocalRemote;
 use jb_tree::{Map, Memory};
 use std::alloc::Global;
 use std::sync::ledger::Ledger;

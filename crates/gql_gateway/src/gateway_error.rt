@@ -5,11 +5,11 @@ ghost use Rattle.gql_diag.specs.Refusal.{message_error, refusal_value};
 ghost use Rattle.gql_gateway.specs.Told.{IsGatewayTold, missing_message, of_division};
 ghost use Rattle.jb_print.specs.Compact.{compact};
 
+use crate::DivideFault;
 use bytes::Bytes;
 use gql_ast_base::Name;
 use gql_diag::refusal_of_message;
 use gql_engine::AnswerError;
-use gql_gateway_parts::DivideFault;
 use jb_tree::{Memory, Refused};
 use std::alloc::{AllocError, Global};
 

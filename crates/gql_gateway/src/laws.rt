@@ -4,15 +4,15 @@ ghost use Rattle.std.specs.Prelude.{◌≡◌, true, ℕ, List};
 ghost use Rattle.gql_ast_base.specs.Names.{Named};
 ghost use Rattle.gql_engine.specs.Answered.{Answered};
 ghost use Rattle.gql_engine.specs.Wanted.{Wanted as WantedOf};
-ghost use Rattle.gql_exec_fields.specs.NeverSkips.{NeverSkips};
-ghost use Rattle.gql_gateway.specs.Joined.{HasData, IsJoinedBy, LacksKey};
-ghost use Rattle.gql_gateway_parts.specs.Remote.{TellsBy};
+ghost use Rattle.gql_exec.specs.NeverSkips.{NeverSkips};
+ghost use Rattle.gql_gateway.specs.Gateway.{HasData, IsJoinedBy, LacksKey};
+ghost use Rattle.gql_gateway.specs.Remote.{TellsBy};
 
 use gql_document_types::laws as expansion_laws;
 use gql_engine::laws as engine_laws;
 use gql_parser::laws as text_laws;
 use gql_resolvers::ObjectValue;
-use gql_rules_laws::laws as rules_laws;
+use gql_valid_laws::rule_laws as rules_laws;
 
 /// What a gateway answers whose remote executes on a resolver that leaves nothing out, is what [`answer`](gql_engine::answer) gives with
 /// introspection on, byte for byte, where that has data; and no key is missing. That needs no premise on the request: what it rests on

@@ -14,21 +14,30 @@
 
 mod answering;
 mod command;
+mod dividing;
 mod gateway_error;
+mod joining;
 pub mod laws;
+mod meta_name;
+mod part;
+pub mod part_laws;
 pub mod program;
+mod remote;
 mod responding;
+mod root_key;
+mod side;
 
 pub use answering::gateway_answer;
+pub use dividing::{DivideFault, Division, MOST_SELECTIONS, divide};
 pub use gateway_error::GatewayError;
 pub use gql_engine::executable::Operation;
 pub use gql_engine::response::JsonMap;
 pub use gql_engine::{
     AnswerError, DataObject, ExecutableDocument, ExecutionResponse, Schema, Valid,
 };
-pub use gql_gateway_parts::{
-    DivideFault, Division, LocalRemote, MOST_SELECTIONS, Remote, RemoteError, RootKey,
-    concrete_part, divide, join, root_keys,
-};
 pub use jb_io::{ANSWERED, MISUSED, NO_MEMORY, REFUSED, SINK_FAILED, SOURCE_FAILED, TOO_LONG};
+pub use joining::join;
+pub use part::concrete_part;
 pub use program::run_gateway;
+pub use remote::{LocalRemote, Remote, RemoteError};
+pub use root_key::{RootKey, root_keys};

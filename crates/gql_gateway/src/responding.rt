@@ -7,10 +7,10 @@ ghost use Rattle.gql_gateway.specs.Causes.{IsBeforeAsking, JoinsOrCause};
 ghost use Rattle.jb_io.specs.Stream.{HasFailed};
 
 use crate::gateway_error::{GatewayError, of_division};
+use crate::{Division, Remote, divide};
 use bytes::Bytes;
 use gql_engine::phases::{ReadyOperation, Wanted, check_query, check_schema};
 use gql_engine::{Prepared, Service, Steps};
-use gql_gateway_parts::{Division, Remote, divide};
 use gql_parser::laws as text_laws;
 use std::alloc::Global;
 use std::sync::ledger::Ledger;

@@ -2,8 +2,8 @@
 use Rattle.std.specs.Prelude.{ℕ, Bool, List, Option, Some, None, is_some, option_and_then, codes}
 use Rattle.std.specs.Option.{option_map, option_or}
 use Rattle.gql_ast_base.specs.Names.{Named}
-use Rattle.gql_ast_definitions.specs.declared.field_definition.InputValueDefinition.{InputValueDefinition}
-use Rattle.gql_ast_definitions.specs.declared.schema_definition.DirectiveDefinition.{DirectiveDefinition}
+use Rattle.gql_ast.specs.declared.field_definition.InputValueDefinition.{InputValueDefinition}
+use Rattle.gql_ast.specs.declared.schema_definition.DirectiveDefinition.{DirectiveDefinition}
 use Rattle.gql_ast_base.specs.declared.directive.Argument.{Argument}
 use Rattle.gql_ast_base.specs.declared.directive.Directive.{Directive}
 use Rattle.gql_ast_base.specs.declared.value.Value.{Value}

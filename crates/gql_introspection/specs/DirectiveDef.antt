@@ -1,8 +1,8 @@
 -- The fields of `__Directive`: section 4.2.6 of GraphQL October 2021.
 use Rattle.std.specs.Prelude.{ℕ, List, map, Option, Some, None, if◌then◌else◌, codes}
 use Rattle.std.specs.Str.{bytes_eq}
-use Rattle.gql_ast_definitions.specs.declared.schema_definition.DirectiveDefinition.{DirectiveDefinition}
-use Rattle.gql_ast_definitions.specs.Schemas.{location_name}
+use Rattle.gql_ast.specs.declared.schema_definition.DirectiveDefinition.{DirectiveDefinition}
+use Rattle.gql_ast.specs.Schemas.{location_name}
 use Rattle.gql_resolvers.specs.Resolved.{Meaning}
 use Rattle.gql_resolvers.specs.Meaning.{Members}
 use Rattle.gql_schema_types.specs.declared.schema.Schema.{Schema}

@@ -1,7 +1,7 @@
 -- The fields of `__EnumValue`: section 4.2.5 of GraphQL October 2021.
 use Rattle.std.specs.Prelude.{ℕ, List, Option, Some, None, if◌then◌else◌, codes}
 use Rattle.std.specs.Str.{bytes_eq}
-use Rattle.gql_ast_definitions.specs.declared.field_definition.EnumValueDefinition.{EnumValueDefinition}
+use Rattle.gql_ast.specs.declared.field_definition.EnumValueDefinition.{EnumValueDefinition}
 use Rattle.gql_resolvers.specs.Resolved.{Meaning}
 use Rattle.gql_schema_types.specs.declared.schema.Schema.{Schema}
 use Rattle.gql_introspection.specs.Answers.{text_leaf, truth_leaf, text_or_null}

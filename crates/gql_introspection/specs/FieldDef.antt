@@ -1,7 +1,7 @@
 -- The fields of `__Field`: section 4.2.3 of GraphQL October 2021.
 use Rattle.std.specs.Prelude.{ℕ, List, Option, Some, None, if◌then◌else◌, codes}
 use Rattle.std.specs.Str.{bytes_eq}
-use Rattle.gql_ast_definitions.specs.declared.field_definition.FieldDefinition.{FieldDefinition}
+use Rattle.gql_ast.specs.declared.field_definition.FieldDefinition.{FieldDefinition}
 use Rattle.gql_resolvers.specs.Resolved.{Meaning}
 use Rattle.gql_resolvers.specs.Meaning.{Members}
 use Rattle.gql_schema_types.specs.declared.schema.Schema.{Schema}

@@ -3,9 +3,9 @@ use Rattle.std.specs.Prelude.{Bool, false, not, ◌||◌, List, map, filter, opt
 use Rattle.std.specs.Map.{lookup}
 use Rattle.std.specs.Str.{bytes_eq}
 use Rattle.jb_tree.specs.Value.{truth_value}
-use Rattle.gql_ast_definitions.specs.declared.field_definition.EnumValueDefinition.{EnumValueDefinition}
-use Rattle.gql_ast_definitions.specs.declared.field_definition.FieldDefinition.{FieldDefinition}
-use Rattle.gql_ast_definitions.specs.declared.field_definition.InputValueDefinition.{InputValueDefinition}
+use Rattle.gql_ast.specs.declared.field_definition.EnumValueDefinition.{EnumValueDefinition}
+use Rattle.gql_ast.specs.declared.field_definition.FieldDefinition.{FieldDefinition}
+use Rattle.gql_ast.specs.declared.field_definition.InputValueDefinition.{InputValueDefinition}
 use Rattle.gql_ast_base.specs.declared.directive.Directive.{Directive}
 use Rattle.gql_resolvers.specs.Resolved.{Meaning}
 use Rattle.gql_resolvers.specs.Meaning.{Members}

@@ -5,8 +5,8 @@ ghost use Rattle.std.specs.Option.{option_copied};
 ghost use Rattle.gql_schema_types.specs.Entries.{entry};
 ghost use Rattle.gql_introspection.specs.Deprecation as spec;
 
+use gql_ast::{DirectiveDefinition, InputValueDefinition};
 use gql_ast_base::{Directive, Value, ValueKind};
-use gql_ast_definitions::{DirectiveDefinition, InputValueDefinition};
 use gql_schema_types::{Schema, argument_called, directive_called};
 
 /// Whether `@deprecated` is among the directives (GraphQL October 2021, section 3.13.3).

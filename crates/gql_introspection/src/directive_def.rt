@@ -1,7 +1,7 @@
 //! A directive, as `__Directive`.
 
 ghost use Rattle.std.specs.Prelude.{map};
-ghost use Rattle.gql_ast_definitions.specs.Schemas.{location_name};
+ghost use Rattle.gql_ast.specs.Schemas.{location_name};
 ghost use Rattle.gql_introspection.specs.Answers.{texts};
 ghost use Rattle.gql_introspection.specs.DirectiveDef as spec;
 ghost use Rattle.gql_introspection.specs.Seen.{Gives, GivesField};
@@ -11,7 +11,7 @@ use crate::items::Items;
 use crate::leaves::{description_or_null, name_leaf, text_leaf, truth_leaf};
 use crate::meta_object::MetaObject;
 use crate::shown::kept;
-use gql_ast_definitions::{DirectiveDefinition, DirectiveLocation};
+use gql_ast::{DirectiveDefinition, DirectiveLocation};
 use gql_resolvers::ResolvedValue;
 use gql_schema_types::{Schema, Valid};
 use jb_text::Memory;

@@ -7,7 +7,7 @@ use crate::asked::Asked;
 use crate::deprecation::{deprecation_reason, is_deprecated};
 use crate::leaves::{description_or_null, name_leaf, text_or_null, truth_leaf};
 use crate::meta_object::MetaObject;
-use gql_ast_definitions::EnumValueDefinition;
+use gql_ast::EnumValueDefinition;
 use gql_resolvers::ResolvedValue;
 use gql_schema_types::{Schema, Valid};
 use jb_text::Memory;

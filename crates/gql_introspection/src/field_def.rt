@@ -9,7 +9,7 @@ use crate::leaves::{description_or_null, name_leaf, text_or_null, truth_leaf};
 use crate::meta_object::MetaObject;
 use crate::named_types::type_object;
 use crate::shown::kept;
-use gql_ast_definitions::FieldDefinition;
+use gql_ast::FieldDefinition;
 use gql_resolvers::ResolvedValue;
 use gql_schema_types::{Schema, Valid};
 use jb_text::Memory;

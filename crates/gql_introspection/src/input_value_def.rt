@@ -13,9 +13,8 @@ use crate::leaves::{
 };
 use crate::meta_object::MetaObject;
 use crate::named_types::type_object;
-use gql_ast::print_value;
+use gql_ast::{InputValueDefinition, print_value};
 use gql_ast_base::Value;
-use gql_ast_definitions::InputValueDefinition;
 use gql_resolvers::ResolvedValue;
 use gql_schema_types::{Schema, Valid};
 use jb_text::Memory;

@@ -11,10 +11,8 @@ use crate::input_value_def::input_value_def_field;
 use crate::schema_meta::schema_meta_field;
 use crate::type_def::type_def_field;
 use crate::wrapped::wrapped_field;
+use gql_ast::{DirectiveDefinition, EnumValueDefinition, FieldDefinition, InputValueDefinition};
 use gql_ast_base::TypeRef;
-use gql_ast_definitions::{
-    DirectiveDefinition, EnumValueDefinition, FieldDefinition, InputValueDefinition,
-};
 use gql_resolvers::{ObjectValue, ResolveError, ResolveInfo, ResolvedValue};
 use gql_schema_types::{ExtendedType, Schema, Valid};
 use jb_text::Memory;

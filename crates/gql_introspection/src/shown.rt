@@ -14,10 +14,8 @@ use crate::asked::Asked;
 use crate::deprecation::is_deprecated;
 use crate::items::Items;
 use crate::meta_object::MetaObject;
+use gql_ast::{DirectiveDefinition, EnumValueDefinition, FieldDefinition, InputValueDefinition};
 use gql_ast_base::Directive;
-use gql_ast_definitions::{
-    DirectiveDefinition, EnumValueDefinition, FieldDefinition, InputValueDefinition,
-};
 use gql_resolvers::ResolvedValue;
 use gql_response::JsonMap;
 use gql_schema_types::{ExtendedType, Schema, Shared, Valid};

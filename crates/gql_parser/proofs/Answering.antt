@@ -20,10 +20,10 @@ use Rattle.gql_ast.specs.declared.document.Document.{Document}
 use Rattle.gql_ast.specs.Documents.{definitions, file_text, text_of}
 use Rattle.gql_ast_base.specs.declared.type_ref.TypeRef.{TypeRef}
 use Rattle.gql_ast_base.specs.Types.{type_of}
-use Rattle.gql_ast_definitions.specs.declared.selection.Selection.{Selection}
-use Rattle.gql_ast_definitions.specs.Selections.{selected, selections}
-use Rattle.gql_ast_parts.specs.IsRead.{IsRead}
-use Rattle.gql_ast_parts.specs.declared.read.Read.{Read}
+use Rattle.gql_ast.specs.declared.selection.Selection.{Selection}
+use Rattle.gql_ast.specs.Selections.{selected, selections}
+use Rattle.gql_ast_reader.specs.IsRead.{IsRead}
+use Rattle.gql_ast_reader.specs.declared.read.Read.{Read}
 use Rattle.gql_ast_laws.specs.Meant.{IsDocumentOf, AreSelectionsOf, IsTypeOf}
 use Rattle.gql_diag.specs.List.{Diagnostics}
 use Rattle.gql_diag.specs.declared.with_errors.WithErrors.{WithErrors}

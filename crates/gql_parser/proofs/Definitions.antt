@@ -21,16 +21,16 @@ use Rattle.gql_ast.specs.declared.definition.Definition.TheVariants as definitio
 use Rattle.gql_ast.specs.Documents.{executable_definition_of, schema_definition_of, type_definition_of, extension_of, choice_of, definition_of}
 use Rattle.gql_ast_base.specs.Kinds.{is_kind}
 use Rattle.gql_ast_base.specs.Parts.{Text, gather, first, child}
-use Rattle.gql_ast_definitions.specs.Definitions.{scalar_of, object_of, interface_of, union_of, enum_of, input_object_of}
-use Rattle.gql_ast_definitions.specs.Extensions.{schema_extension_of, scalar_extension_of, object_extension_of, interface_extension_of}
-use Rattle.gql_ast_definitions.specs.Extensions.{union_extension_of, enum_extension_of, input_object_extension_of}
-use Rattle.gql_ast_definitions.specs.Schemas.{directive_definition_of, schema_of}
+use Rattle.gql_ast.specs.Definitions.{scalar_of, object_of, interface_of, union_of, enum_of, input_object_of}
+use Rattle.gql_ast.specs.Extensions.{schema_extension_of, scalar_extension_of, object_extension_of, interface_extension_of}
+use Rattle.gql_ast.specs.Extensions.{union_extension_of, enum_extension_of, input_object_extension_of}
+use Rattle.gql_ast.specs.Schemas.{directive_definition_of, schema_of}
 use Rattle.gql_ast_laws.specs.Meant.{IsDocumentOf}
 use Rattle.gql_ast_laws.proofs.Inner.{both_ways, node_of, here, later}
 use Rattle.gql_ast_laws.proofs.Shown.{AreSpelled, tiled-spelled, below-of, rest-of, node-row, rest-row}
 use Rattle.gql_ast_laws.proofs.TokenKinds.{kind_is}
-use Rattle.gql_ast_definitions.specs.declared.operation.OperationDefinition.{OperationDefinition}
-use Rattle.gql_ast_definitions.specs.Operations.{operation_of, fragment_of}
+use Rattle.gql_ast.specs.declared.operation.OperationDefinition.{OperationDefinition}
+use Rattle.gql_ast.specs.Operations.{operation_of, fragment_of}
 use Rattle.gql_ast_laws.proofs.Kept.{Each, IfAny, all-of, head-any, if-any, else-any, map-any, map-always, or-any, then-each}
 use Rattle.gql_parser.proofs.SelectedSets.{set_selects}
 

@@ -5,7 +5,7 @@ use Rattle.gql_cst.specs.Forest.{Forest, nothing, tree_then}
 use Rattle.gql_grammar.specs.declared.syntax_kind.SyntaxKind.TheVariants.{SelectionSet}
 use Rattle.gql_ast_base.specs.Kinds.{is_kind}
 use Rattle.gql_ast_base.specs.Parts.{Text, head, gather, of_kind, children_of, inside}
-use Rattle.gql_ast_definitions.specs.Selections.{selections, selected, selection_of}
+use Rattle.gql_ast.specs.Selections.{selections, selected, selection_of}
 
 each : (text : Text) (file : FileId) (row : Forest) → gather (selection_of text file) row ≡ selections text file row
 each text file nothing = refl

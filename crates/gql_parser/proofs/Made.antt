@@ -2,12 +2,12 @@
 use Rattle.std.proofs.Common.{rules, ◌≡◌, Bool, List, [], ◌∷◌, map, refl, ap, ◌∙◌, if◌then◌else◌}
 use Rattle.std.specs.Option.{option_map_or}
 use Rattle.gql_ast_base.specs.Names.{Named}
-use Rattle.gql_ast_definitions.specs.declared.field_definition.FieldDefinition.{FieldDefinition}
-use Rattle.gql_ast_definitions.specs.declared.selection.Field.{Field}
-use Rattle.gql_ast_definitions.specs.declared.selection.FragmentSpread.{FragmentSpread}
-use Rattle.gql_ast_definitions.specs.declared.selection.InlineFragment.{InlineFragment}
-use Rattle.gql_ast_definitions.specs.declared.selection.Selection.{the_lemmas}
-use Rattle.gql_ast_definitions.specs.declared.selection.Selection.TheVariants as selection
+use Rattle.gql_ast.specs.declared.field_definition.FieldDefinition.{FieldDefinition}
+use Rattle.gql_ast.specs.declared.selection.Field.{Field}
+use Rattle.gql_ast.specs.declared.selection.FragmentSpread.{FragmentSpread}
+use Rattle.gql_ast.specs.declared.selection.InlineFragment.{InlineFragment}
+use Rattle.gql_ast.specs.declared.selection.Selection.{the_lemmas}
+use Rattle.gql_ast.specs.declared.selection.Selection.TheVariants as selection
 use Rattle.gql_document.specs.BuiltSelections.{is_selected_leaf, makes_of, set_of, spread_of}
 use Rattle.gql_document.specs.Made as made
 use Rattle.gql_document.specs.Nodes.{Node, FieldNode, field, inline_fragment, is_nonempty, is_open, nodes, nodes_below, nodes_of, type_inside}

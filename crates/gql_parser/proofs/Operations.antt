@@ -4,7 +4,7 @@ use Rattle.std.proofs.lemmas.List.Elements.{All-append, All-cons, All-head, All-
 use Rattle.gql_ast.specs.declared.definition.Definition.{Definition}
 use Rattle.gql_ast.specs.declared.definition.Definition.TheVariants as definition
 use Rattle.gql_ast_base.specs.Names.{Named}
-use Rattle.gql_ast_definitions.specs.declared.operation.OperationDefinition.{OperationDefinition}
+use Rattle.gql_ast.specs.declared.operation.OperationDefinition.{OperationDefinition}
 use Rattle.gql_document.specs.Definitions.{with_definition, with_definitions}
 use Rattle.gql_document.specs.OperationNameCollision.{with_option, is_first, first_or_none, first_after}
 use Rattle.gql_document.specs.declared.executable_definitions.ExecutableDefinitions.{ExecutableDefinitions}

@@ -10,8 +10,8 @@ use Rattle.gql_ast.specs.declared.definition.Definition.{Definition}
 use Rattle.gql_ast.specs.declared.document.Document.{Document}
 use Rattle.gql_ast_base.specs.Names.{Named, is_reserved}
 use Rattle.gql_ast_base.specs.TypeParts.{named_type}
-use Rattle.gql_ast_definitions.specs.declared.field_definition.FieldDefinition.{FieldDefinition}
-use Rattle.gql_ast_definitions.specs.declared.schema_definition.DirectiveLocation.TheVariants as at
+use Rattle.gql_ast.specs.declared.field_definition.FieldDefinition.{FieldDefinition}
+use Rattle.gql_ast.specs.declared.schema_definition.DirectiveLocation.TheVariants as at
 use Rattle.gql_ast_laws.proofs.Kept.{Each, all-of}
 use Rattle.gql_ast_laws.specs.FieldsIn.{HasFieldsIn}
 use Rattle.gql_ast_laws.specs.Meant.{IsDocumentOf}
@@ -28,14 +28,14 @@ use Rattle.gql_parser.specs.BuiltInText.{is_scalar_of}
 use Rattle.gql_parser.specs.OutputFields.{HaveNoReservedFields, NamesOutputType, HaveOutputTypes}
 use Rattle.gql_parser.specs.Parsers.{its_file}
 use Rattle.gql_parser.specs.SchemaText.{SchemaText, AreDefinitions, all_of, its_given}
-use Rattle.gql_rules_types.specs.EmptyFieldSet.{empty_field_set}
-use Rattle.gql_rules_types.specs.Fields as fields
-use Rattle.gql_rules_types.specs.InterfaceRules.{interfaces_faults}
-use Rattle.gql_rules_types.specs.OutputType.{is_input_object, output_type}
-use Rattle.gql_rules_types.specs.ReservedName.{reserved_name}
-use Rattle.gql_rules_types.specs.SchemaRules.{schema_definition_faults, directive_definitions_faults}
-use Rattle.gql_rules_types.specs.TypeRules.{name_faults, if_written, listed_names_faults, type_faults, types_faults}
-use Rattle.gql_rules_types.specs.UndefinedDefinition.{undefined_definition}
+use Rattle.gql_schema_rules_parts.specs.EmptyFieldSet.{empty_field_set}
+use Rattle.gql_schema_rules_parts.specs.Fields as fields
+use Rattle.gql_schema_rules_parts.specs.InterfaceRules.{interfaces_faults}
+use Rattle.gql_schema_rules_parts.specs.OutputType.{is_input_object, output_type}
+use Rattle.gql_schema_rules_parts.specs.ReservedName.{reserved_name}
+use Rattle.gql_schema_rules_parts.specs.SchemaRules.{schema_definition_faults, directive_definitions_faults}
+use Rattle.gql_schema_rules_parts.specs.TypeRules.{name_faults, if_written, listed_names_faults, type_faults, types_faults}
+use Rattle.gql_schema_rules_parts.specs.UndefinedDefinition.{undefined_definition}
 use Rattle.gql_rules_values.specs.Directives.{directive_faults}
 use Rattle.gql_rules_values.specs.Faults.{fault, name_fault, only_if}
 use Rattle.gql_rules_values.specs.Known.{is_built_in_scalar, is_known}

@@ -10,7 +10,7 @@ use Rattle.gql_ast.specs.declared.document.Document.{Document}
 use Rattle.gql_ast_base.specs.Names.{Named}
 use Rattle.gql_ast_base.specs.declared.operation_type.OperationType.{OperationType}
 use Rattle.gql_ast_base.specs.declared.operation_type.OperationType.TheVariants.{Query, Mutation, Subscription}
-use Rattle.gql_ast_definitions.specs.declared.schema_definition.DirectiveLocation.TheVariants as at
+use Rattle.gql_ast.specs.declared.schema_definition.DirectiveLocation.TheVariants as at
 use Rattle.gql_diag_messages.specs.declared.diagnostic_data.DiagnosticData.{DiagnosticData}
 use Rattle.gql_rules_values.specs.Faults.{only_if, name_fault}
 use Rattle.gql_diag_messages.specs.declared.rule.Rule.TheVariants.{UndefinedDefinition, RootOperationObjectType}
@@ -25,14 +25,14 @@ use Rattle.gql_schema_build.specs.declared.type_system.TypeSystem.{TypeSystem}
 use Rattle.gql_schema_rules.specs.Scalars.{built_in_scalars, validated}
 use Rattle.gql_schema_rules.specs.SchemaFaults.{AreSchemaFaults, parts_faults}
 use Rattle.gql_rules_values.specs.Directives.{directive_faults}
-use Rattle.gql_rules_types.specs.InterfaceRules.{interfaces_faults}
-use Rattle.gql_rules_types.specs.DuplicateRootOperationType.{duplicate_root_operation_type}
-use Rattle.gql_rules_types.specs.QueryRootOperationType.{query_root_operation_type}
-use Rattle.gql_rules_types.specs.ObjectTypes.{is_another_kind}
-use Rattle.gql_rules_types.specs.RootOperationObjectType.{root_operation_object_type}
-use Rattle.gql_rules_types.specs.UndefinedDefinition.{undefined_definition}
-use Rattle.gql_rules_types.specs.SchemaRules.{root_name_faults, root_faults, roots_faults, schema_definition_faults, directive_definitions_faults}
-use Rattle.gql_rules_types.specs.TypeRules.{types_faults}
+use Rattle.gql_schema_rules_parts.specs.InterfaceRules.{interfaces_faults}
+use Rattle.gql_schema_rules_parts.specs.DuplicateRootOperationType.{duplicate_root_operation_type}
+use Rattle.gql_schema_rules_parts.specs.QueryRootOperationType.{query_root_operation_type}
+use Rattle.gql_schema_rules_parts.specs.ObjectTypes.{is_another_kind}
+use Rattle.gql_schema_rules_parts.specs.RootOperationObjectType.{root_operation_object_type}
+use Rattle.gql_schema_rules_parts.specs.UndefinedDefinition.{undefined_definition}
+use Rattle.gql_schema_rules_parts.specs.SchemaRules.{root_name_faults, root_faults, roots_faults, schema_definition_faults, directive_definitions_faults}
+use Rattle.gql_schema_rules_parts.specs.TypeRules.{types_faults}
 use Rattle.gql_schema_types.specs.Implementers.{is_object}
 use Rattle.gql_schema_types.specs.Schemas.{root_of, object_of}
 use Rattle.gql_schema_types.specs.Types.{type_called, as_object}

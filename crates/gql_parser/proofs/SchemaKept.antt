@@ -2,7 +2,7 @@
 use Rattle.std.proofs.Common.{◌≡◌, ℕ, Bool, true, false, cond, Some, List, [], ◌∷◌, ◌++◌, refl, ◌∙◌}
 use Rattle.std.specs.Prelude.{codes}
 use Rattle.std.specs.Str.{bytes_eq}
-use Rattle.gql_ast_definitions.specs.declared.schema_definition.DirectiveDefinition.{DirectiveDefinition}
+use Rattle.gql_ast.specs.declared.schema_definition.DirectiveDefinition.{DirectiveDefinition}
 use Rattle.gql_schema_rules.specs.Scalars.{is_named, new_scalar, built_in_scalars, is_missing, with_missing, unless_unused, validated_types}
 use Rattle.gql_schema_types.specs.Entries.{without}
 use Rattle.gql_schema_types.specs.Types.{type_name, type_called}

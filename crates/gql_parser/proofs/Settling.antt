@@ -4,7 +4,7 @@ use Rattle.std.specs.Prelude.{codes}
 use Rattle.std.specs.List.{list_any}
 use Rattle.std.specs.Str.{bytes_eq}
 use Rattle.std.proofs.lemmas.Slice.Eq.{bytes_eq-Decides}
-use Rattle.gql_ast_definitions.specs.declared.schema_definition.DirectiveDefinition.{DirectiveDefinition}
+use Rattle.gql_ast.specs.declared.schema_definition.DirectiveDefinition.{DirectiveDefinition}
 use Rattle.gql_ast_laws.proofs.Kept.{Each}
 use Rattle.gql_parser.proofs.SourcedFields.{each-append, each-filter}
 use Rattle.gql_schema_rules.specs.Scalars.{type_names, directive_names, is_named, new_scalar, built_in_scalars, is_missing, with_missing, unless_unused, validated_types}

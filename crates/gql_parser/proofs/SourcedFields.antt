@@ -10,7 +10,7 @@ use Rattle.gql_ast.specs.declared.definition.Definition.{Definition}
 use Rattle.gql_ast.specs.declared.definition.Definition.TheVariants as definition
 use Rattle.gql_ast_base.specs.Names.{Named, is_reserved}
 use Rattle.gql_ast_base.specs.TypeParts.{named_type}
-use Rattle.gql_ast_definitions.specs.declared.field_definition.FieldDefinition.{FieldDefinition}
+use Rattle.gql_ast.specs.declared.field_definition.FieldDefinition.{FieldDefinition}
 use Rattle.gql_ast_laws.proofs.Kept.{Each}
 use Rattle.gql_ast_laws.specs.Defaults.{IsIn}
 use Rattle.gql_ast_laws.specs.FieldsIn.{IsFieldIn, HasFieldsIn}

@@ -4,15 +4,15 @@ use Rattle.std.specs.List.{AllByRecursion}
 use Rattle.std.specs.Option.{option_map_or, unwrap_or}
 use Rattle.gql_ast_base.specs.Names.{Named}
 use Rattle.gql_ast_base.specs.TypeParts.{named_type}
-use Rattle.gql_ast_definitions.proofs.Variants.{each}
-use Rattle.gql_ast_definitions.specs.declared.field_definition.FieldDefinition.{FieldDefinition}
-use Rattle.gql_ast_definitions.specs.declared.operation.FragmentDefinition.{FragmentDefinition}
-use Rattle.gql_ast_definitions.specs.declared.operation.OperationDefinition.{OperationDefinition}
-use Rattle.gql_ast_definitions.specs.declared.selection.Field.{Field}
-use Rattle.gql_ast_definitions.specs.declared.selection.FragmentSpread.{FragmentSpread}
-use Rattle.gql_ast_definitions.specs.declared.selection.InlineFragment.{InlineFragment}
-use Rattle.gql_ast_definitions.specs.declared.selection.Selection.{Selection, the_lemmas}
-use Rattle.gql_ast_definitions.specs.declared.selection.Selection.TheVariants as selection
+use Rattle.gql_ast.proofs.Variants.{each}
+use Rattle.gql_ast.specs.declared.field_definition.FieldDefinition.{FieldDefinition}
+use Rattle.gql_ast.specs.declared.operation.FragmentDefinition.{FragmentDefinition}
+use Rattle.gql_ast.specs.declared.operation.OperationDefinition.{OperationDefinition}
+use Rattle.gql_ast.specs.declared.selection.Field.{Field}
+use Rattle.gql_ast.specs.declared.selection.FragmentSpread.{FragmentSpread}
+use Rattle.gql_ast.specs.declared.selection.InlineFragment.{InlineFragment}
+use Rattle.gql_ast.specs.declared.selection.Selection.{Selection, the_lemmas}
+use Rattle.gql_ast.specs.declared.selection.Selection.TheVariants as selection
 use Rattle.gql_document.specs.AmbiguousAnonymousOperation.{are_several, is_ambiguous}
 use Rattle.gql_document.specs.Build.{operation_on, built_operation, built_operations, fragment_on, built_fragment, built_fragments}
 use Rattle.gql_document.specs.Builders.{Taken}

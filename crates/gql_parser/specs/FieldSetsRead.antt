@@ -12,8 +12,8 @@ use Rattle.gql_cst.specs.Forest.{plain}
 use Rattle.gql_cst.specs.Report.{Report}
 use Rattle.gql_ast_base.specs.Names.{Named}
 use Rattle.gql_ast_base.specs.Parts.{Text, gather, inside}
-use Rattle.gql_ast_definitions.specs.declared.selection.Selection.{Selection}
-use Rattle.gql_ast_definitions.specs.Selections.{selection_of}
+use Rattle.gql_ast.specs.declared.selection.Selection.{Selection}
+use Rattle.gql_ast.specs.Selections.{selection_of}
 use Rattle.gql_ast_laws.specs.Meant.{AreSelectionsOf}
 use Rattle.gql_diag.specs.List.{Diagnostics}
 use Rattle.gql_diag.specs.declared.with_errors.WithErrors.{WithErrors}

@@ -3,8 +3,8 @@ use Rattle.std.specs.Prelude.{◌≡◌, ℕ, true, false, List, Some, None}
 use Rattle.std.specs.List.{All}
 use Rattle.gql_ast_base.specs.Names.{is_reserved}
 use Rattle.gql_ast_base.specs.TypeParts.{named_type}
-use Rattle.gql_ast_definitions.specs.declared.field_definition.FieldDefinition.{FieldDefinition}
-use Rattle.gql_rules_types.specs.OutputType.{is_input_object}
+use Rattle.gql_ast.specs.declared.field_definition.FieldDefinition.{FieldDefinition}
+use Rattle.gql_schema_rules_parts.specs.OutputType.{is_input_object}
 use Rattle.gql_schema_types.specs.Entries.{entry}
 use Rattle.gql_schema_types.specs.Types.{type_called, fields_of, field_name}
 use Rattle.gql_schema_types.specs.declared.schema.Schema.{Schema}

@@ -3,7 +3,7 @@
 ghost use Rattle.std.specs.Prelude.{◌≡◌, Some, IfOk, IsSome, OnErr};
 ghost use Rattle.std.specs.Map.{lookup};
 ghost use Rattle.gql_ast.specs.Documents.{text_of};
-ghost use Rattle.gql_ast_parts.specs.IsRead.{IsRead};
+ghost use Rattle.gql_ast_reader.specs.IsRead.{IsRead};
 ghost use Rattle.gql_cst.specs.Report.{report_of};
 ghost use Rattle.gql_grammar.specs.declared.rule.Rule.TheVariants as rule;
 ghost use Rattle.gql_source.specs.File.{is_file};
@@ -14,7 +14,7 @@ ghost use Rattle.gql_parser.specs.DocumentsRead.{IsReadTo};
 
 use crate::file::only_file;
 use gql_ast::{Document, Source};
-use gql_ast_parts::{Read, read_definitions};
+use gql_ast_reader::{Read, read_definitions};
 use gql_cst::{CstError, Limits, Parsed, parse_selection_set, parse_type};
 use gql_source::{FileId, SourceMap};
 use jb_text::Memory;

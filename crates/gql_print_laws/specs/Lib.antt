@@ -2,3 +2,10 @@ pub mod Literal
 pub mod ReadBack
 pub mod Said
 pub mod Written
+pub mod Plain
+pub mod Depth
+pub mod Meant
+pub mod Told
+pub mod Printable
+pub mod Forms
+pub mod Examples

@@ -7,7 +7,7 @@ use Rattle.gql_ast_base.specs.TypeParts.{named_type}
 use Rattle.gql_ast_base.specs.declared.type_ref.TypeRef.{TypeRef, fold-TypeRef, out-TypeRef, fold_out-TypeRef}
 use Rattle.gql_ast_base.specs.declared.type_ref.TypeRef as ref
 use Rattle.gql_ast_base.specs.declared.type_ref.TypeRef.TheOpen.{TypeRef-F}
-use Rattle.gql_ast_definitions.specs.declared.field_definition.FieldDefinition.{FieldDefinition}
+use Rattle.gql_ast.specs.declared.field_definition.FieldDefinition.{FieldDefinition}
 use Rattle.gql_resolvers.specs.Meaning.{Members}
 use Rattle.gql_resolvers.specs.Data.{Data}
 use Rattle.gql_resolvers.specs.DataMeaning.{failure_text, unless_failed, shaped_items, list_or_leaf, object_or_leaf, unfailed_level, shape_level, shaped, composite_name, value_at, value_or_null, data_meaning}

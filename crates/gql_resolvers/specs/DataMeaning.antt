@@ -7,7 +7,7 @@ use Rattle.jb_tree.specs.declared.value.Value.{Value}
 use Rattle.jb_tree.specs.declared.value.Value.TheVariants.{Null}
 use Rattle.jb_tree.specs.Value.{array_items, object_members, string_text}
 use Rattle.gql_ast_base.specs.Names.{Named}
-use Rattle.gql_ast_definitions.specs.declared.field_definition.FieldDefinition.{FieldDefinition}
+use Rattle.gql_ast.specs.declared.field_definition.FieldDefinition.{FieldDefinition}
 use Rattle.gql_ast_base.specs.declared.type_ref.TypeRef.{TypeRef, fold-TypeRef}
 use Rattle.gql_ast_base.specs.declared.type_ref.TypeRef.TheOpen.{TypeRef-F}
 use Rattle.gql_ast_base.specs.TypeParts.{named_type}

@@ -5,7 +5,7 @@ use Rattle.jb_tree.specs.declared.value.Value.{Value}
 use Rattle.jb_tree.specs.Value.{is_null}
 use Rattle.gql_ast_base.specs.Names.{Named}
 use Rattle.gql_ast_base.specs.declared.type_ref.TypeRef.{TypeRef}
-use Rattle.gql_ast_definitions.specs.declared.field_definition.EnumValueDefinition.{EnumValueDefinition}
+use Rattle.gql_ast.specs.declared.field_definition.EnumValueDefinition.{EnumValueDefinition}
 use Rattle.gql_ast_base.specs.TypeParts.{named_type, is_non_null}
 use Rattle.gql_schema_types.specs.Called.{is_among}
 use Rattle.gql_schema_types.specs.Schemas.{object_of, type_named}

@@ -1,6 +1,6 @@
 -- The types that references name, within all lists: section 2.11 of GraphQL October 2021.
 use Rattle.std.specs.Prelude.{Option, Some, None}
-use Rattle.gql_ast_definitions.specs.declared.field_definition.FieldDefinition.{FieldDefinition}
+use Rattle.gql_ast.specs.declared.field_definition.FieldDefinition.{FieldDefinition}
 use Rattle.gql_schema_types.specs.Schemas.{type_named}
 use Rattle.gql_schema_types.specs.declared.schema.Schema.{Schema}
 use Rattle.gql_schema_types.specs.declared.types.ExtendedType.{ExtendedType}

@@ -5,7 +5,7 @@ ghost use Rattle.std.specs.Option.{ForSome, option_copied};
 ghost use Rattle.gql_schema_types.specs.Schemas.{field_of, type_named};
 ghost use Rattle.gql_resolvers.specs.NamedTypes.{type_named_by_field};
 
-use gql_ast_definitions::FieldDefinition;
+use gql_ast::FieldDefinition;
 use gql_document_types::{ExecutableDocument, Field};
 use gql_response::JsonMap;
 use gql_schema_types::{ExtendedType, ImplementersMap, ObjectType, Schema, Valid};

@@ -7,7 +7,7 @@ ghost use Rattle.gql_resolvers.specs.Seen.{misfit_seen};
 
 use crate::messages::{other_enum, other_leaf, overflowing_leaf};
 use crate::misfit::{Misfit, wrong};
-use gql_ast_definitions::EnumValueDefinition;
+use gql_ast::EnumValueDefinition;
 use gql_coerce::{enum_takes, scalar_takes};
 use gql_schema_types::Table;
 use jb_text::Memory;

@@ -5,29 +5,29 @@ use Rattle.gql_collect.specs.Groups.{SameGroups, applying}
 use Rattle.gql_collect.specs.declared.group.Group.{Group as FieldsOfKey}
 use Rattle.gql_document_types.specs.Ranks.{AreRanked}
 use Rattle.gql_document_types.specs.declared.selection.Selection.{Selection}
-use Rattle.gql_exec_fields.specs.Executing.{Resolving, request_of}
-use Rattle.gql_exec_fields.specs.Group.{Group}
-use Rattle.gql_exec_fields.specs.Nesting.{nesting}
-use Rattle.gql_exec_fields.specs.Request.{Request}
-use Rattle.gql_exec_fields.specs.RequestWorld.{plain_world, setting_on}
-use Rattle.gql_exec_fields.specs.declared.executing.Executing.{Executing}
-use Rattle.gql_exec_fields.proofs.Nests.{suffices}
-use Rattle.gql_exec_fields.proofs.Views.{views}
+use Rattle.gql_exec.specs.Executing.{Resolving, request_of}
+use Rattle.gql_exec.specs.Group.{Group}
+use Rattle.gql_exec.specs.Nesting.{nesting}
+use Rattle.gql_exec.specs.Request.{Request}
+use Rattle.gql_exec.specs.RequestWorld.{plain_world, setting_on}
+use Rattle.gql_exec.specs.declared.executing.Executing.{Executing}
+use Rattle.gql_exec.proofs.Nests.{suffices}
+use Rattle.gql_exec.proofs.Views.{views}
 use Rattle.gql_resolvers.specs.Execute.{Member}
 use Rattle.gql_resolvers.specs.Trail.{Trail}
 use Rattle.gql_resolvers.specs.World.{World}
 use Rattle.gql_response.specs.declared.execution_response.ExecutionResponse.{ExecutionResponse}
 use Rattle.gql_schema_types.specs.declared.types.ObjectType.{ObjectType}
-use Rattle.gql_verdict.specs.Claims.{Claim, claims_from, first_missing}
-use Rattle.gql_verdict.specs.Walk.{groups_found, is_none, kept_if, of_keys, set_found}
-use Rattle.gql_check_laws.specs.Findings.{none_yet}
-use Rattle.gql_check_laws.specs.Found.{IsFound}
-use Rattle.gql_check_laws.specs.Judgement.{found_in, has_keys, judgement_by}
-use Rattle.gql_check_laws.specs.Reported.{with_keys}
-use Rattle.gql_check_laws.proofs.AlikeFound.{views-keys, views-walk}
-use Rattle.gql_check_laws.proofs.Finding.{found-as}
-use Rattle.gql_check_laws.proofs.Judged.{judged}
-use Rattle.gql_check_laws.proofs.Matching.{keys-given}
+use Rattle.gql_checker_laws.specs.Claims.{Claim, claims_from, first_missing}
+use Rattle.gql_checker_laws.specs.Walk.{groups_found, is_none, kept_if, of_keys, set_found}
+use Rattle.gql_checker_laws.specs.Findings.{none_yet}
+use Rattle.gql_checker_laws.specs.Found.{IsFound}
+use Rattle.gql_checker_laws.specs.Judgement.{found_in, has_keys, judgement_by}
+use Rattle.gql_checker_laws.specs.Reported.{with_keys}
+use Rattle.gql_checker_laws.proofs.AlikeFound.{views-keys, views-walk}
+use Rattle.gql_checker_laws.proofs.Finding.{found-as}
+use Rattle.gql_checker_laws.proofs.Judged.{judged}
+use Rattle.gql_checker_laws.proofs.Matching.{keys-given}
 use Rattle.gql_response_check.specs.Finds.{FindsParts}
 use Rattle.gql_response_check.specs.Verdict.{IsVerdictOn, verdict_of}
 use Rattle.gql_response_check.specs.Views.{findings_of}

@@ -1,15 +1,15 @@
 -- Parts of a response, as the code looks at them.
 use Rattle.std.proofs.Common.{rules, arith, ◌≡◌, ℕ, zero, suc, Bool, true, false, nat_eq, List, [], ◌∷◌, length, Option, Some, refl, sym, ap, ◌∙◌}
 use Rattle.std.specs.Prelude.{◌&&◌, if◌then◌else◌, option_to_list}
-use Rattle.gql_check_laws.specs.Reported.{items_of}
-use Rattle.gql_check_laws.specs.Shares.{same_number}
-use Rattle.gql_check_laws.proofs.Sharing.{same-is}
+use Rattle.gql_checker_laws.specs.Reported.{items_of}
+use Rattle.gql_checker_laws.specs.Shares.{same_number}
+use Rattle.gql_checker_laws.proofs.Sharing.{same-is}
 use Rattle.gql_response.specs.declared.path.ResponseDataPathSegment.TheVariants.{ListIndex}
 use Rattle.gql_resolvers.specs.Trail.{Segment}
 use Rattle.gql_source.specs.declared.line_column.LineColumn.{LineColumn}
-use Rattle.gql_verdict.specs.Claims.{Claim, share_one}
-use Rattle.gql_verdict.specs.Shows.{same_place, same_places}
-use Rattle.gql_verdict.specs.Walk.{kept_if, of_length, same_length}
+use Rattle.gql_checker_laws.specs.Claims.{Claim, share_one}
+use Rattle.gql_checker_laws.specs.Shows.{same_place, same_places}
+use Rattle.gql_checker_laws.specs.Walk.{kept_if, of_length, same_length}
 use Rattle.jb_tree.specs.Value.{array_items}
 use Rattle.jb_tree.specs.declared.value.Value.{Value}
 

@@ -4,21 +4,21 @@ use Rattle.std.proofs.lemmas.Result.{IfOk-weaker}
 use Rattle.jb_tree.specs.declared.value.Value.{Value}
 use Rattle.gql_ast_base.specs.Names.{Named}
 use Rattle.gql_ast_base.specs.TypeParts.{is_non_null}
-use Rattle.gql_ast_definitions.specs.declared.field_definition.FieldDefinition.{FieldDefinition}
+use Rattle.gql_ast.specs.declared.field_definition.FieldDefinition.{FieldDefinition}
 use Rattle.gql_coerce.specs.declared.told.ArgumentFault.{ArgumentFault}
 use Rattle.gql_collect.specs.Grouping.{groups_seen}
 use Rattle.gql_collect.specs.Groups.{SameGroups, applying, response_name}
 use Rattle.gql_collect.specs.declared.group.Group.{Group as FieldsOfKey}
 use Rattle.gql_document_types.specs.declared.selection.Selection.{Selection}
-use Rattle.gql_exec_fields.specs.Asking.{outcome_of}
-use Rattle.gql_exec_fields.specs.Asks as asks
-use Rattle.gql_exec_fields.specs.Executing.{Resolving, request_of, world_of}
-use Rattle.gql_exec_fields.specs.Group.{Group}
-use Rattle.gql_exec_fields.specs.RequestWorld.{setting_on}
-use Rattle.gql_exec_fields.specs.declared.asking.Asked.{Asked}
-use Rattle.gql_exec_fields.specs.declared.asking.Asked.TheVariants.{Gave, Failed, Refused}
-use Rattle.gql_exec_fields.specs.declared.executing.Executing.{Executing}
-use Rattle.gql_exec_fields.proofs.Completing.{at_field, field-spot}
+use Rattle.gql_exec.specs.Asking.{outcome_of}
+use Rattle.gql_exec.specs.Asks as asks
+use Rattle.gql_exec.specs.Executing.{Resolving, request_of, world_of}
+use Rattle.gql_exec.specs.Group.{Group}
+use Rattle.gql_exec.specs.RequestWorld.{setting_on}
+use Rattle.gql_exec.specs.declared.asking.Asked.{Asked}
+use Rattle.gql_exec.specs.declared.asking.Asked.TheVariants.{Gave, Failed, Refused}
+use Rattle.gql_exec.specs.declared.executing.Executing.{Executing}
+use Rattle.gql_exec.proofs.Completing.{at_field, field-spot}
 use Rattle.gql_resolvers.specs.Execute.{Member}
 use Rattle.gql_resolvers.specs.Fault.{told_at}
 use Rattle.gql_resolvers.specs.Meaning.{meaning_by, meanings_by}
@@ -30,16 +30,16 @@ use Rattle.gql_resolvers.specs.declared.resolve_error.FieldError.{FieldError}
 use Rattle.gql_resolvers.specs.declared.resolved_value.ResolvedValue.{ResolvedValue}
 use Rattle.gql_schema_types.specs.declared.types.ObjectType.{ObjectType}
 use Rattle.gql_source.specs.File.{Files}
-use Rattle.gql_verdict.specs.Claims.{Claim, nothing}
-use Rattle.gql_verdict.specs.Walk.{inner_found, outcome_found, set_found, settled}
-use Rattle.gql_check_laws.specs.Findings.{with_all_told}
-use Rattle.gql_check_laws.specs.Found.{FindsBelow, IsFound}
-use Rattle.gql_check_laws.specs.Places.{fault_found, item_found, own_found, place_found}
-use Rattle.gql_check_laws.specs.Reported.{is_idle, is_leaf, items_of, members_of}
-use Rattle.gql_check_laws.specs.Told.{any_told, told_numbers}
-use Rattle.gql_check_laws.proofs.Ending.{idle-none, idle-not, outcome-fault, outcome-place, place-leaf, place-misfit, place-object, place-skip}
-use Rattle.gql_check_laws.proofs.Finding.{found-as, found-nothing, found-told}
-use Rattle.gql_check_laws.proofs.Inside.{list-found, typed-found}
+use Rattle.gql_checker_laws.specs.Claims.{Claim, nothing}
+use Rattle.gql_checker_laws.specs.Walk.{inner_found, outcome_found, set_found, settled}
+use Rattle.gql_checker_laws.specs.Findings.{with_all_told}
+use Rattle.gql_checker_laws.specs.Found.{FindsBelow, IsFound}
+use Rattle.gql_checker_laws.specs.Places.{fault_found, item_found, own_found, place_found}
+use Rattle.gql_checker_laws.specs.Reported.{is_idle, is_leaf, items_of, members_of}
+use Rattle.gql_checker_laws.specs.Told.{any_told, told_numbers}
+use Rattle.gql_checker_laws.proofs.Ending.{idle-none, idle-not, outcome-fault, outcome-place, place-leaf, place-misfit, place-object, place-skip}
+use Rattle.gql_checker_laws.proofs.Finding.{found-as, found-nothing, found-told}
+use Rattle.gql_checker_laws.proofs.Inside.{list-found, typed-found}
 use Rattle.gql_response_check.specs.Finds.{FindsAnswer, FindsFault, FindsField, FindsItem, FindsItems, FindsMembers, FindsOwn, FindsParts}
 use Rattle.gql_response_check.specs.Views.{claims_in, findings_of, value_in}
 use Rattle.gql_response_check.specs.declared.findings.Findings.{Findings}

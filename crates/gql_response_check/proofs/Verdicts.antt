@@ -5,8 +5,8 @@ use Rattle.gql_document_types.specs.declared.document.ExecutableDocument.{Execut
 use Rattle.gql_document_types.specs.declared.operation.Operation.{Operation}
 use Rattle.gql_exec.specs.Thing.{Thing, of_user, type_of_thing}
 use Rattle.gql_exec.specs.ThingMeaning.{thing_meaning}
-use Rattle.gql_exec_fields.specs.Executing.{Resolving, request_by}
-use Rattle.gql_exec_fields.specs.Request.{Members}
+use Rattle.gql_exec.specs.Executing.{Resolving, request_by}
+use Rattle.gql_exec.specs.Request.{Members}
 use Rattle.gql_response.specs.declared.execution_response.ExecutionResponse.{ExecutionResponse}
 use Rattle.gql_response.specs.declared.fault.ResponseFault.{ResponseFault}
 use Rattle.gql_schema_types.specs.Schemas.{object_of}

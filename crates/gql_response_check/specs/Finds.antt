@@ -3,10 +3,10 @@ use Rattle.std.specs.Prelude.{◌≡◌, ℕ, Bool, List, Option, None, map}
 use Rattle.jb_tree.specs.declared.value.Value.{Value}
 use Rattle.gql_collect.specs.declared.group.Group.{Group as FieldsOfKey}
 use Rattle.gql_document_types.specs.declared.selection.Selection.{Selection}
-use Rattle.gql_exec_fields.specs.Executing.{Resolving, world_of}
-use Rattle.gql_exec_fields.specs.Group.{Group}
-use Rattle.gql_exec_fields.specs.Trails.{group_of}
-use Rattle.gql_exec_fields.specs.declared.executing.Executing.{Executing}
+use Rattle.gql_exec.specs.Executing.{Resolving, world_of}
+use Rattle.gql_exec.specs.Group.{Group}
+use Rattle.gql_exec.specs.Trails.{group_of}
+use Rattle.gql_exec.specs.declared.executing.Executing.{Executing}
 use Rattle.gql_resolvers.specs.Execute.{Member}
 use Rattle.gql_resolvers.specs.Resolved.{Fault, Meaning, Meanings}
 use Rattle.gql_resolvers.specs.Spot.{Spot, field_spot, item_spot, trail}
@@ -14,10 +14,10 @@ use Rattle.gql_resolvers.specs.Trail.{Trail, path_of}
 use Rattle.gql_resolvers.specs.World.{World}
 use Rattle.gql_schema_types.specs.declared.types.ObjectType.{ObjectType}
 use Rattle.gql_source.specs.File.{Files}
-use Rattle.gql_verdict.specs.Claims.{Claim, first_of}
-use Rattle.gql_verdict.specs.Walk.{bad_by, groups_found, items_found, outcome_found}
-use Rattle.gql_check_laws.specs.Found.{FindsBelow, FindsGroups, IsFound}
-use Rattle.gql_check_laws.specs.Places.{fault_found, item_found, members_at, own_found, place_found}
+use Rattle.gql_checker_laws.specs.Claims.{Claim, first_of}
+use Rattle.gql_checker_laws.specs.Walk.{bad_by, groups_found, items_found, outcome_found}
+use Rattle.gql_checker_laws.specs.Found.{FindsBelow, FindsGroups, IsFound}
+use Rattle.gql_checker_laws.specs.Places.{fault_found, item_found, members_at, own_found, place_found}
 use Rattle.gql_response_check.specs.Views.{claims_in, findings_of, value_in}
 use Rattle.gql_response_check.specs.declared.findings.Findings.{Findings}
 use Rattle.gql_response_check.specs.declared.reported.Reported.{Reported}

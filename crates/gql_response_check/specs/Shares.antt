@@ -2,8 +2,8 @@
 use Rattle.std.specs.Prelude.{◌≡◌, ◌<◌, ℕ, List, [], length}
 use Rattle.gql_ast_base.specs.Names.{Named}
 use Rattle.gql_response.specs.declared.path.ResponseDataPathSegment.TheVariants.{Field, ListIndex}
-use Rattle.gql_verdict.specs.Claims.{Claim, share}
-use Rattle.gql_check_laws.specs.Shares as law
+use Rattle.gql_checker_laws.specs.Claims.{Claim, share}
+use Rattle.gql_checker_laws.specs.Shares as law
 use Rattle.gql_response_check.specs.Views.{claim_of}
 use Rattle.gql_response_check.specs.declared.claim.Claim.{Claim as HeldClaim}
 use Rattle.gql_response_check.specs.declared.shares.IndexShares.{IndexShares}

@@ -5,14 +5,14 @@ use Rattle.gql_document_types.specs.declared.operation.Operation.{Operation}
 use Rattle.gql_document_types.specs.declared.selection.Selection.{Selection}
 use Rattle.gql_exec.specs.Thing.{of_user, type_of_thing}
 use Rattle.gql_exec.specs.ThingMeaning.{thing_meaning}
-use Rattle.gql_exec_fields.specs.Executing.{Resolving, request_by}
-use Rattle.gql_exec_fields.specs.Request.{Members, Request}
+use Rattle.gql_exec.specs.Executing.{Resolving, request_by}
+use Rattle.gql_exec.specs.Request.{Members, Request}
 use Rattle.gql_response.specs.declared.execution_response.ExecutionResponse.{ExecutionResponse}
 use Rattle.gql_response.specs.declared.fault.ResponseFault.{ResponseFault}
 use Rattle.gql_schema_types.specs.Schemas.{object_of}
 use Rattle.gql_schema_types.specs.declared.schema.Schema.{Schema}
 use Rattle.gql_schema_types.specs.declared.types.ObjectType.{ObjectType}
-use Rattle.gql_check_laws.specs.Judgement.{IsJudged, Judgement, is_explained, false_error, bad_value}
+use Rattle.gql_checker_laws.specs.Judgement.{IsJudged, Judgement, is_explained, false_error, bad_value}
 use Rattle.gql_response_check.specs.declared.verdict.Verdict.{Verdict}
 use Rattle.gql_response_check.specs.declared.verdict.Verdict.TheVariants.{Explained, NotResponse, FalseError, BadValue}
 

@@ -5,8 +5,8 @@ use Rattle.jb_tree.specs.Value.{is_null}
 use Rattle.jb_tree.specs.declared.value.Value.{Value}
 use Rattle.gql_resolvers.specs.Resolved.{Fault}
 use Rattle.gql_response.specs.declared.request_error.RequestError.{RequestError}
-use Rattle.gql_verdict.specs.Claims.{Claim}
-use Rattle.gql_check_laws.specs.Findings.{Findings}
+use Rattle.gql_checker_laws.specs.Claims.{Claim}
+use Rattle.gql_checker_laws.specs.Findings.{Findings}
 use Rattle.gql_response_check.specs.declared.claim.Claim.{Claim as HeldClaim}
 use Rattle.gql_response_check.specs.declared.findings.Findings.{Findings as HeldFindings}
 use Rattle.gql_response_check.specs.declared.reported.Reported.{Reported}

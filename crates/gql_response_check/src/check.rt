@@ -2,12 +2,12 @@
 
 ghost use Rattle.std.specs.Prelude.{◌≡◌, ◌<◌, is_some, true, IfOk, Ok};
 ghost use Rattle.gql_document_types.specs.Spreads.{AreAcyclic};
-ghost use Rattle.gql_exec_fields.specs.Executing.{request_by};
+ghost use Rattle.gql_exec.specs.Executing.{request_by};
 ghost use Rattle.gql_response.specs.Reading.{response_read};
 ghost use Rattle.gql_schema_types.specs.Schemas.{object_of};
-ghost use Rattle.gql_verdict.specs.Claims.{first_missing};
-ghost use Rattle.gql_verdict.specs.Walk.{is_none};
-ghost use Rattle.gql_check_laws.specs.Judgement.{judgement_by};
+ghost use Rattle.gql_checker_laws.specs.Claims.{first_missing};
+ghost use Rattle.gql_checker_laws.specs.Walk.{is_none};
+ghost use Rattle.gql_checker_laws.specs.Judgement.{judgement_by};
 ghost use Rattle.gql_response_check.specs.Verdict.{IsVerdictBy, IsVerdictOn, IsVerdictOver, verdict_of};
 
 use crate::claim::claims;
@@ -18,8 +18,7 @@ use crate::walk::Checking;
 use bytes::Bytes;
 use gql_collect::{Pieces, Steps};
 use gql_document_types::{ExecutableDocument, Operation};
-use gql_exec::Introspected;
-use gql_exec_fields::{Executing, Path};
+use gql_exec::{Executing, Introspected, Path};
 use gql_graph::laws as graph_laws;
 use gql_resolvers::{ObjectValue, RequestInfo};
 use gql_response::{ExecutionResponse, JsonMap};

@@ -1,7 +1,7 @@
 //! Listed errors on the way to their places.
 
 ghost use Rattle.std.specs.Prelude.{◌≡◌, IfOk};
-ghost use Rattle.gql_verdict.specs.Claims.{claims_from};
+ghost use Rattle.gql_checker_laws.specs.Claims.{claims_from};
 ghost use Rattle.gql_response_check.specs.Views.{claims_of};
 
 use gql_response::{GraphQLError, ResponseDataPathSegment};

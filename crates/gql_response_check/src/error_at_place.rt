@@ -3,9 +3,9 @@
 ghost use Rattle.std.specs.Prelude.{◌≡◌, option_to_list};
 ghost use Rattle.gql_response.specs.ErrorAt.{place_in};
 ghost use Rattle.gql_source.specs.File.{Files};
-ghost use Rattle.gql_verdict.specs.Shows as spec;
-ghost use Rattle.gql_check_laws.specs.Findings.{with_all_told};
-ghost use Rattle.gql_check_laws.specs.Told.{any_told, is_told, told_numbers};
+ghost use Rattle.gql_checker_laws.specs.Shows as spec;
+ghost use Rattle.gql_checker_laws.specs.Findings.{with_all_told};
+ghost use Rattle.gql_checker_laws.specs.Told.{any_told, is_told, told_numbers};
 ghost use Rattle.gql_response_check.specs.Views.{claim_of, claims_of, fault_in, findings_of};
 
 use crate::claim::Claim;

@@ -3,7 +3,7 @@
 //!
 //! [`check_response`] reads the bytes of a response and walks along its data and along the paths of its errors at once, beside an
 //! execution: it goes where the data or an error goes, asks each resolver on the way once, and compares what it gives with what the
-//! response has there. What it finds is what the theory of crate `gql_verdict` says of such a walk.
+//! response has there. What it finds is what the theory of crate `gql_checker_laws` says of such a walk.
 #![tactic(auto)]
 
 mod check;

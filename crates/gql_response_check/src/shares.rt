@@ -1,9 +1,9 @@
 //! Claims shared out by their next step.
 
 ghost use Rattle.std.specs.Prelude.{◌≡◌, ◌<◌, ℕ, List, [], ◌++◌, length, replicate, IfOk, OnOk};
-ghost use Rattle.gql_check_laws.specs.Shares.{added};
+ghost use Rattle.gql_checker_laws.specs.Shares.{added};
 ghost use Rattle.gql_response.specs.declared.path.ResponseDataPathSegment.TheVariants.{ListIndex};
-ghost use Rattle.gql_verdict.specs.Claims.{share_one};
+ghost use Rattle.gql_checker_laws.specs.Claims.{share_one};
 ghost use Rattle.gql_response_check.specs.Shares as spec;
 ghost use Rattle.gql_response_check.specs.Views.{claim_of, claims_of};
 

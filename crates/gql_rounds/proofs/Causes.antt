@@ -11,10 +11,10 @@ use Rattle.gql_document_types.specs.declared.document.ExecutableDocument.{Execut
 use Rattle.gql_parser.specs.DocumentText.{DocumentText}
 use Rattle.gql_parser.specs.SchemaText.{SchemaText}
 use Rattle.gql_schema_types.specs.declared.schema.Schema.{Schema}
-use Rattle.gql_asks.specs.Table.{Table}
-use Rattle.gql_asks.specs.Asked.{AreAsked}
-use Rattle.gql_asks.specs.Wanted.{request_by_table}
-use Rattle.gql_asks.specs.declared.ask.Ask.{Ask}
+use Rattle.gql_rounds.specs.Table.{Table}
+use Rattle.gql_rounds.specs.Asked.{AreAsked}
+use Rattle.gql_rounds.specs.Wanted.{request_by_table}
+use Rattle.gql_rounds.specs.declared.ask.Ask.{Ask}
 use Rattle.gql_rounds.specs.Ready.{FindsCalled, FindsReady, IsReadyBy}
 use Rattle.gql_rounds.specs.Rounds.{AreAskedOf, AsksNothing, GivesToldAnswer}
 use Rattle.gql_rounds.specs.declared.ready.Ready.{Ready as ReadyHere}

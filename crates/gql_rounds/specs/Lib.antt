@@ -1,3 +1,12 @@
+pub mod Key
+pub mod Table
+pub mod Known
+pub mod ToldMeaning
+pub mod Levels
+pub mod Wanted
+pub mod Asked
+pub mod Walked
+pub mod Telling
 pub mod Ready
 pub mod Rounds
 pub mod Told

@@ -7,12 +7,12 @@ use Rattle.gql_engine.specs.Ready.{Ready}
 use Rattle.gql_engine.specs.Wanted.{Wanted}
 use Rattle.gql_engine.specs.declared.answer_error.AnswerError.{AnswerError}
 use Rattle.gql_schema_types.specs.declared.types.ObjectType.{ObjectType}
-use Rattle.gql_asks.specs.Asked.{AreAsked}
-use Rattle.gql_asks.specs.Known.{Entity, beside, type_of_entity}
-use Rattle.gql_asks.specs.Table.{Table}
-use Rattle.gql_asks.specs.ToldMeaning.{told}
-use Rattle.gql_asks.specs.Wanted.{request_by_table}
-use Rattle.gql_asks.specs.declared.ask.Ask.{Ask}
+use Rattle.gql_rounds.specs.Asked.{AreAsked}
+use Rattle.gql_rounds.specs.Known.{Entity, beside, type_of_entity}
+use Rattle.gql_rounds.specs.Table.{Table}
+use Rattle.gql_rounds.specs.ToldMeaning.{told}
+use Rattle.gql_rounds.specs.Wanted.{request_by_table}
+use Rattle.gql_rounds.specs.declared.ask.Ask.{Ask}
 use Rattle.gql_rounds.specs.declared.round.Round.{Round}
 use Rattle.gql_rounds.specs.declared.round.Round.TheVariants.{Asks, Answer}
 

@@ -14,10 +14,10 @@ use Rattle.jb_tree.specs.declared.value.Value.{Value}
 use Rattle.jb_tree.specs.declared.value.Value.TheVariants as json
 use Rattle.gql_resolvers.specs.DataMeaning.{text_member}
 use Rattle.gql_resolvers.specs.Meaning.{Members}
-use Rattle.gql_asks.specs.Key.{key}
-use Rattle.gql_asks.specs.Table.{Table, with_answer}
-use Rattle.gql_asks.specs.ToldMeaning.{number_member}
-use Rattle.gql_asks.specs.declared.ask.Ask.{Ask}
+use Rattle.gql_rounds.specs.Key.{key}
+use Rattle.gql_rounds.specs.Table.{Table, with_answer}
+use Rattle.gql_rounds.specs.ToldMeaning.{number_member}
+use Rattle.gql_rounds.specs.declared.ask.Ask.{Ask}
 use Rattle.gql_rounds.specs.declared.answers_json.Answer.{Answer}
 use Rattle.gql_rounds.specs.declared.answers_json.AnswersFault.{AnswersFault}
 use Rattle.gql_rounds.specs.declared.answers_json.AnswersFault.TheVariants.{Read, NotList, NotAnswer}

@@ -5,13 +5,13 @@ ghost use Rattle.std.specs.List.{AllByRecursion};
 ghost use Rattle.std.specs.Map.{lookup};
 ghost use Rattle.std.specs.Option.{option_copied};
 ghost use Rattle.std.specs.Str.{bytes_eq};
-ghost use Rattle.gql_asks.specs.ToldMeaning.{number_member as object_number};
+ghost use Rattle.gql_rounds.specs.ToldMeaning.{number_member as object_number};
 ghost use Rattle.gql_resolvers.specs.DataMeaning.{text_member as member_text};
 ghost use Rattle.gql_rounds.specs.Told as spec;
 ghost use Rattle.gql_rounds.specs.Told.{HasAnswersFault, IsAnswer, IsFirstOther, IsItemFault, IsUnchanged, TellsAnswers, all_told, arguments_seen, seen, told_answer};
 
+use crate::Answers;
 use bytes::Bytes;
-use gql_asks::Answers;
 use jb_read::{ReadFault, from_bytes_whole};
 use jb_text::{Memory, Refused};
 use jb_tree::{Map, Value};

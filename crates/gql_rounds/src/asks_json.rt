@@ -6,8 +6,8 @@ ghost use Rattle.std.specs.Str.{bytes_eq};
 ghost use Rattle.jb_print.specs.Compact.{compact};
 ghost use Rattle.gql_rounds.specs.Told as spec;
 
+use crate::{Ask, Asks};
 use bytes::Bytes;
-use gql_asks::{Ask, Asks};
 use jb_print::to_bytes;
 use jb_text::{ByteString, Listed, Memory};
 use jb_tree::{Map, Number, Value};

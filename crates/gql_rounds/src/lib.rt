@@ -7,15 +7,26 @@
 //! Both sides are JSON: [`asks_bytes`] prints what is asked, and [`read_answers`] reads what is answered.
 #![tactic(auto)]
 
+mod answers;
 mod answers_json;
+mod ask;
+mod asking;
 mod asks_json;
+pub mod laws;
 mod ready;
 mod round;
 mod steps;
+mod told;
+mod told_value;
+mod walk;
 
+pub use answers::Answers;
 pub use answers_json::{AnswersFault, read_answers};
+pub use ask::{Ask, Asks, answer_key};
+pub use asking::asks;
 pub use asks_json::asks_bytes;
-pub use gql_asks::{Answers, Ask, Asks, Told, answer_key};
+pub use gql_collect::Steps;
 pub use jb_text::Memory;
 pub use round::Round;
 pub use steps::step;
+pub use told::Told;

@@ -1,7 +1,7 @@
 //! What a step gives.
 
+use crate::Asks;
 use bytes::Bytes;
-use gql_asks::Asks;
 
 /// What a step of a request gives.
 #[derive(Drop)]

@@ -7,11 +7,11 @@ ghost use Rattle.gql_rounds.specs.Rounds.{AsksNothing, FindsAsks, GivesRound};
 
 use crate::ready::make_ready;
 use crate::round::Round;
-use gql_asks::{Answers, Asks, Told, asks};
+use crate::{Answers, Asks, Told, asks};
 use gql_collect::Steps;
 use gql_document_types::ExecutableDocument;
 use gql_engine::{AnswerError, Question, Service};
-use gql_exec_fields::Executing;
+use gql_exec::Executing;
 use gql_parser::laws as text_laws;
 use gql_resolvers::RequestInfo;
 use gql_schema_types::Valid;

@@ -2,7 +2,7 @@
 use Rattle.std.proofs.Common.{◌≡◌, ℕ, List, [], ◌∷◌, ◌++◌, map, position, Option, Some, None, refl, sym, ap, ◌∙◌}
 use Rattle.std.specs.Option.{option_map}
 use Rattle.std.proofs.lemmas.List.{map-append}
-use Rattle.gql_ast_definitions.specs.declared.operation.VariableDefinition.{VariableDefinition}
+use Rattle.gql_ast.specs.declared.operation.VariableDefinition.{VariableDefinition}
 use Rattle.gql_rules.proofs.Entries.{find-map, entry-joined}
 use Rattle.gql_rules.specs.Operations.{own_name, definition_of, definitions_of}
 use Rattle.gql_rules.specs.UndefinedVariable.{variable_name, variable_called}

@@ -3,7 +3,7 @@
 use Rattle.std.specs.Prelude.{Bool, false, not, List, [], ◌∷◌, if◌then◌else◌}
 use Rattle.std.specs.Option.{option_map_or}
 use Rattle.gql_ast_base.specs.TypeParts.{is_non_null}
-use Rattle.gql_ast_definitions.specs.declared.operation.VariableDefinition.{VariableDefinition}
+use Rattle.gql_ast.specs.declared.operation.VariableDefinition.{VariableDefinition}
 use Rattle.gql_diag_messages.specs.declared.diagnostic_data.DiagnosticData.{DiagnosticData}
 use Rattle.gql_rules_values.specs.OneOfValue.{one_of_fault}
 use Rattle.gql_rules.specs.UndefinedVariable.{variable_called}

@@ -2,7 +2,7 @@
 -- VariableFaults.antt says where it is broken.
 use Rattle.std.specs.Prelude.{ℕ, Bool, not, List, [], ◌∷◌, Option, None, is_some}
 use Rattle.gql_ast_base.specs.Names.{Named}
-use Rattle.gql_ast_definitions.specs.declared.operation.VariableDefinition.{VariableDefinition}
+use Rattle.gql_ast.specs.declared.operation.VariableDefinition.{VariableDefinition}
 use Rattle.gql_diag_messages.specs.declared.rule.Rule.TheVariants.{UndefinedVariable}
 use Rattle.gql_diag_messages.specs.declared.diagnostic_data.DiagnosticData.{DiagnosticData}
 use Rattle.gql_rules_values.specs.Faults.{fault, only_if}

@@ -1,11 +1,11 @@
 -- Selections as they stand in a document in which no type is known: sections 2.4 to 2.8 of GraphQL October 2021. All of them are
 -- there, each with what it says; a field's definition says nothing.
 use Rattle.std.specs.Prelude.{List, map}
-use Rattle.gql_ast_definitions.specs.declared.selection.Field.{Field}
-use Rattle.gql_ast_definitions.specs.declared.selection.FragmentSpread.{FragmentSpread}
-use Rattle.gql_ast_definitions.specs.declared.selection.InlineFragment.{InlineFragment}
-use Rattle.gql_ast_definitions.specs.declared.selection.Selection.{Selection, fold-Selection}
-use Rattle.gql_ast_definitions.specs.declared.selection.Selection.TheOpen.{Selection-F, Field-F, InlineFragment-F}
+use Rattle.gql_ast.specs.declared.selection.Field.{Field}
+use Rattle.gql_ast.specs.declared.selection.FragmentSpread.{FragmentSpread}
+use Rattle.gql_ast.specs.declared.selection.InlineFragment.{InlineFragment}
+use Rattle.gql_ast.specs.declared.selection.Selection.{Selection, fold-Selection}
+use Rattle.gql_ast.specs.declared.selection.Selection.TheOpen.{Selection-F, Field-F, InlineFragment-F}
 use Rattle.gql_document_types.specs.declared.selection.Field.{Field as BuiltField}
 use Rattle.gql_document_types.specs.declared.selection.InlineFragment.{InlineFragment as BuiltInline}
 use Rattle.gql_document_types.specs.declared.selection.Selection.{Selection as Built}

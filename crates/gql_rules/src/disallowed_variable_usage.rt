@@ -7,9 +7,8 @@ ghost use Rattle.gql_rules.specs.Views as seen;
 
 use crate::types_into::is_allowed;
 use crate::uses::{Place, Use};
-use gql_ast::print_type;
+use gql_ast::{VariableDefinition, print_type};
 use gql_ast_base::TypeRef;
-use gql_ast_definitions::VariableDefinition;
 use gql_diag_messages::{DiagnosticData, Rule};
 use gql_rules_values::{Defined, is_defined, list_fault};
 use gql_schema_types::{ExtendedType, Table};

@@ -4,8 +4,8 @@ ghost use Rattle.std.specs.Prelude.{◌≡◌, true, None, IfOk};
 ghost use Rattle.gql_ast_base.specs.Names.{is_name};
 ghost use Rattle.gql_rules.specs.NoSchema as spec;
 
+use gql_ast::FieldDefinition;
 use gql_ast_base::{Name, TypeRef, both};
-use gql_ast_definitions::FieldDefinition;
 use gql_schema_types::{MetaFields, Schema, SchemaDefinition, Shared, Table};
 use gql_source::SourceMap;
 use jb_text::{Listed, Memory, Refused};

@@ -6,7 +6,7 @@ ghost use Rattle.gql_rules.specs.OneOfVariable as spec;
 ghost use Rattle.gql_rules.specs.Views as seen;
 
 use crate::uses::Use;
-use gql_ast_definitions::VariableDefinition;
+use gql_ast::VariableDefinition;
 use gql_diag_messages::DiagnosticData;
 use gql_rules_values::list_one_of_literal;
 use jb_text::{Listed, Memory};

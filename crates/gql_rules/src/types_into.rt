@@ -3,8 +3,8 @@
 ghost use Rattle.std.specs.Prelude.{◌≡◌};
 ghost use Rattle.gql_rules.specs.TypesInto as spec;
 
+use gql_ast::VariableDefinition;
 use gql_ast_base::{TypeRef, Value, ValueKind};
-use gql_ast_definitions::VariableDefinition;
 
 /// Whether a use of the variable is allowed where this type is wanted and the argument or input field may have a default.
 pub(crate) fn is_allowed(variable: &VariableDefinition, has_default: bool, ty: &TypeRef) -> bool

@@ -5,8 +5,8 @@ ghost use Rattle.std.specs.List.{flat_map};
 ghost use Rattle.gql_rules_nodes.specs.Nodes.{nodes};
 ghost use Rattle.gql_rules.specs.UniqueArguments as spec;
 
+use gql_ast::VariableDefinition;
 use gql_ast_base::{Directive, Name};
-use gql_ast_definitions::VariableDefinition;
 use gql_diag_messages::DiagnosticData;
 use gql_document_types::{
     ExecutableDocument, Field, Fragment, FragmentSpread, InlineFragment, Operation,

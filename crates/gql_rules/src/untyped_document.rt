@@ -6,7 +6,7 @@ ghost use Rattle.gql_rules.specs.UntypedDocument as spec;
 ghost use Rattle.gql_schema_types.specs.Entries.{joined, put_new};
 
 use crate::untyped_selections::untyped_set;
-use gql_ast_definitions::{FragmentDefinition, OperationDefinition};
+use gql_ast::{FragmentDefinition, OperationDefinition};
 use gql_document::ExecutableDefinitions;
 use gql_document_types::{ExecutableDocument, Fragment, Operation};
 use gql_schema_types::Table;

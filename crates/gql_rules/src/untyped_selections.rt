@@ -4,8 +4,8 @@ ghost use Rattle.std.specs.Prelude.{◌≡◌, map, IfOk};
 ghost use Rattle.gql_rules.specs.UntypedSelections as spec;
 
 use crate::no_schema::{unknown_field, unknown_type};
+use gql_ast as ast;
 use gql_ast_base::both;
-use gql_ast_definitions as ast;
 use gql_document_types::{Field, FragmentSpread, InlineFragment, Selection, SelectionSet};
 use jb_text::{Listed, Memory};
 use std::alloc::Global;

@@ -4,7 +4,7 @@ ghost use Rattle.std.specs.Prelude.{◌≡◌, ◌++◌, OnOk};
 ghost use Rattle.gql_rules.specs.Operations.{not_noted};
 ghost use Rattle.gql_rules.specs.UnusedVariable as spec;
 
-use gql_ast_definitions::VariableDefinition;
+use gql_ast::VariableDefinition;
 use gql_diag_messages::{DiagnosticData, Rule};
 use gql_rules_values::list_fault;
 use jb_map::KeyTable;

@@ -5,8 +5,8 @@ ghost use Rattle.std.specs.Option.{option_copied};
 ghost use Rattle.gql_rules.specs.Uses as spec;
 ghost use Rattle.gql_rules.specs.Views as seen;
 
+use gql_ast::InputValueDefinition;
 use gql_ast_base::{Name, TypeRef, Value};
-use gql_ast_definitions::InputValueDefinition;
 use gql_rules_values::has_one_key;
 use gql_schema_types::{ExtendedType, Table};
 use gql_source::SourceSpan;

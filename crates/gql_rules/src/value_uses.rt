@@ -5,8 +5,8 @@ ghost use Rattle.gql_rules.specs.Uses as spec;
 ghost use Rattle.gql_rules.specs.Views as seen;
 
 use crate::uses::{Place, Use, of_last};
+use gql_ast::InputValueDefinition;
 use gql_ast_base::{Argument, Directive, Name, Value, ValueKind};
-use gql_ast_definitions::InputValueDefinition;
 use gql_rules_values::ByName;
 use gql_schema_types::{ExtendedType, Schema, Table};
 use jb_text::{Listed, Memory};

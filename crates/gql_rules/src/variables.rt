@@ -6,8 +6,8 @@ ghost use Rattle.gql_schema_types.specs.Entries.{entry, put_new};
 ghost use Rattle.gql_rules.specs.UndefinedVariable.{variable_name, first_variables, variable_called};
 ghost use Rattle.gql_rules.specs.Operations.{own_name, definition_of, definitions_of};
 
+use gql_ast::VariableDefinition;
 use gql_ast_base::Name;
-use gql_ast_definitions::VariableDefinition;
 use gql_schema_types::{ExtendedType, Named, Table};
 use jb_text::{Listed, Memory};
 use std::alloc::{AllocError, Global};

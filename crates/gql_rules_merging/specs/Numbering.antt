@@ -3,7 +3,7 @@
 use Rattle.std.specs.Prelude.{ℕ, ◌+◌, List, [], ◌∷◌, ◌++◌, map, length, position, Option, option_to_list}
 use Rattle.gql_source.specs.Span.{Span}
 use Rattle.gql_ast_base.specs.Names.{Named}
-use Rattle.gql_ast_definitions.specs.declared.field_definition.FieldDefinition.{FieldDefinition}
+use Rattle.gql_ast.specs.declared.field_definition.FieldDefinition.{FieldDefinition}
 use Rattle.gql_ast_base.specs.declared.directive.Argument.{Argument}
 use Rattle.gql_document_types.specs.RootFields.{fragment_name}
 use Rattle.gql_document_types.specs.declared.document.ExecutableDocument.{ExecutableDocument}

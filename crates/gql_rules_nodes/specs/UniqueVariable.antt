@@ -2,7 +2,7 @@
 use Rattle.std.specs.Prelude.{List, [], Option}
 use Rattle.gql_source.specs.Span.{Span}
 use Rattle.gql_ast_base.specs.Names.{Named}
-use Rattle.gql_ast_definitions.specs.declared.operation.VariableDefinition.{VariableDefinition}
+use Rattle.gql_ast.specs.declared.operation.VariableDefinition.{VariableDefinition}
 use Rattle.gql_diag_messages.specs.declared.rule.Rule.TheVariants.{UniqueVariable}
 use Rattle.gql_diag_messages.specs.declared.diagnostic_data.DiagnosticData.{DiagnosticData}
 use Rattle.gql_rules_values.specs.Seconds.{Seen, with_seen, second_here, seconds_after}

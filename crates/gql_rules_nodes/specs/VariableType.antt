@@ -1,7 +1,7 @@
 -- The type of a variable is defined: sections 3.3 and 5.8.2 of GraphQL October 2021. A built-in scalar that the schema leaves out is not.
 use Rattle.std.specs.Prelude.{not, List}
 use Rattle.gql_ast_base.specs.Names.{Named}
-use Rattle.gql_ast_definitions.specs.declared.operation.VariableDefinition.{VariableDefinition}
+use Rattle.gql_ast.specs.declared.operation.VariableDefinition.{VariableDefinition}
 use Rattle.gql_diag_messages.specs.declared.rule.Rule.TheVariants.{UndefinedDefinition}
 use Rattle.gql_diag_messages.specs.declared.diagnostic_data.DiagnosticData.{DiagnosticData}
 use Rattle.gql_rules_values.specs.Faults.{name_fault, only_if}

@@ -3,7 +3,7 @@
 ghost use Rattle.std.specs.Prelude.{◌≡◌, ◌++◌, OnOk};
 ghost use Rattle.gql_rules_nodes.specs.UniqueVariable as spec;
 
-use gql_ast_definitions::VariableDefinition;
+use gql_ast::VariableDefinition;
 use gql_diag_messages::{DiagnosticData, Rule};
 use gql_rules_values::list_fault;
 use gql_source::SourceSpan;

@@ -5,8 +5,7 @@ ghost use Rattle.gql_diag_messages.specs.declared.rule.Rule.TheVariants.{Variabl
 ghost use Rattle.gql_rules_nodes.specs.VariableInputType as spec;
 
 use crate::composite::is_composite;
-use gql_ast::print_type;
-use gql_ast_definitions::VariableDefinition;
+use gql_ast::{VariableDefinition, print_type};
 use gql_diag_messages::{DiagnosticData, Rule};
 use gql_rules_values::list_fault;
 use gql_schema_types::{ExtendedType, Table};

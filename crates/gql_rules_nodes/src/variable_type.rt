@@ -4,8 +4,8 @@
 ghost use Rattle.std.specs.Prelude.{◌≡◌, ◌++◌, OnOk};
 ghost use Rattle.gql_rules_nodes.specs.VariableType as spec;
 
+use gql_ast::VariableDefinition;
 use gql_ast_base::Name;
-use gql_ast_definitions::VariableDefinition;
 use gql_diag_messages::{DiagnosticData, Rule};
 use gql_rules_values::{Defined, is_defined, list_name};
 use gql_schema_types::{ExtendedType, Table};

@@ -7,7 +7,7 @@ ghost use Rattle.gql_rules_nodes.specs.Variables as spec;
 use crate::unique_variable::list_unique_variable;
 use crate::variable_input_type::list_variable_input_type;
 use crate::variable_type::list_undefined_variable_type;
-use gql_ast_definitions::{DirectiveLocation, VariableDefinition};
+use gql_ast::{DirectiveLocation, VariableDefinition};
 use gql_diag_messages::DiagnosticData;
 use gql_rules_values::{Defined, list_directives, list_literal};
 use gql_schema_types::Schema;

@@ -1,6 +1,6 @@
 -- The parts of a reference to a type: section 2.11 of GraphQL October 2021.
 use Rattle.std.specs.Prelude.{Bool, ◌&&◌, is_none}
-use Rattle.gql_ast_definitions.specs.declared.field_definition.InputValueDefinition.{InputValueDefinition}
+use Rattle.gql_ast.specs.declared.field_definition.InputValueDefinition.{InputValueDefinition}
 use Rattle.gql_ast_base.specs.declared.type_ref.TypeRef.{TypeRef, fold-TypeRef}
 use Rattle.gql_ast_base.specs.declared.type_ref.TypeRef.TheOpen.{TypeRef-F}
 use Rattle.gql_ast_base.specs.declared.type_ref.TypeRef.TheVariants as type

@@ -1,6 +1,6 @@
 -- An argument that is given is defined: section 5.4.1 of GraphQL October 2021.
 use Rattle.std.specs.Prelude.{ℕ, not, List, [], ◌∷◌, Option, None, is_some}
-use Rattle.gql_ast_definitions.specs.declared.field_definition.InputValueDefinition.{InputValueDefinition}
+use Rattle.gql_ast.specs.declared.field_definition.InputValueDefinition.{InputValueDefinition}
 use Rattle.gql_ast_base.specs.declared.directive.Argument.{Argument}
 use Rattle.gql_diag_messages.specs.declared.rule.Rule.TheVariants.{UndefinedArgument}
 use Rattle.gql_diag_messages.specs.declared.diagnostic_data.DiagnosticData.{DiagnosticData}

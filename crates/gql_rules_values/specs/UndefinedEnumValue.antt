@@ -2,7 +2,7 @@
 use Rattle.std.specs.Prelude.{not, List, [], ◌∷◌, None, is_some}
 use Rattle.std.specs.Option.{option_map_or}
 use Rattle.gql_ast_base.specs.Names.{Named}
-use Rattle.gql_ast_definitions.specs.declared.field_definition.EnumValueDefinition.{EnumValueDefinition}
+use Rattle.gql_ast.specs.declared.field_definition.EnumValueDefinition.{EnumValueDefinition}
 use Rattle.gql_ast_base.specs.declared.type_ref.TypeRef.{TypeRef}
 use Rattle.gql_ast_base.specs.declared.value.Value.{Value}
 use Rattle.gql_ast_base.specs.declared.value.ValueKind.{ValueKind, out-ValueKind}

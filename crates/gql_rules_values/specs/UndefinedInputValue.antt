@@ -2,7 +2,7 @@
 use Rattle.std.specs.Prelude.{not, List, [], ◌∷◌, None, is_some}
 use Rattle.std.specs.List.{flat_map}
 use Rattle.gql_ast_base.specs.Names.{Named}
-use Rattle.gql_ast_definitions.specs.declared.field_definition.InputValueDefinition.{InputValueDefinition}
+use Rattle.gql_ast.specs.declared.field_definition.InputValueDefinition.{InputValueDefinition}
 use Rattle.gql_ast_base.specs.declared.value.Value.{Value}
 use Rattle.gql_diag_messages.specs.declared.rule.Rule.TheVariants.{UndefinedInputValue}
 use Rattle.gql_diag_messages.specs.declared.diagnostic_data.DiagnosticData.{DiagnosticData}

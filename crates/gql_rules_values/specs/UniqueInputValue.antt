@@ -2,7 +2,7 @@
 use Rattle.std.specs.Prelude.{Bool, true, List, [], Option}
 use Rattle.gql_source.specs.Span.{Span}
 use Rattle.gql_ast_base.specs.Names.{Named}
-use Rattle.gql_ast_definitions.specs.declared.field_definition.InputValueDefinition.{InputValueDefinition}
+use Rattle.gql_ast.specs.declared.field_definition.InputValueDefinition.{InputValueDefinition}
 use Rattle.gql_ast_base.specs.declared.value.Value.{Value}
 use Rattle.gql_ast_base.specs.declared.value.ValueKind.{ValueKind, out-ValueKind}
 use Rattle.gql_ast_base.specs.declared.value.ValueKind.TheOpen.{ValueKind-F}

@@ -2,9 +2,9 @@
 use Rattle.std.specs.Prelude.{Bool, not, List, ◌∷◌, [], None}
 use Rattle.std.specs.List.{list_any}
 use Rattle.std.specs.Str.{bytes_eq}
-use Rattle.gql_ast_definitions.specs.declared.schema_definition.DirectiveDefinition.{DirectiveDefinition}
-use Rattle.gql_ast_definitions.specs.declared.schema_definition.DirectiveLocation.{DirectiveLocation}
-use Rattle.gql_ast_definitions.specs.Schemas.{location_name}
+use Rattle.gql_ast.specs.declared.schema_definition.DirectiveDefinition.{DirectiveDefinition}
+use Rattle.gql_ast.specs.declared.schema_definition.DirectiveLocation.{DirectiveLocation}
+use Rattle.gql_ast.specs.Schemas.{location_name}
 use Rattle.gql_ast_base.specs.declared.directive.Directive.{Directive}
 use Rattle.gql_diag_messages.specs.declared.rule.Rule.TheVariants.{UnsupportedLocation}
 use Rattle.gql_diag_messages.specs.declared.diagnostic_data.DiagnosticData.{DiagnosticData}

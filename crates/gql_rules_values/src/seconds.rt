@@ -6,8 +6,8 @@ ghost use Rattle.gql_ast_base.specs.Names as names;
 ghost use Rattle.gql_rules_values.specs.Seconds as spec;
 
 use crate::fault::list_fault;
+use gql_ast::InputValueDefinition;
 use gql_ast_base::{Argument, Directive, Name, Value};
-use gql_ast_definitions::InputValueDefinition;
 use gql_diag_messages::{DiagnosticData, Rule};
 use gql_source::SourceSpan;
 use jb_map::Pairs;

@@ -3,8 +3,8 @@
 ghost use Rattle.std.specs.Prelude.{◌≡◌};
 ghost use Rattle.gql_rules_values.specs.TypeShape as spec;
 
+use gql_ast::InputValueDefinition;
 use gql_ast_base::TypeRef;
-use gql_ast_definitions::InputValueDefinition;
 
 /// The type within all lists (GraphQL October 2021, section 2.11).
 #[must_use]

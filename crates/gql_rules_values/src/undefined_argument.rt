@@ -5,8 +5,8 @@ ghost use Rattle.gql_rules_values.specs.UndefinedArgument as spec;
 
 use crate::by_name::ByName;
 use crate::fault::list_fault;
+use gql_ast::InputValueDefinition;
 use gql_ast_base::Argument;
-use gql_ast_definitions::InputValueDefinition;
 use gql_diag_messages::{DiagnosticData, Rule};
 use jb_text::{Listed, Memory};
 use std::alloc::Global;

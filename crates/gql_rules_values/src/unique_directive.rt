@@ -4,8 +4,8 @@ ghost use Rattle.std.specs.Prelude.{◌≡◌, ◌++◌, OnOk};
 ghost use Rattle.gql_rules_values.specs.UniqueDirective.{is_single, unique_directive};
 
 use crate::seconds::{Counted, list_seconds};
+use gql_ast::DirectiveDefinition;
 use gql_ast_base::{Directive, Name};
-use gql_ast_definitions::DirectiveDefinition;
 use gql_diag_messages::{DiagnosticData, Rule};
 use gql_schema_types::Table;
 use jb_text::{Listed, Memory};

@@ -4,8 +4,8 @@ ghost use Rattle.std.specs.Prelude.{◌≡◌, ◌++◌, OnOk};
 ghost use Rattle.gql_rules_values.specs.UniqueInputValue as spec;
 
 use crate::seconds::{EachCounts, list_seconds};
+use gql_ast::InputValueDefinition;
 use gql_ast_base::{Value, ValueKind};
-use gql_ast_definitions::InputValueDefinition;
 use gql_diag_messages::{DiagnosticData, Rule};
 use jb_text::{Listed, Memory};
 use std::alloc::Global;

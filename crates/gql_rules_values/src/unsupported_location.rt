@@ -6,8 +6,8 @@ ghost use Rattle.gql_rules_values.specs.Faults.{fault};
 ghost use Rattle.gql_rules_values.specs.UnsupportedLocation as spec;
 
 use crate::fault::list_fault;
+use gql_ast::{DirectiveDefinition, DirectiveLocation};
 use gql_ast_base::Directive;
-use gql_ast_definitions::{DirectiveDefinition, DirectiveLocation};
 use gql_diag_messages::{DiagnosticData, Rule};
 use gql_source::SourceSpan;
 use jb_text::{Listed, Memory};

@@ -11,14 +11,14 @@ use Rattle.gql_ast_base.specs.Kinds.{is_kind}
 use Rattle.gql_ast_base.specs.Literals.{string_text, description}
 use Rattle.gql_ast_base.specs.NamedTypes.{named_type_of}
 use Rattle.gql_ast_base.specs.Parts.{nth_name, name_of, word, token_text, piece, location}
-use Rattle.gql_ast_definitions.specs.Definitions.{scalar_of, object_of, interface_of, union_of, enum_of, input_object_of, interfaces}
-use Rattle.gql_ast_definitions.specs.Extensions.{extends, schema_extension_of, scalar_extension_of, object_extension_of, interface_extension_of}
-use Rattle.gql_ast_definitions.specs.Extensions.{union_extension_of, enum_extension_of, input_object_extension_of}
-use Rattle.gql_ast_definitions.specs.Fields.{fields, field_of, input_value_of, argument_definitions, enum_values, enum_value_of}
-use Rattle.gql_ast_definitions.specs.Schemas.{directive_definition_of, schema_of, location_word, directive_location_of, directive_locations}
+use Rattle.gql_ast.specs.Definitions.{scalar_of, object_of, interface_of, union_of, enum_of, input_object_of, interfaces}
+use Rattle.gql_ast.specs.Extensions.{extends, schema_extension_of, scalar_extension_of, object_extension_of, interface_extension_of}
+use Rattle.gql_ast.specs.Extensions.{union_extension_of, enum_extension_of, input_object_extension_of}
+use Rattle.gql_ast.specs.Fields.{fields, field_of, input_value_of, argument_definitions, enum_values, enum_value_of}
+use Rattle.gql_ast.specs.Schemas.{directive_definition_of, schema_of, location_word, directive_location_of, directive_locations}
 use Rattle.gql_ast_laws.specs.Meant.{IsDocumentOf}
-use Rattle.gql_ast_definitions.specs.Operations.{operation_of, fragment_of}
-use Rattle.gql_ast_definitions.specs.Selections.{type_condition}
+use Rattle.gql_ast.specs.Operations.{operation_of, fragment_of}
+use Rattle.gql_ast.specs.Selections.{type_condition}
 use Rattle.gql_ast_base.specs.Directives.{directives, directive_of}
 use Rattle.gql_ast_base.specs.Types.{type_step, form_step}
 use Rattle.gql_ast_base.specs.Values.{literal, simple_content, content_step, member_step, value_step, default_value}

@@ -6,11 +6,11 @@ ghost use Rattle.gql_schema.specs.Rows as spec;
 use crate::built_in_making::{FromRow, all_of, name_at, span};
 use crate::built_in_row::{DefinitionRow, DirectiveRow, EnumRow, ObjectRow, ScalarRow};
 use crate::built_in_table::{arguments_at, fields_at, locations_at, values_at};
-use gql_ast_base::{Source, all_three, both};
-use gql_ast_definitions::{
+use gql_ast::{
     DirectiveDefinition, DirectiveLocation, EnumTypeDefinition, ObjectTypeDefinition,
     ScalarTypeDefinition,
 };
+use gql_ast_base::{Source, all_three, both};
 use gql_schema_build::TypeDefinition;
 use jb_text::{Listed, Memory};
 use std::alloc::Global;

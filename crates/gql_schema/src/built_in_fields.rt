@@ -6,8 +6,8 @@ ghost use Rattle.gql_schema.specs.Rows as spec;
 use crate::built_in_making::{FromRow, all_of, maybe_of, name_at, piece, span};
 use crate::built_in_row::{ArgumentRow, FieldRow, Place, TypeForm, TypeRow, ValueForm, ValueRow};
 use crate::built_in_table::arguments_at;
+use gql_ast::{EnumValueDefinition, FieldDefinition, InputValueDefinition};
 use gql_ast_base::{Boxed, Name, Source, TypeRef, Value, ValueKind, all_three, both};
-use gql_ast_definitions::{EnumValueDefinition, FieldDefinition, InputValueDefinition};
 use jb_text::{Listed, Memory, Text};
 use std::alloc::{AllocError, Global};
 

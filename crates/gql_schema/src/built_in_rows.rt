@@ -2,7 +2,7 @@
 
 use crate::built_in_row::DefinitionRow::{Enum, Object, Scalar};
 use crate::built_in_row::{DefinitionRow, DirectiveRow, EnumRow, ObjectRow, Place, Run, ScalarRow};
-use gql_ast_definitions::DirectiveLocation;
+use gql_ast::DirectiveLocation;
 
 /// The types, in the order of the text.
 pub(crate) const TYPES: &[DefinitionRow] = &[

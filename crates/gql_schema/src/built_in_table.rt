@@ -6,7 +6,7 @@ ghost use Rattle.gql_schema.specs.Rows as spec;
 use crate::built_in_field_rows::{ARGUMENTS, FIELDS};
 use crate::built_in_row::{ArgumentRow, FieldRow, Place, Run};
 use crate::built_in_rows::{LOCATIONS, VALUES};
-use gql_ast_definitions::DirectiveLocation;
+use gql_ast::DirectiveLocation;
 use jb_text::Memory;
 use std::alloc::AllocError;
 

@@ -1,7 +1,7 @@
 -- Directives have distinct names: section 3.3 of GraphQL October 2021.
 use Rattle.std.specs.Prelude.{List, [], map}
 use Rattle.gql_ast_base.specs.Names.{Named}
-use Rattle.gql_ast_definitions.specs.declared.schema_definition.DirectiveDefinition.{DirectiveDefinition}
+use Rattle.gql_ast.specs.declared.schema_definition.DirectiveDefinition.{DirectiveDefinition}
 use Rattle.gql_diag_messages.specs.declared.rule.Rule.TheVariants.{DirectiveDefinitionCollision}
 use Rattle.gql_diag_messages.specs.declared.diagnostic_data.DiagnosticData.{DiagnosticData}
 use Rattle.gql_schema_types.specs.Entries.{repeats}

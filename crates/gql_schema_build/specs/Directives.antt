@@ -1,6 +1,6 @@
 -- The directives of a schema: the built-in ones, each replaced in its place by a definition of its name, and then the others.
 use Rattle.std.specs.Prelude.{List, [], fold}
-use Rattle.gql_ast_definitions.specs.declared.schema_definition.DirectiveDefinition.{DirectiveDefinition}
+use Rattle.gql_ast.specs.declared.schema_definition.DirectiveDefinition.{DirectiveDefinition}
 use Rattle.gql_schema_types.specs.Entries.{joined, put}
 use Rattle.gql_schema_build.specs.DirectiveDefinitionCollision.{directive_name}
 

@@ -1,17 +1,17 @@
 -- A definition of a type with what an extension adds is again a definition: sections 3.5 to 3.10 of GraphQL October 2021.
 use Rattle.std.specs.Prelude.{◌++◌}
-use Rattle.gql_ast_definitions.specs.declared.type_definition.ScalarTypeDefinition.{ScalarTypeDefinition}
-use Rattle.gql_ast_definitions.specs.declared.extension.ScalarTypeExtension.{ScalarTypeExtension}
-use Rattle.gql_ast_definitions.specs.declared.type_definition.ObjectTypeDefinition.{ObjectTypeDefinition}
-use Rattle.gql_ast_definitions.specs.declared.extension.ObjectTypeExtension.{ObjectTypeExtension}
-use Rattle.gql_ast_definitions.specs.declared.type_definition.InterfaceTypeDefinition.{InterfaceTypeDefinition}
-use Rattle.gql_ast_definitions.specs.declared.extension.InterfaceTypeExtension.{InterfaceTypeExtension}
-use Rattle.gql_ast_definitions.specs.declared.type_definition.UnionTypeDefinition.{UnionTypeDefinition}
-use Rattle.gql_ast_definitions.specs.declared.extension.UnionTypeExtension.{UnionTypeExtension}
-use Rattle.gql_ast_definitions.specs.declared.type_definition.EnumTypeDefinition.{EnumTypeDefinition}
-use Rattle.gql_ast_definitions.specs.declared.extension.EnumTypeExtension.{EnumTypeExtension}
-use Rattle.gql_ast_definitions.specs.declared.type_definition.InputObjectTypeDefinition.{InputObjectTypeDefinition}
-use Rattle.gql_ast_definitions.specs.declared.extension.InputObjectTypeExtension.{InputObjectTypeExtension}
+use Rattle.gql_ast.specs.declared.type_definition.ScalarTypeDefinition.{ScalarTypeDefinition}
+use Rattle.gql_ast.specs.declared.extension.ScalarTypeExtension.{ScalarTypeExtension}
+use Rattle.gql_ast.specs.declared.type_definition.ObjectTypeDefinition.{ObjectTypeDefinition}
+use Rattle.gql_ast.specs.declared.extension.ObjectTypeExtension.{ObjectTypeExtension}
+use Rattle.gql_ast.specs.declared.type_definition.InterfaceTypeDefinition.{InterfaceTypeDefinition}
+use Rattle.gql_ast.specs.declared.extension.InterfaceTypeExtension.{InterfaceTypeExtension}
+use Rattle.gql_ast.specs.declared.type_definition.UnionTypeDefinition.{UnionTypeDefinition}
+use Rattle.gql_ast.specs.declared.extension.UnionTypeExtension.{UnionTypeExtension}
+use Rattle.gql_ast.specs.declared.type_definition.EnumTypeDefinition.{EnumTypeDefinition}
+use Rattle.gql_ast.specs.declared.extension.EnumTypeExtension.{EnumTypeExtension}
+use Rattle.gql_ast.specs.declared.type_definition.InputObjectTypeDefinition.{InputObjectTypeDefinition}
+use Rattle.gql_ast.specs.declared.extension.InputObjectTypeExtension.{InputObjectTypeExtension}
 use Rattle.gql_schema_build.specs.declared.type_definition.TypeDefinition.{TypeDefinition}
 use Rattle.gql_schema_build.specs.declared.type_definition.TypeDefinition.TheVariants as type
 use Rattle.gql_schema_build.specs.declared.type_extension.TypeExtension.{TypeExtension}

@@ -1,6 +1,6 @@
 -- The fields of an input object type have distinct names: sections 3.10 and 3.10.1 of GraphQL October 2021.
 use Rattle.std.specs.Prelude.{ℕ, List}
-use Rattle.gql_ast_definitions.specs.declared.field_definition.InputValueDefinition.{InputValueDefinition}
+use Rattle.gql_ast.specs.declared.field_definition.InputValueDefinition.{InputValueDefinition}
 use Rattle.gql_diag_messages.specs.declared.rule.Rule.TheVariants.{InputFieldNameCollision}
 use Rattle.gql_diag_messages.specs.declared.diagnostic_data.DiagnosticData.{DiagnosticData}
 use Rattle.gql_schema_build.specs.Faults.{collisions}

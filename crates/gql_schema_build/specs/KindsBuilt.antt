@@ -1,11 +1,11 @@
 -- The type of a definition of each kind, and the faults in it: of each name the first part stays, and the others are faults.
 use Rattle.std.specs.Prelude.{List, [], ◌++◌}
-use Rattle.gql_ast_definitions.specs.declared.type_definition.ScalarTypeDefinition.{ScalarTypeDefinition}
-use Rattle.gql_ast_definitions.specs.declared.type_definition.ObjectTypeDefinition.{ObjectTypeDefinition}
-use Rattle.gql_ast_definitions.specs.declared.type_definition.InterfaceTypeDefinition.{InterfaceTypeDefinition}
-use Rattle.gql_ast_definitions.specs.declared.type_definition.UnionTypeDefinition.{UnionTypeDefinition}
-use Rattle.gql_ast_definitions.specs.declared.type_definition.EnumTypeDefinition.{EnumTypeDefinition}
-use Rattle.gql_ast_definitions.specs.declared.type_definition.InputObjectTypeDefinition.{InputObjectTypeDefinition}
+use Rattle.gql_ast.specs.declared.type_definition.ScalarTypeDefinition.{ScalarTypeDefinition}
+use Rattle.gql_ast.specs.declared.type_definition.ObjectTypeDefinition.{ObjectTypeDefinition}
+use Rattle.gql_ast.specs.declared.type_definition.InterfaceTypeDefinition.{InterfaceTypeDefinition}
+use Rattle.gql_ast.specs.declared.type_definition.UnionTypeDefinition.{UnionTypeDefinition}
+use Rattle.gql_ast.specs.declared.type_definition.EnumTypeDefinition.{EnumTypeDefinition}
+use Rattle.gql_ast.specs.declared.type_definition.InputObjectTypeDefinition.{InputObjectTypeDefinition}
 use Rattle.gql_diag_messages.specs.declared.diagnostic_data.DiagnosticData.{DiagnosticData}
 use Rattle.gql_schema_types.specs.Entries.{joined}
 use Rattle.gql_schema_types.specs.declared.types.ScalarType.{ScalarType}

@@ -1,8 +1,8 @@
 -- The names of the parts of types.
 use Rattle.gql_ast_base.specs.Names.{Named}
-use Rattle.gql_ast_definitions.specs.declared.field_definition.FieldDefinition.{FieldDefinition}
-use Rattle.gql_ast_definitions.specs.declared.field_definition.InputValueDefinition.{InputValueDefinition}
-use Rattle.gql_ast_definitions.specs.declared.field_definition.EnumValueDefinition.{EnumValueDefinition}
+use Rattle.gql_ast.specs.declared.field_definition.FieldDefinition.{FieldDefinition}
+use Rattle.gql_ast.specs.declared.field_definition.InputValueDefinition.{InputValueDefinition}
+use Rattle.gql_ast.specs.declared.field_definition.EnumValueDefinition.{EnumValueDefinition}
 
 abbrev pub field_name : FieldDefinition → Named
 field_name field = field.name

@@ -1,7 +1,7 @@
 -- A schema is defined once: section 3.3 of GraphQL October 2021.
 use Rattle.std.specs.Prelude.{List, [], ◌∷◌, ◌++◌, Option, Some, None, fold, is_some, if◌then◌else◌}
 use Rattle.std.specs.Option.{option_map_or}
-use Rattle.gql_ast_definitions.specs.declared.schema_definition.SchemaDefinition.{SchemaDefinition}
+use Rattle.gql_ast.specs.declared.schema_definition.SchemaDefinition.{SchemaDefinition}
 use Rattle.gql_diag_messages.specs.declared.rule.Rule.TheVariants.{SchemaDefinitionCollision}
 use Rattle.gql_diag_messages.specs.declared.diagnostic_data.DiagnosticData.{DiagnosticData}
 use Rattle.gql_schema_build.specs.Faults.{fault}

@@ -1,7 +1,7 @@
 -- What is said of a schema as a whole, and its root types: section 3.3 of GraphQL October 2021.
 use Rattle.std.specs.Prelude.{true, Option, Some, None, List, [], ◌++◌, fold, if◌then◌else◌}
-use Rattle.gql_ast_definitions.specs.declared.schema_definition.SchemaDefinition as ast
-use Rattle.gql_ast_definitions.specs.declared.extension.SchemaExtension.{SchemaExtension}
+use Rattle.gql_ast.specs.declared.schema_definition.SchemaDefinition as ast
+use Rattle.gql_ast.specs.declared.extension.SchemaExtension.{SchemaExtension}
 use Rattle.gql_diag_messages.specs.declared.diagnostic_data.DiagnosticData.{DiagnosticData}
 use Rattle.gql_schema_types.specs.declared.schema.SchemaDefinition.{SchemaDefinition}
 use Rattle.gql_schema_types.specs.declared.types.ExtendedType.{ExtendedType}

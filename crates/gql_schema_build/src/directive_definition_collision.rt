@@ -5,7 +5,7 @@ ghost use Rattle.gql_schema_types.specs.Entries.{put_new, joined, repeat};
 ghost use Rattle.gql_schema_build.specs.DirectiveDefinitionCollision as spec;
 
 use crate::fault::list_name;
-use gql_ast_definitions::DirectiveDefinition;
+use gql_ast::DirectiveDefinition;
 use gql_diag_messages::{DiagnosticData, Rule};
 use gql_schema_types::Table;
 use jb_text::{Listed, Memory};

@@ -8,7 +8,7 @@ ghost use Rattle.gql_schema_build.specs.Directives as spec;
 use crate::directive_definition_collision::first_directives;
 use crate::parts_listed::listed;
 use crate::type_table::put;
-use gql_ast_definitions::DirectiveDefinition;
+use gql_ast::DirectiveDefinition;
 use gql_diag_messages::DiagnosticData;
 use gql_schema_types::Table;
 use jb_text::{Listed, Memory};

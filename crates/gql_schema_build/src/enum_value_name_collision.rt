@@ -6,7 +6,7 @@ ghost use Rattle.gql_schema_build.specs.EnumValueNameCollision.{enum_value_name_
 ghost use Rattle.gql_schema_build.specs.PartNames.{value_name};
 
 use crate::distinct::distinct;
-use gql_ast_definitions::EnumValueDefinition;
+use gql_ast::EnumValueDefinition;
 use gql_diag_messages::{DiagnosticData, Rule};
 use gql_schema_types::Table;
 use jb_text::{Listed, Memory};

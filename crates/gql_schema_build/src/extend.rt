@@ -6,12 +6,12 @@ ghost use Rattle.gql_schema_build.specs.Extended as spec;
 use crate::lists::append;
 use crate::type_definition::TypeDefinition;
 use crate::type_extension::TypeExtension;
-use gql_ast_base::{all_three, both};
-use gql_ast_definitions::{
+use gql_ast::{
     EnumTypeDefinition, EnumTypeExtension, InputObjectTypeDefinition, InputObjectTypeExtension,
     InterfaceTypeDefinition, InterfaceTypeExtension, ObjectTypeDefinition, ObjectTypeExtension,
     ScalarTypeDefinition, ScalarTypeExtension, UnionTypeDefinition, UnionTypeExtension,
 };
+use gql_ast_base::{all_three, both};
 use jb_text::Memory;
 
 /// Adds what an extension gives, where it is one of a type of this kind.

@@ -6,7 +6,7 @@ ghost use Rattle.gql_schema_build.specs.InputFieldNameCollision.{input_field_nam
 ghost use Rattle.gql_schema_build.specs.PartNames.{input_name};
 
 use crate::distinct::distinct;
-use gql_ast_definitions::InputValueDefinition;
+use gql_ast::InputValueDefinition;
 use gql_diag_messages::{DiagnosticData, Rule};
 use gql_schema_types::Table;
 use jb_text::{Listed, Memory};

@@ -13,11 +13,11 @@ use crate::input_field_name_collision::input_fields;
 use crate::interface_field_name_collision::interface_fields;
 use crate::object_field_name_collision::object_fields;
 use crate::union_member_name_collision::union_members;
-use gql_ast_base::both;
-use gql_ast_definitions::{
+use gql_ast::{
     EnumTypeDefinition, InputObjectTypeDefinition, InterfaceTypeDefinition, ObjectTypeDefinition,
     ScalarTypeDefinition, UnionTypeDefinition,
 };
+use gql_ast_base::both;
 use gql_diag_messages::DiagnosticData;
 use gql_schema_types::{
     EnumType, ExtendedType, InputObjectType, InterfaceType, ObjectType, ScalarType, UnionType,

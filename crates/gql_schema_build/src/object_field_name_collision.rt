@@ -7,7 +7,7 @@ ghost use Rattle.gql_schema_build.specs.PartNames.{field_name};
 
 use crate::distinct::distinct;
 use crate::parts_listed::shared;
-use gql_ast_definitions::FieldDefinition;
+use gql_ast::FieldDefinition;
 use gql_diag_messages::{DiagnosticData, Rule};
 use gql_schema_types::{Shared, Table};
 use jb_text::{Listed, Memory};

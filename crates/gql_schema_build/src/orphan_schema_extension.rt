@@ -5,7 +5,7 @@ ghost use Rattle.std.specs.Prelude.{◌≡◌, ◌++◌, OnOk};
 ghost use Rattle.gql_schema_build.specs.OrphanSchemaExtension as spec;
 
 use crate::fault::list_nameless;
-use gql_ast_definitions::SchemaExtension;
+use gql_ast::SchemaExtension;
 use gql_diag_messages::{DiagnosticData, Rule};
 use jb_text::{Listed, Memory};
 use std::alloc::Global;

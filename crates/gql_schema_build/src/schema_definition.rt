@@ -9,8 +9,8 @@ use crate::duplicate_root_operation::add_roots;
 use crate::lists::append;
 use crate::orphan_schema_extension::list_orphan_schema_extensions;
 use crate::schema_definition_collision::first_schema;
+use gql_ast::SchemaExtension;
 use gql_ast_base::{Name, OperationType, all_three, both};
-use gql_ast_definitions::SchemaExtension;
 use gql_diag_messages::DiagnosticData;
 use gql_schema_types::{ExtendedType, SchemaDefinition, Table};
 use jb_text::{Listed, Memory, Refused};
@@ -27,7 +27,7 @@ struct Draft {
 /// The definition of the schema, and the faults in what is written of it.
 pub(crate) fn schema_definition(
     alloc: Global,
-    schemas: Listed<gql_ast_definitions::SchemaDefinition>,
+    schemas: Listed<gql_ast::SchemaDefinition>,
     extensions: Listed<SchemaExtension>,
     types: &Table<ExtendedType>,
     faults: &mut Listed<DiagnosticData>,
@@ -44,7 +44,7 @@ pub(crate) fn schema_definition(
 fn beginning(
     alloc: Global,
     types: &Table<ExtendedType>,
-    first: Option<gql_ast_definitions::SchemaDefinition>,
+    first: Option<gql_ast::SchemaDefinition>,
 ) -> Result<Draft, Memory>
     ensures { IfOk result (λ made. made ≡ spec.beginning types.now first) }
 {
@@ -55,10 +55,10 @@ fn beginning(
 }
 
 /// What a `schema` says.
-fn written(first: gql_ast_definitions::SchemaDefinition) -> Draft
+fn written(first: gql_ast::SchemaDefinition) -> Draft
     ensures { (types : List ExtendedType) → result ≡ spec.beginning types (Some first) }
 {
-    let gql_ast_definitions::SchemaDefinition {
+    let gql_ast::SchemaDefinition {
         description,
         directives,
         root_operations,

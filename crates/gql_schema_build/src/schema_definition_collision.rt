@@ -4,7 +4,7 @@ ghost use Rattle.std.specs.Prelude.{◌≡◌, ◌++◌, IfOk, OnOk};
 ghost use Rattle.gql_schema_build.specs.SchemaDefinitionCollision as spec;
 
 use crate::fault::list_nameless;
-use gql_ast_definitions::SchemaDefinition;
+use gql_ast::SchemaDefinition;
 use gql_diag_messages::{DiagnosticData, Rule};
 use jb_text::{Listed, Memory};
 use std::alloc::Global;

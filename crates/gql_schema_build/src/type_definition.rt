@@ -6,11 +6,11 @@ ghost use Rattle.gql_schema_types.specs.Entries.{entry};
 ghost use Rattle.gql_schema_build.specs.DefinitionNames.{definition_name};
 
 use crate::type_kind::TypeKind;
-use gql_ast_base::Name;
-use gql_ast_definitions::{
+use gql_ast::{
     EnumTypeDefinition, InputObjectTypeDefinition, InterfaceTypeDefinition, ObjectTypeDefinition,
     ScalarTypeDefinition, UnionTypeDefinition,
 };
+use gql_ast_base::Name;
 use gql_schema_types::Named;
 use gql_source::SourceSpan;
 

@@ -3,11 +3,11 @@
 ghost use Rattle.std.specs.Prelude.{◌≡◌};
 
 use crate::type_kind::TypeKind;
-use gql_ast_base::Name;
-use gql_ast_definitions::{
+use gql_ast::{
     EnumTypeExtension, InputObjectTypeExtension, InterfaceTypeExtension, ObjectTypeExtension,
     ScalarTypeExtension, UnionTypeExtension,
 };
+use gql_ast_base::Name;
 use gql_schema_types::Named;
 
 /// An extension of a type of any kind (GraphQL October 2021, section 3.4.3).

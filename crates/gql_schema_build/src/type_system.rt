@@ -4,9 +4,8 @@ ghost use Rattle.std.specs.Prelude.{◌≡◌, OnOk};
 
 use crate::type_definition::TypeDefinition;
 use crate::type_extension::TypeExtension;
-use gql_ast::Definition;
+use gql_ast::{Definition, DirectiveDefinition, SchemaDefinition, SchemaExtension};
 use gql_ast_base::Copying;
-use gql_ast_definitions::{DirectiveDefinition, SchemaDefinition, SchemaExtension};
 use jb_text::{Listed, Memory};
 use std::alloc::Global;
 

@@ -6,9 +6,9 @@ use Rattle.gql_diag_messages.specs.declared.diagnostic_data.DiagnosticData.{Diag
 use Rattle.gql_schema_rules.specs.RecursiveDirectiveDefinition.{AreRecursiveDirectives}
 use Rattle.gql_schema_rules.specs.RecursiveInputObjectDefinition.{AreRecursiveInputObjects}
 use Rattle.gql_schema_rules.specs.RecursiveInterfaceDefinition.{AreRecursiveInterfaces}
-use Rattle.gql_rules_types.specs.InterfaceRules.{interfaces_faults}
-use Rattle.gql_rules_types.specs.SchemaRules.{schema_definition_faults, directive_definitions_faults}
-use Rattle.gql_rules_types.specs.TypeRules.{types_faults}
+use Rattle.gql_schema_rules_parts.specs.InterfaceRules.{interfaces_faults}
+use Rattle.gql_schema_rules_parts.specs.SchemaRules.{schema_definition_faults, directive_definitions_faults}
+use Rattle.gql_schema_rules_parts.specs.TypeRules.{types_faults}
 use Rattle.gql_diag.specs.Taken.{HasListedSome}
 use Rattle.gql_schema_types.specs.declared.schema.Schema.{Schema}
 

@@ -9,8 +9,8 @@ ghost use Rattle.gql_rules_values.specs.Directives.{directive_faults};
 ghost use Rattle.gql_rules_values.specs.Literals.{literal_faults};
 ghost use Rattle.gql_diag.specs.Taken.{HasTakenSome};
 
+use gql_ast::{DirectiveLocation, InputValueDefinition};
 use gql_ast_base::{Argument, Directive, Name, TypeRef, Value};
-use gql_ast_definitions::{DirectiveLocation, InputValueDefinition};
 use gql_diag::{DiagnosticList, take_faults};
 use gql_rules_values::{Call, Defined, list_arguments, list_directives, list_literal};
 use gql_schema_types::Schema;

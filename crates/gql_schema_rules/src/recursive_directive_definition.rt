@@ -6,8 +6,8 @@ ghost use Rattle.gql_diag_messages.specs.declared.diagnostic_data.DiagnosticData
 ghost use Rattle.gql_schema_rules.specs.RecursiveDirectiveDefinition as spec;
 
 use crate::cycle_faults::list_cycles;
+use gql_ast::{DirectiveDefinition, InputValueDefinition};
 use gql_ast_base::{Directive, Name};
-use gql_ast_definitions::{DirectiveDefinition, InputValueDefinition};
 use gql_diag_messages::{DiagnosticData, Rule};
 use gql_schema_types::{ExtendedType, Table};
 use jb_text::{Listed, Memory};

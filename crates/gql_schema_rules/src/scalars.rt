@@ -6,8 +6,8 @@ ghost use Rattle.gql_ast_base.specs.Names.{is_name};
 ghost use Rattle.gql_schema_types.specs.Types.{type_called};
 ghost use Rattle.gql_schema_rules.specs.Scalars as spec;
 
+use gql_ast::{DirectiveDefinition, FieldDefinition, InputValueDefinition};
 use gql_ast_base::Name;
-use gql_ast_definitions::{DirectiveDefinition, FieldDefinition, InputValueDefinition};
 use gql_rules_values::is_written;
 use gql_schema_types::{ExtendedType, ScalarType, Shared, Table};
 use jb_text::{Listed, Memory, Refused};

@@ -7,7 +7,7 @@ use crate::recursive_directive_definition::list_recursive_directives;
 use crate::recursive_input_object_definition::list_recursive_input_objects;
 use crate::recursive_interface_definition::list_recursive_interfaces;
 use gql_diag_messages::DiagnosticData;
-use gql_rules_types::{
+use gql_schema_rules_parts::{
     list_directive_definitions, list_interfaces, list_schema_definition, list_types,
 };
 use gql_schema_types::Schema;

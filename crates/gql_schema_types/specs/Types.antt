@@ -4,7 +4,7 @@ use Rattle.std.specs.List.{list_any}
 use Rattle.std.specs.Str.{bytes_eq}
 use Rattle.gql_ast_base.specs.Names.{Named}
 use Rattle.gql_ast_base.specs.declared.directive.Directive.{Directive}
-use Rattle.gql_ast_definitions.specs.declared.field_definition.FieldDefinition.{FieldDefinition}
+use Rattle.gql_ast.specs.declared.field_definition.FieldDefinition.{FieldDefinition}
 use Rattle.gql_schema_types.specs.Entries.{entry}
 use Rattle.gql_schema_types.specs.declared.types.ExtendedType.{ExtendedType}
 use Rattle.gql_schema_types.specs.declared.types.ExtendedType.TheVariants.{Scalar, Object, Interface, Union, Enum, InputObject}

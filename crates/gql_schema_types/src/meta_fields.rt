@@ -6,8 +6,8 @@ ghost use Rattle.gql_ast_base.specs.Names.{is_name};
 ghost use Rattle.gql_schema_types.specs.MetaFields as spec;
 
 use crate::shared::Shared;
+use gql_ast::{FieldDefinition, InputValueDefinition};
 use gql_ast_base::{Name, TypeRef, both};
-use gql_ast_definitions::{FieldDefinition, InputValueDefinition};
 use jb_text::{Listed, Memory, Refused};
 use std::alloc::{AllocError, Global};
 use std::marker::Model;

@@ -3,10 +3,8 @@
 ghost use Rattle.std.specs.Prelude.{◌≡◌};
 ghost use Rattle.gql_ast_base.specs.Names as names;
 
+use gql_ast::{DirectiveDefinition, EnumValueDefinition, FieldDefinition, InputValueDefinition};
 use gql_ast_base::Name;
-use gql_ast_definitions::{
-    DirectiveDefinition, EnumValueDefinition, FieldDefinition, InputValueDefinition,
-};
 
 /// What has a name of its own, by which a [`Table`](crate::Table) finds it.
 pub trait Named {

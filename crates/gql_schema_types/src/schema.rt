@@ -7,8 +7,8 @@ use crate::meta_fields::MetaFields;
 use crate::shared::Shared;
 use crate::table::Table;
 use crate::types::{ExtendedType, ObjectType};
+use gql_ast::{DirectiveDefinition, FieldDefinition};
 use gql_ast_base::{Directive, Name, OperationType, TypeRef};
-use gql_ast_definitions::{DirectiveDefinition, FieldDefinition};
 use gql_source::{SourceMap, SourceSpan};
 use jb_text::{Listed, Text};
 

@@ -5,8 +5,8 @@ ghost use Rattle.std.specs.Prelude.{◌≡◌};
 use crate::named::Named;
 use crate::shared::Shared;
 use crate::table::Table;
+use gql_ast::{EnumValueDefinition, FieldDefinition, InputValueDefinition};
 use gql_ast_base::{Directive, Name};
-use gql_ast_definitions::{EnumValueDefinition, FieldDefinition, InputValueDefinition};
 use gql_source::SourceSpan;
 use jb_text::{Listed, Text};
 

@@ -1,7 +1,7 @@
 -- Definitions as texts: sections 3.5 to 3.10 and 3.13 of GraphQL October 2021.
 use Rattle.std.specs.Prelude.{ℕ, Bool, List, [], ◌∷◌, ◌++◌, map, codes, Option, Some, None}
-use Rattle.gql_ast_definitions.specs.Schemas.{location_name}
-use Rattle.gql_ast_definitions.specs.declared.schema_definition.DirectiveLocation.{DirectiveLocation}
+use Rattle.gql_ast.specs.Schemas.{location_name}
+use Rattle.gql_ast.specs.declared.schema_definition.DirectiveLocation.{DirectiveLocation}
 use Rattle.gql_sdl.specs.Forms.{described, string_text, arguments_text, field_text, enum_value_text, input_text, implements_text, members_text}
 use Rattle.gql_sdl.specs.Pieces.{block, joined, between_if}
 use Rattle.gql_sdl.specs.declared.shown.ShownDirective.{ShownDirective}

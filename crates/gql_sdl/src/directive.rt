@@ -7,7 +7,7 @@ use crate::description::append_description;
 use crate::input::append_arguments;
 use crate::printed::{append_if, append_joined};
 use crate::shown::ShownDirective;
-use gql_ast_definitions::DirectiveLocation;
+use gql_ast::DirectiveLocation;
 use jb_text::{Memory, Text};
 use std::alloc::Global;
 

@@ -2,13 +2,12 @@
 
 ghost use Rattle.std.specs.Prelude.{◌≡◌, ◌++◌, OnOk, string_bytes};
 ghost use Rattle.gql_ast.specs.TypeText.{type_text};
-ghost use Rattle.gql_ast_definitions.specs.Schemas.{location_name};
+ghost use Rattle.gql_ast.specs.Schemas.{location_name};
 ghost use Rattle.gql_sdl.specs.Forms.{implements_text, members_text};
 
 use crate::printed::{Printed, append_joined};
-use gql_ast::print_type;
+use gql_ast::{DirectiveLocation, print_type};
 use gql_ast_base::TypeRef;
-use gql_ast_definitions::DirectiveLocation;
 use jb_text::Memory;
 
 /// Appends the text of a reference to a type.

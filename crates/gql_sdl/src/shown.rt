@@ -1,7 +1,7 @@
 //! What introspection shows of a schema: section 4.2 of GraphQL October 2021, and `isOneOf` of the edition of September 2025.
 
+use gql_ast::DirectiveLocation;
 use gql_ast_base::{Name, TypeRef};
-use gql_ast_definitions::DirectiveLocation;
 use jb_text::{ByteString, Listed, Text};
 
 /// The kind of a type that has a name (section 4.2.2).

@@ -4,3 +4,6 @@ pub mod Printed
 pub mod Settled
 pub mod Strings
 pub mod TakesLemmas
+mod Alike
+mod Deep
+mod Nested

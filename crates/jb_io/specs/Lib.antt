@@ -6,3 +6,4 @@ pub mod Stream
 pub mod Memory
 pub mod Reply
 pub mod Run
+pub mod Levels

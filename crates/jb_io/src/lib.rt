@@ -14,6 +14,7 @@
 mod command;
 mod failing;
 pub mod laws;
+pub mod level_laws;
 mod memory_sink;
 mod memory_source;
 mod proper;

@@ -4,8 +4,8 @@ ghost use Rattle.std.specs.Prelude.{◌^◌, ◌<◌};
 
 use crate::schemas::settling::built;
 use crate::schemas::told_list;
+use gql_ast::DirectiveLocation;
 use gql_ast_base::Argument;
-use gql_ast_definitions::DirectiveLocation;
 use gql_diag::DiagnosticList;
 use gql_document_types::{ExecutableDocument, Field, Selection};
 use gql_parser::Parser;

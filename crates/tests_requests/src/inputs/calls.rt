@@ -2,8 +2,8 @@
 
 use crate::fixtures::{bytes_of, document_of, object_of, schema_of};
 use bytes::Bytes;
+use gql_ast::{FieldDefinition, VariableDefinition};
 use gql_ast_base::Argument;
-use gql_ast_definitions::{FieldDefinition, VariableDefinition};
 use gql_coerce::{ArgumentFault, InputCoercionError, coerce_arguments, coerce_variables};
 use gql_collect::coerce_variable_values;
 use gql_diag::{JsonMap, RequestError};

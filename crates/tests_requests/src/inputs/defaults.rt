@@ -4,8 +4,8 @@
 use crate::fixtures::{document_of, schema_of};
 use crate::inputs::calls::{SCHEMA, arguments_by, variables_of};
 use bytes::Bytes;
+use gql_ast::{FieldDefinition, VariableDefinition};
 use gql_ast_base::{Copying, Value};
-use gql_ast_definitions::{FieldDefinition, VariableDefinition};
 use gql_diag::JsonMap;
 use gql_document_types::{Field, Operation};
 use gql_schema_types::{Schema, Valid};

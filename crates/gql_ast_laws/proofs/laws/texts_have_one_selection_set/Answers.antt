@@ -1,6 +1,6 @@
 use Rattle.std.proofs.Common.{◌++◌, ◌∙◌, sym, ap}
 use Rattle.gql_grammar.specs.declared.rule.Rule.TheVariants.{FieldSet}
-use Rattle.gql_ast_definitions.specs.Selections.{selections, selected}
+use Rattle.gql_ast.specs.Selections.{selections, selected}
 use Rattle.gql_ast_laws.proofs.SelectionMeaning.{selections-bare, selected-bare}
 use Rattle.gql_ast_laws.proofs.Whole.{one_meaning}
 use Rattle.gql_ast_laws.proofs.laws.texts_have_one_selection_set.Goals as goal

@@ -1,5 +1,5 @@
 use Rattle.std.proofs.Common.{ap, refl, sym, ◌∙◌}
-use Rattle.gql_request.specs.Request.{asked_in}
+use Rattle.gql_engine.specs.Request.{asked_in}
 use Rattle.gql_engine.specs.AtHand.{TwoTexts}
 use Rattle.gql_engine.specs.Reply.{wanted_of}
 use Rattle.gql_checker.proofs.command.check_by.Goals as goal

@@ -2,7 +2,7 @@ use Rattle.std.proofs.Common.{ap, ◌∙◌}
 use Rattle.gql_response.specs.Reading.{response_read}
 use Rattle.gql_response.specs.Response.{response_value}
 use Rattle.gql_response.specs.declared.fault.ResponseFault.TheVariants.{Read}
-use Rattle.jb_level_laws.specs.Levels.{is_deep_at}
+use Rattle.jb_io.specs.Levels.{is_deep_at}
 use Rattle.gql_checker.proofs.Own.{deep-read, own-deep, own-explained}
 use Rattle.gql_checker.proofs.laws.answers_are_explained.Goals as goal
 

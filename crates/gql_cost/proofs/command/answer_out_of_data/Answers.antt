@@ -1,4 +1,4 @@
-use Rattle.gql_request.specs.Request.{asked_in}
+use Rattle.gql_engine.specs.Request.{asked_in}
 use Rattle.gql_engine.specs.Reply.{root_of, wanted_of}
 use Rattle.gql_cost.proofs.Lines.{answered-as, begins-at, refused-as, wanted-is}
 use Rattle.gql_cost.proofs.command.answer_out_of_data.Goals as goal

@@ -1,5 +1,5 @@
 use Rattle.gql_engine.specs.Phases.{ready_as}
-use Rattle.gql_cost.proofs.Costs.{memory-refused, memory-unexecuted, refused-cost, unexecuted-cost}
+use Rattle.gql_cost.proofs.CostRefusals.{memory-refused, memory-unexecuted, refused-cost, unexecuted-cost}
 use Rattle.gql_cost.proofs.responding.respond_ready.Goals as goal
 
 pub returns-in-Ok-clause-refused : goal.returns-in-Ok-clause-refused

@@ -1,4 +1,4 @@
-use Rattle.gql_request.specs.Request.{asked_in}
+use Rattle.gql_engine.specs.Request.{asked_in}
 use Rattle.gql_engine.specs.Reply.{wanted_of}
 use Rattle.gql_engine.specs.Serving.{IsDoneOutput}
 use Rattle.gql_engine.proofs.Replies.{answer_done, answer_refused, is_done, is_refused_for, never_told}

@@ -1,4 +1,4 @@
-use Rattle.gql_request.specs.Request.{asked_in}
+use Rattle.gql_engine.specs.Request.{asked_in}
 use Rattle.gql_engine.proofs.Replies.{check_refused, is_refused}
 use Rattle.gql_engine.proofs.reply.checked.Goals as goal
 

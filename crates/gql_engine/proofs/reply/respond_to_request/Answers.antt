@@ -1,4 +1,4 @@
-use Rattle.gql_request.specs.Request.{asked_in}
+use Rattle.gql_engine.specs.Request.{asked_in}
 use Rattle.gql_engine.specs.Reply.{root_of, wanted_of}
 use Rattle.gql_engine.proofs.Replies.{begins_at, responds_as, wanted_is}
 use Rattle.gql_engine.proofs.reply.respond_to_request.Goals as goal

@@ -1,8 +1,8 @@
 -- What the prover leaves open of `reply_to`: the request that the bytes are is the one that is replied to.
 use Rattle.std.proofs.Common.{◌≡◌, Ok, Err, subst}
-use Rattle.gql_request.specs.NotAsked.{no_request, no_text}
-use Rattle.gql_request.specs.Request.{asked, asked_in}
-use Rattle.gql_request.specs.declared.request.RequestForm.{RequestForm}
+use Rattle.gql_engine.specs.NotAsked.{no_request, no_text}
+use Rattle.gql_engine.specs.Request.{asked, asked_in}
+use Rattle.gql_engine.specs.declared.request_form.RequestForm.{RequestForm}
 use Rattle.gql_engine.proofs.CommandRuns.{message_replied, must_not_of, must_of, none_must, request_replied}
 use Rattle.gql_engine.proofs.request_serving.reply_to.Goals as goal
 

@@ -1,6 +1,6 @@
 use Rattle.std.proofs.Common.{ℕ, List, arith, subst}
 use Rattle.jb_read.specs.Spelling.{JsonText}
-use Rattle.gql_request.specs.Request.{asked_in}
+use Rattle.gql_engine.specs.Request.{asked_in}
 use Rattle.gql_engine.proofs.SelfTests.{measured}
 use Rattle.gql_engine.proofs.self_test.self_test.Goals as goal
 

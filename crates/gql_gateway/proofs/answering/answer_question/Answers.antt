@@ -1,7 +1,7 @@
 use Rattle.gql_engine.specs.AnswerError.{Asks, HasCause}
 use Rattle.gql_engine.specs.Service.{asked_of}
 use Rattle.jb_io.specs.Stream.{HasFailed}
-use Rattle.gql_gateway.specs.Joined.{Fits, IsTooLarge, LacksKey}
+use Rattle.gql_gateway.specs.Gateway.{Fits, IsTooLarge, LacksKey}
 use Rattle.gql_gateway.proofs.Calls.{call-answered, call-refused, engine-caused}
 use Rattle.gql_gateway.proofs.answering.answer_question.Goals as goal
 

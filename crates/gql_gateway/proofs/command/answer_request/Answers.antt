@@ -1,6 +1,6 @@
 use Rattle.std.proofs.Common.{arith, ◌≡◌, ap, true, subst, ◌∙◌}
 use Rattle.std.specs.Borrow.{Bor}
-use Rattle.gql_request.specs.Request.{asked_in}
+use Rattle.gql_engine.specs.Request.{asked_in}
 use Rattle.gql_resolvers.proofs.DataSkips.{data-whole}
 use Rattle.gql_resolvers.specs.Data.{Data}
 use Rattle.gql_engine.specs.Reply.{root_of}

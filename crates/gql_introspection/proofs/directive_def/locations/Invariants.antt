@@ -1,5 +1,5 @@
 use Rattle.std.proofs.Common.{◌≡◌, ◌++◌, map, drop}
-use Rattle.gql_ast_definitions.specs.Schemas.{location_name}
+use Rattle.gql_ast.specs.Schemas.{location_name}
 use Rattle.gql_introspection.specs.Answers.{text_leaf}
 use Rattle.gql_introspection.specs.Items.{answers_in}
 use Rattle.gql_introspection.proofs.directive_def.locations.Given as goal

@@ -2,8 +2,8 @@ use Rattle.std.proofs.Common.{rules, arith, ◌≡◌, ◌<◌, ◌+◌, true, f
 use Rattle.std.specs.Prelude.{◌&&◌}
 use Rattle.std.specs.Map.{keys_of}
 use Rattle.gql_collect.specs.Plan.{groups_in}
-use Rattle.gql_check_laws.specs.Reported.{have_keys}
-use Rattle.gql_check_laws.proofs.Keys.{keys-more, keys-sized}
+use Rattle.gql_checker_laws.specs.Reported.{have_keys}
+use Rattle.gql_checker_laws.proofs.Keys.{keys-more, keys-sized}
 use Rattle.gql_response_check.proofs.reported.are_keys.Goals as goal
 
 pub returns-then-len-count : goal.returns-then-len-count

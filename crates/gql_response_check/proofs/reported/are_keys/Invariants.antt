@@ -1,6 +1,6 @@
 use Rattle.std.proofs.Common.{◌≡◌, drop}
 use Rattle.gql_collect.specs.Plan.{groups_in}
-use Rattle.gql_check_laws.specs.Reported.{have_keys}
+use Rattle.gql_checker_laws.specs.Reported.{have_keys}
 use Rattle.gql_response_check.proofs.reported.are_keys.Given as goal
 
 abbrev pub invariant-loop-number : goal.invariant-loop-number

@@ -1,7 +1,7 @@
 use Rattle.std.proofs.Common.{ℕ, List, is_some, ap, ◌∙◌}
 use Rattle.std.specs.Map.{lookup}
 use Rattle.std.specs.Str.{bytes_eq}
-use Rattle.gql_asks.proofs.AbsentKeys.{no-place}
+use Rattle.gql_rounds.proofs.AbsentKeys.{no-place}
 use Rattle.gql_rounds.proofs.asks_json.add.Goals as goal
 
 pub insert_new-requires : goal.insert_new-requires

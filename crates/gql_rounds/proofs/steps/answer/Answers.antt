@@ -1,8 +1,8 @@
 use Rattle.std.proofs.Common.{Ok, Err, subst}
 use Rattle.gql_engine.specs.Answering.{GivesAnswer}
 use Rattle.gql_engine.specs.Service.{asked_of}
-use Rattle.gql_asks.specs.Known.{type_of_entity}
-use Rattle.gql_asks.specs.ToldMeaning.{told}
+use Rattle.gql_rounds.specs.Known.{type_of_entity}
+use Rattle.gql_rounds.specs.ToldMeaning.{told}
 use Rattle.gql_rounds.proofs.Causes.{answered-nothing}
 use Rattle.gql_rounds.proofs.steps.answer.Goals as goal
 

@@ -1,4 +1,4 @@
-use Rattle.gql_request.specs.Request.{asked_in}
+use Rattle.gql_engine.specs.Request.{asked_in}
 use Rattle.gql_engine.specs.Reply.{wanted_of}
 use Rattle.gql_engine.specs.Serving.{IsDoneOutput}
 use Rattle.gql_checker.proofs.Exact.{always-explained, never-explained}

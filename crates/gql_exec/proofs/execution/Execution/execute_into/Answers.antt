@@ -1,5 +1,5 @@
 use Rattle.std.proofs.Common.{sym, subst}
-use Rattle.gql_exec_fields.specs.Output.{AreWritten}
+use Rattle.gql_exec.specs.Output.{AreWritten}
 use Rattle.gql_exec.specs.Running.{RunsBy}
 use Rattle.gql_exec.proofs.execution.Execution.execute_into.Goals as goal
 

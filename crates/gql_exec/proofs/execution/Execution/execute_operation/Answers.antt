@@ -1,7 +1,7 @@
 use Rattle.std.proofs.Common.{rules, ◌≡◌, Some, subst}
 use Rattle.gql_schema_types.specs.Schemas.{object_of}
 use Rattle.gql_exec.specs.Execution.{on_root}
-use Rattle.gql_exec_fields.specs.Output.{AreWritten}
+use Rattle.gql_exec.specs.Output.{AreWritten}
 use Rattle.gql_exec.specs.Running.{IsRun}
 use Rattle.gql_exec.proofs.execution.Execution.execute_operation.Goals as goal
 

@@ -5,18 +5,18 @@ use Rattle.gql_collect.specs.Collected.{sets_of}
 use Rattle.gql_collect.specs.Plan.{Ground, ArePartsOf, IsWithin, groups_in, most_looks}
 use Rattle.gql_collect.specs.Room.{HasRoom}
 use Rattle.gql_collect.proofs.Room.{room-root}
-use Rattle.gql_exec_fields.specs.RequestWorld.{plain_world}
+use Rattle.gql_exec.specs.RequestWorld.{plain_world}
 use Rattle.gql_exec.specs.Execution.{request_in}
-use Rattle.gql_exec_fields.specs.Trails.{trail_of}
-use Rattle.gql_exec_fields.specs.declared.executing.Executing.{Executing}
-use Rattle.gql_exec_fields.specs.declared.path.Path.TheVariants.{Root}
-use Rattle.gql_exec_fields.proofs.Collecting.{one-set, views-run}
-use Rattle.gql_exec_fields.proofs.Groups.{executed-sets}
+use Rattle.gql_exec.specs.Trails.{trail_of}
+use Rattle.gql_exec.specs.declared.executing.Executing.{Executing}
+use Rattle.gql_exec.specs.declared.path.Path.TheVariants.{Root}
+use Rattle.gql_exec.proofs.Collecting.{one-set, views-run}
+use Rattle.gql_exec.proofs.Groups.{executed-sets}
 use Rattle.gql_exec.proofs.Looking.{looks-of}
 use Rattle.gql_collect.proofs.Acyclic.{spreads-ranked}
 use Rattle.gql_exec.proofs.Responses.{answered-alone}
-use Rattle.gql_exec_fields.proofs.Views.{views}
-use Rattle.gql_exec_fields.proofs.Ways.{trail-root}
+use Rattle.gql_exec.proofs.Views.{views}
+use Rattle.gql_exec.proofs.Ways.{trail-root}
 use Rattle.gql_exec.proofs.execution.Execution.run.Goals as goal
 
 pub returns : goal.returns

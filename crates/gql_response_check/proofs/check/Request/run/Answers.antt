@@ -5,11 +5,11 @@ use Rattle.gql_collect.specs.Collected.{sets_of}
 use Rattle.gql_collect.specs.Plan.{Ground, ArePartsOf, IsWithin, groups_in}
 use Rattle.gql_collect.specs.Room.{HasRoom}
 use Rattle.gql_collect.proofs.Room.{room-root}
-use Rattle.gql_exec_fields.proofs.Collecting.{one-set}
-use Rattle.gql_exec_fields.proofs.Ways.{trail-root}
-use Rattle.gql_exec_fields.specs.Trails.{trail_of}
-use Rattle.gql_exec_fields.specs.declared.executing.Executing.{Executing}
-use Rattle.gql_exec_fields.specs.declared.path.Path.TheVariants.{Root}
+use Rattle.gql_exec.proofs.Collecting.{one-set}
+use Rattle.gql_exec.proofs.Ways.{trail-root}
+use Rattle.gql_exec.specs.Trails.{trail_of}
+use Rattle.gql_exec.specs.declared.executing.Executing.{Executing}
+use Rattle.gql_exec.specs.declared.path.Path.TheVariants.{Root}
 use Rattle.gql_collect.proofs.Acyclic.{spreads-ranked}
 use Rattle.gql_response_check.specs.Views.{claims_of}
 use Rattle.gql_response_check.proofs.Judging.{verdict-found}

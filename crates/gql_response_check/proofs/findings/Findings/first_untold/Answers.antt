@@ -1,5 +1,5 @@
-use Rattle.gql_verdict.specs.Claims.{first_missing}
-use Rattle.gql_check_laws.proofs.Keys.{further-none}
+use Rattle.gql_checker_laws.specs.Claims.{first_missing}
+use Rattle.gql_checker_laws.proofs.Keys.{further-none}
 use Rattle.gql_response_check.proofs.findings.Findings.first_untold.Goals as goal
 
 pub loop-number-init : goal.loop-number-init

@@ -1,5 +1,5 @@
 use Rattle.std.proofs.Common.{rules}
-use Rattle.gql_check_laws.proofs.Keys.{told-past}
+use Rattle.gql_checker_laws.proofs.Keys.{told-past}
 use Rattle.gql_response_check.specs.Views.{findings_of}
 use Rattle.gql_response_check.proofs.findings.Findings.tell.Goals as goal
 

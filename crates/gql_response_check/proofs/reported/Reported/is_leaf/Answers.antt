@@ -1,7 +1,7 @@
 use Rattle.std.proofs.Common.{ap, sym, ◌∙◌}
 use Rattle.std.specs.Option.{option_copied}
-use Rattle.gql_check_laws.specs.Reported.{is_leaf}
-use Rattle.gql_check_laws.proofs.Leaf.{leaf-is}
+use Rattle.gql_checker_laws.specs.Reported.{is_leaf}
+use Rattle.gql_checker_laws.proofs.Leaf.{leaf-is}
 use Rattle.gql_response_check.proofs.reported.Reported.is_leaf.Goals as goal
 
 pub returns-in-Some : goal.returns-in-Some

@@ -3,13 +3,13 @@ use Rattle.std.specs.Option.{option_copied}
 use Rattle.gql_collect.specs.Plan.{AreNodes, HaveNodes, fields_in, groups_in, sets_below}
 use Rattle.gql_resolvers.specs.Meaning.{meanings_by}
 use Rattle.gql_resolvers.proofs.Height.{height}
-use Rattle.gql_exec_fields.specs.Planning.{ground_in}
-use Rattle.gql_exec_fields.specs.Executing.{world_of}
-use Rattle.gql_exec_fields.specs.Trails.{group_of, spot_of, trail_of}
-use Rattle.gql_exec_fields.proofs.Heights.{top}
-use Rattle.gql_exec_fields.proofs.Measures.{schema_in, fragments_in, room, measure, deepest}
-use Rattle.gql_exec_fields.proofs.Views.{views}
-use Rattle.gql_check_laws.specs.Walked.{IsVisiting, IsWalking}
+use Rattle.gql_exec.specs.Planning.{ground_in}
+use Rattle.gql_exec.specs.Executing.{world_of}
+use Rattle.gql_exec.specs.Trails.{group_of, spot_of, trail_of}
+use Rattle.gql_exec.proofs.Heights.{top}
+use Rattle.gql_exec.proofs.Measures.{schema_in, fragments_in, room, measure, deepest}
+use Rattle.gql_exec.proofs.Views.{views}
+use Rattle.gql_checker_laws.specs.Walked.{IsVisiting, IsWalking}
 use Rattle.gql_response_check.specs.Views.{claims_of, findings_of}
 use Rattle.gql_response_check.proofs.walk.Checking.+check.Given as goal
 

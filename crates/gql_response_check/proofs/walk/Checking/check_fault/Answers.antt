@@ -1,6 +1,6 @@
 use Rattle.std.proofs.Common.{IfOk, subst}
 use Rattle.gql_document_types.specs.declared.document.ExecutableDocument.{ExecutableDocument}
-use Rattle.gql_exec_fields.specs.Trails.{spot_of}
+use Rattle.gql_exec.specs.Trails.{spot_of}
 use Rattle.gql_response_check.specs.Finds.{FindsFault}
 use Rattle.gql_response_check.specs.Views.{fault_in}
 use Rattle.gql_response_check.proofs.Returning.{done-fault}

@@ -1,5 +1,0 @@
-use Rattle.gql_asks.proofs.Few.{rounds-deeper}
-use Rattle.gql_asks.proofs.laws.rounds_go_deeper.Goals as goal
-
-pub returns : goal.returns
-returns c = λ subject old new depth quiet next. rounds-deeper subject old new depth quiet next

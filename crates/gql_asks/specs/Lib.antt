@@ -1,9 +1,0 @@
-pub mod Key
-pub mod Table
-pub mod Known
-pub mod ToldMeaning
-pub mod Levels
-pub mod Wanted
-pub mod Asked
-pub mod Walked
-pub mod Telling

@@ -1,7 +1,0 @@
-use Rattle.std.proofs.Common.{◌∙◌}
-use Rattle.gql_ast_base.specs.Forest.{forest}
-use Rattle.gql_ast_definitions.proofs.Selected.{selections-gathered}
-use Rattle.gql_ast_definitions.proofs.selection.conversion.selection_set.Goals as goal
-
-pub returns : goal.returns
-returns c = c.in_ok-made.ensures ∙ selections-gathered c.args.source.now.text.now c.args.source.now.file_id (forest c.args.nodes.now)

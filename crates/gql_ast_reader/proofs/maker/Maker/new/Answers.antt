@@ -1,0 +1,11 @@
+use Rattle.std.proofs.Common.{refl}
+use Rattle.gql_ast_reader.proofs.Pool.{begins}
+use Rattle.gql_ast_reader.proofs.maker.Maker.new.Goals as goal
+
+pub returns : goal.returns
+returns g c = record {
+  is_text = c.requires.text;
+  is_file = c.requires.file;
+  keeps = begins _ _ c.new-rows.result _ _ _ _ c.in_ok-begin.ensures refl refl refl (c.new-rows.ensures _ _);
+  ignored = tt {0};
+}

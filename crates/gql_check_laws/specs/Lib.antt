@@ -1,8 +1,0 @@
-pub mod Findings
-pub mod Found
-pub mod Told
-pub mod Places
-pub mod Reported
-pub mod Walked
-pub mod Judgement
-pub mod Shares

@@ -1,0 +1,15 @@
+pub mod Bad
+pub mod Claims
+pub mod Identical
+pub mod Shows
+pub mod Tells
+pub mod Verdict
+pub mod Walk
+pub mod Findings
+pub mod Found
+pub mod Told
+pub mod Places
+pub mod Reported
+pub mod Walked
+pub mod Judgement
+pub mod Shares

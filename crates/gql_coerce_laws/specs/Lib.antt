@@ -1,4 +1,0 @@
--- What coercion makes of validated documents.
-pub mod Marks
-pub mod Unmarked
-pub mod Inputs

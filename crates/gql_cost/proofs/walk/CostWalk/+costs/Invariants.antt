@@ -1,0 +1,30 @@
+use Rattle.std.proofs.Common.{◌+◌, ◌*◌, suc, drop}
+use Rattle.gql_document_types.specs.Count.{count}
+use Rattle.gql_document_types.specs.Counted.{one_count, field_count, inline_count, spread_count, count_at}
+use Rattle.gql_document_types.specs.Expanded.{expanded}
+use Rattle.gql_cost.proofs.Walks.{IsWalkedSoFar}
+use Rattle.gql_cost.proofs.walk.CostWalk.+costs.Given as goal
+
+-- by how many selections there are once each spread is replaced, which is more outside than inside
+abbrev pub decreases-all : goal.decreases-all
+decreases-all g l = 4 * count (expanded l.self.now.fragments.now l.selections.now) + 3
+
+abbrev pub decreases-one : goal.decreases-one
+decreases-one g l = 4 * one_count l.self.now.fragments.now l.selection.now + 2
+
+abbrev pub decreases-field : goal.decreases-field
+decreases-field g l = 4 * field_count l.self.now.fragments.now l.field.now + 1
+
+abbrev pub decreases-inline : goal.decreases-inline
+decreases-inline g l = 4 * inline_count l.self.now.fragments.now l.fragment.now + 1
+
+abbrev pub decreases-spread : goal.decreases-spread
+decreases-spread g l = 4 * spread_count l.self.now.fragments.now l.spread.now + 1
+
+abbrev pub decreases-fragment : goal.decreases-fragment
+decreases-fragment g l = 4 * (1 + count_at l.self.now.fragments.now l.number)
+
+abbrev pub invariant-all-loop-selection : goal.invariant-all-loop-selection
+invariant-all-loop-selection g l =
+    IsWalkedSoFar l.self.items (suc l.self.limit) l.self.fragments.now l.selections (drop l.selection-index l.selection-items)
+    l.initial.memo l.initial.steps l.total l.memo l.steps

@@ -1,9 +1,0 @@
-pub mod Size
-pub mod Sum
-pub mod Nodes
-pub mod Short
-pub mod HasNodes
-pub mod Even
-pub mod Walked
-pub mod Refusal
-pub mod Examples

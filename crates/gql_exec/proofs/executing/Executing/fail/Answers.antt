@@ -1,0 +1,20 @@
+use Rattle.std.proofs.Common.{rules, ◌≡◌, [], ◌∷◌, ◌++◌, refl}
+use Rattle.gql_resolvers.specs.Fit.{wrong}
+use Rattle.gql_resolvers.specs.Messages as message
+use Rattle.gql_resolvers.specs.Fault.{fault_error, told_at}
+use Rattle.gql_resolvers.specs.Resolved.{fails_with}
+use Rattle.gql_exec.specs.Executing.{world_of}
+use Rattle.gql_exec.specs.Output.{IsWritten}
+use Rattle.gql_exec.specs.Trails.{spot_of}
+use Rattle.gql_exec.proofs.Done.{done-misfit, null-listed}
+use Rattle.gql_exec.proofs.executing.Executing.fail.Goals as goal
+
+pub returns : goal.returns
+returns g c =
+    let w = world_of c.args.self.now g.O.ObjectValue.type_of g.O.ObjectValue.resolves in
+    let spot = spot_of c.args.place.now in
+    let misfit = wrong (message.resolver_error c.args.error.message) in
+    let fault = told_at (w.span_of spot.group) misfit in
+    let listed : c.list.new.errors ≡ c.args.errors.now ++ fault_error w spot fault ∷ [] = search rules in
+    done-misfit w c.args.errors.now c.list.new.errors (λ done. IsWritten g.M.Output.is_made c.args.out.now c.null.new.out done) c.null.result spot (fails_with c.args.error.message) misfit refl
+    (null-listed w c.args.errors.now c.list.new.errors g.M.Output.is_made c.args.out.now c.null.new.out c.null.result spot fault listed c.null.ensures)

@@ -1,5 +1,0 @@
-use Rattle.gql_exec_fields.proofs.OneResponse.{one-response}
-use Rattle.gql_exec_fields.proofs.laws.responses_are_one.Goals as goal
-
-pub returns : goal.returns
-returns types c = λ r root initial selections one other first second. one-response r root initial selections one other first second

@@ -1,5 +1,0 @@
-use Rattle.gql_full_query_laws.proofs.Introspecting.{introspects}
-use Rattle.gql_full_query_laws.proofs.laws.schemas_have_introspection.Goals as goal
-
-pub returns : goal.returns
-returns c = introspects c.factored_is_declared.ensures.sound c.texts_have_one_document.ensures.document

@@ -1,5 +1,0 @@
-use Rattle.gql_gateway_parts.proofs.Spreads.{concrete-none}
-use Rattle.gql_gateway_parts.proofs.laws.concrete_parts_have_no_spread.Goals as goal
-
-pub returns : goal.returns
-returns c = λ selections none. concrete-none selections none

@@ -1,6 +1,0 @@
-use Rattle.std.proofs.Common.{[]}
-use Rattle.gql_gateway_parts.proofs.Wholes.{of-nothing}
-use Rattle.gql_gateway_parts.proofs.laws.nothing_is_executed.Goals as goal
-
-pub returns : goal.returns
-returns g c = λ schema sources fragments variables types resolves U x. of-nothing schema sources fragments variables types resolves U x []

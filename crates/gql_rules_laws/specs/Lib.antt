@@ -1,4 +1,0 @@
-pub mod Covariant
-pub mod Examples
-pub mod Merge
-pub mod Outputs

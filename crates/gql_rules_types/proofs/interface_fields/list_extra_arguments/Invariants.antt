@@ -1,8 +1,0 @@
-use Rattle.std.proofs.Common.{◌≡◌, ◌++◌, [], take, drop}
-use Rattle.gql_rules_types.specs.InterfaceRules.{extra_after}
-use Rattle.gql_rules_types.proofs.interface_fields.list_extra_arguments.Given as goal
-
--- what is listed and what is left make the whole
-abbrev pub invariant-loop-index : goal.invariant-loop-index
-invariant-loop-index l =
-    l.faults ++ extra_after l.ty l.interface l.wanted l.field (take l.index l.arguments) (drop l.index l.arguments) ≡ l.fn.faults ++ extra_after l.ty l.interface l.wanted l.field [] l.arguments

@@ -1,8 +1,0 @@
-use Rattle.std.proofs.Common.{◌≡◌, ◌++◌, [], take, drop}
-use Rattle.gql_rules_types.specs.InterfaceRules.{wanted_after}
-use Rattle.gql_rules_types.proofs.interface_fields.list_wanted_arguments.Given as goal
-
--- what is listed and what is left make the whole
-abbrev pub invariant-loop-index : goal.invariant-loop-index
-invariant-loop-index l =
-    l.faults ++ wanted_after l.types l.ty l.interface l.field (take l.index l.arguments) (drop l.index l.arguments) ≡ l.fn.faults ++ wanted_after l.types l.ty l.interface l.field [] l.arguments

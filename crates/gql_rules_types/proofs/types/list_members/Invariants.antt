@@ -1,7 +1,0 @@
-use Rattle.std.proofs.Common.{◌≡◌, ◌++◌, drop}
-use Rattle.gql_rules_types.specs.TypeRules.{members_faults}
-use Rattle.gql_rules_types.proofs.types.list_members.Given as goal
-
--- what is listed and what is left make the whole
-abbrev pub invariant-loop-name : goal.invariant-loop-name
-invariant-loop-name l = l.faults ++ members_faults l.schema (drop l.name-index l.names) ≡ l.fn.faults ++ members_faults l.schema l.names

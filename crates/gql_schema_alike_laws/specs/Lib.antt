@@ -1,4 +1,0 @@
-pub mod Pairs
-pub mod Uses
-pub mod Retold
-pub mod Standard

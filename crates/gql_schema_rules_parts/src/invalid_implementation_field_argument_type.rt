@@ -1,0 +1,90 @@
+//! An argument is of the type of the argument of an interface (GraphQL October 2021, sections 3.6 and 3.7,
+//! "IsValidImplementation").
+
+ghost use Rattle.std.specs.Prelude.{◌≡◌, ◌++◌, ◌∷◌, [], None, OnOk};
+ghost use Rattle.gql_diag_messages.specs.declared.rule.Rule.TheVariants.{InvalidImplementationFieldArgumentType};
+ghost use Rattle.gql_rules_values.specs.Faults.{fault};
+ghost use Rattle.gql_schema_rules_parts.specs.InvalidImplementationFieldArgumentType as spec;
+
+use crate::subtypes::{are_known, is_same_type};
+use gql_ast::{FieldDefinition, InputValueDefinition, print_type};
+use gql_ast_base::{Name, both};
+use gql_diag_messages::{DiagnosticData, Rule};
+use gql_rules_values::list_fault;
+use gql_schema_types::{ExtendedType, Table};
+use gql_source::SourceSpan;
+use jb_text::{Listed, Memory};
+use std::alloc::Global;
+
+/// Lists an argument of another type than the argument of the interface.
+pub(crate) fn list_invalid_implementation_field_argument_type(
+    alloc: Global,
+    types: &Table<ExtendedType>,
+    ty: &Name,
+    interface: &Name,
+    field: &FieldDefinition,
+    wanted: &InputValueDefinition,
+    argument: &InputValueDefinition,
+    faults: &mut Listed<DiagnosticData>,
+) -> Result<(), Memory>
+    ensures { OnOk result (faults.new ≡ faults.old ++ spec.invalid_implementation_field_argument_type types.now ty.now interface.now field.now wanted.now argument.now) }
+{
+    if are_known(types, &wanted.ty, &argument.ty) && !is_same_type(&wanted.ty, &argument.ty) {
+        list_misfit(alloc, ty, interface, field, wanted, argument, faults)
+    } else {
+        Ok(())
+    }
+}
+
+/// Lists an argument with the type that is wanted and its own.
+fn list_misfit(
+    alloc: Global,
+    ty: &Name,
+    interface: &Name,
+    field: &FieldDefinition,
+    wanted: &InputValueDefinition,
+    argument: &InputValueDefinition,
+    faults: &mut Listed<DiagnosticData>,
+) -> Result<(), Memory>
+    ensures { OnOk result (faults.new ≡ faults.old ++ spec.misfit ty.now interface.now field.now wanted.now argument.now ∷ []) }
+{
+    let (wanted_type, found_type) = both(
+        print_type(alloc, &wanted.ty),
+        print_type(alloc, &argument.ty),
+    )?;
+    list_types(
+        alloc,
+        ty.as_str(),
+        interface.as_str(),
+        field.name.as_str(),
+        argument.name.as_str(),
+        wanted_type.as_str(),
+        found_type.as_str(),
+        argument.location,
+        faults,
+    )
+}
+
+/// Lists the rule with these names.
+fn list_types<'s>(
+    alloc: Global,
+    ty: &'s str,
+    interface: &'s str,
+    field: &'s str,
+    argument: &'s str,
+    wanted: &'s str,
+    found: &'s str,
+    place: Option<SourceSpan>,
+    faults: &mut Listed<DiagnosticData>,
+) -> Result<(), Memory>
+    ensures { OnOk result (faults.new ≡ faults.old ++ fault InvalidImplementationFieldArgumentType (ty.now ∷ interface.now ∷ field.now ∷ argument.now ∷ wanted.now ∷ found.now ∷ []) place None ∷ []) }
+{
+    list_fault(
+        alloc,
+        Rule::InvalidImplementationFieldArgumentType,
+        &[ty, interface, field, argument, wanted, found],
+        place,
+        None,
+        faults,
+    )
+}

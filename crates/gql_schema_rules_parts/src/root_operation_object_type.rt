@@ -1,0 +1,28 @@
+//! A root type is an object type (GraphQL October 2021, section 3.3.1).
+
+ghost use Rattle.std.specs.Prelude.{◌≡◌, ◌++◌, OnOk};
+ghost use Rattle.gql_schema_rules_parts.specs.RootOperationObjectType as spec;
+
+use crate::object_types::is_another_kind;
+use gql_ast_base::Name;
+use gql_diag_messages::{DiagnosticData, Rule};
+use gql_rules_values::list_name;
+use gql_schema_types::{ExtendedType, Table};
+use jb_text::{Listed, Memory};
+use std::alloc::Global;
+
+/// Lists the name of a root type that is the name of a type of another kind.
+pub(crate) fn list_root_operation_object_type(
+    alloc: Global,
+    types: &Table<ExtendedType>,
+    name: &Name,
+    faults: &mut Listed<DiagnosticData>,
+) -> Result<(), Memory>
+    ensures { OnOk result (faults.new ≡ faults.old ++ spec.root_operation_object_type types.now name.now) }
+{
+    if is_another_kind(types, name.as_str()) {
+        list_name(alloc, Rule::RootOperationObjectType, name, faults)
+    } else {
+        Ok(())
+    }
+}

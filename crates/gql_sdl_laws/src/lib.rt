@@ -1,8 +1,0 @@
-//! Laws of printing: what is written of a schema's definitions is read as definitions that say the same.
-//!
-//! The functions of [`laws`] and [`examples`] do nothing when they run: their contracts are these laws, and what the definitions say of
-//! a small schema.
-#![tactic(auto)]
-
-pub mod examples;
-pub mod laws;

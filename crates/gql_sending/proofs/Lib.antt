@@ -1,4 +1,0 @@
-pub mod Definitions
-pub mod Documents
-pub mod Schemas
-pub mod Syntax

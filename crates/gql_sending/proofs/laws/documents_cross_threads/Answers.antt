@@ -1,8 +1,0 @@
-use Rattle.gql_sending.proofs.Documents.{document_send, document_sync}
-use Rattle.gql_sending.proofs.laws.documents_cross_threads.Goals as goal
-
-pub returns-clause-send : goal.returns-clause-send
-returns-clause-send c = document_send
-
-pub returns-clause-sync : goal.returns-clause-sync
-returns-clause-sync c = document_sync

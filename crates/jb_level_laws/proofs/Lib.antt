@@ -1,3 +1,0 @@
-mod Alike
-mod Deep
-mod Nested

@@ -1,6 +1,0 @@
-use Rattle.jb_level_laws.proofs.Alike.{whole_alike}
-use Rattle.jb_level_laws.proofs.Nested.{whole_nested}
-use Rattle.jb_level_laws.proofs.laws.fewer_levels_only_refuse.Goals as goal
-
-pub returns : goal.returns
-returns c = record { alike = λ few many bytes le. whole_alike few many bytes le; nested = whole_nested }
