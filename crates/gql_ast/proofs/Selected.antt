@@ -3,12 +3,14 @@ use Rattle.std.proofs.Common.{◌≡◌, ℕ, zero, suc, ◌+◌, ◌<◌, true,
 use Rattle.std.proofs.lemmas.List.{append-nil}
 use Rattle.gql_source.specs.declared.file_id.FileId.{FileId}
 use Rattle.gql_ast_base.specs.Tree.{Tree}
-use Rattle.gql_ast_base.specs.Forest.{Forest, Plain, nothing, tree_then, plain, forest}
+use Rattle.gql_ast_base.specs.Forest.{Forest, Plain, nothing, tree_then, plain}
+use Rattle.gql_ast_base.specs.bridge.Forest.{forest}
 use Rattle.gql_ast_base.specs.SyntaxKind.TheVariants.{Selection, SelectionSet}
 use Rattle.gql_ast.specs.declared.selection.Selection.{Selection as Selected}
 use Rattle.gql_ast_base.specs.Kinds.{is_kind}
 use Rattle.gql_ast_base.specs.Parts.{Text, head, gather, of_kind, children_of, inside}
-use Rattle.gql_ast.specs.Selections.{selections, selected, choices, choice_step, choice_of, selection_of, selection_step}
+use Rattle.gql_ast.specs.Selections.{selections, selected, choices, choice_step, selection_of, selection_step}
+use Rattle.gql_ast.specs.bridge.Selections.{choice_of}
 
 pub selected-inside : (text : Text) (file : FileId) (row : Forest) → selections text file (inside SelectionSet row) ≡ selected text file row
 selected-inside text file nothing = refl

@@ -4,8 +4,9 @@ use Rattle.std.specs.List.{flat_map}
 use Rattle.gql_ast_base.specs.Names.{Named}
 use Rattle.gql_ast_base.specs.declared.value.Value.{Value}
 use Rattle.gql_ast_base.specs.declared.value.ValueKind.{List as ListKind, Object as ObjectKind, the_lemmas}
-use Rattle.gql_ast.specs.Pieces.{pieces_text}
-use Rattle.gql_ast.specs.ValueText.{separated, kind_text, value_text, member_text}
+use Rattle.gql_ast.specs.bridge.Pieces.{pieces_text}
+use Rattle.gql_ast.specs.ValueText.{separated, kind_text, value_text}
+use Rattle.gql_ast.specs.bridge.ValueText.{member_text}
 
 later_pieces : (pieces : List (List ℕ)) → flat_map (λ piece. codes ", " ++ piece) pieces ≡ pieces_text true pieces
 later_pieces [] = refl

@@ -4,7 +4,7 @@ pub mod Fields
 pub mod Definitions
 pub mod Schemas
 pub mod Extensions
-pub mod Pieces
 pub mod TypeText
 pub mod ValueText
 pub mod Documents
+pub mod bridge

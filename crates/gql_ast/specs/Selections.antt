@@ -91,9 +91,6 @@ module _ (text : Text) (file : FileId) where
   abbrev pub selection_of : Plain → Option Selection
   selection_of tree = selection_step tree (choices tree.children)
 
-  abbrev pub choice_of : Plain → Option Selection
-  choice_of tree = choice_step tree (selected tree.children)
-
   abbrev pub field_of : Plain → Option Field
   field_of tree = field_step tree (selected tree.children)
 

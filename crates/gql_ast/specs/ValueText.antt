@@ -2,7 +2,6 @@
 use Rattle.std.specs.Prelude.{ℕ, true, false, List, ◌++◌, map, codes}
 use Rattle.std.specs.List.{join_by}
 use Rattle.jb_print.specs.Quoted.{quoted}
-use Rattle.gql_ast_base.specs.Names.{Named}
 use Rattle.gql_ast_base.specs.declared.value.Value.{Value}
 use Rattle.gql_ast_base.specs.declared.value.ValueKind.{ValueKind, fold-ValueKind}
 use Rattle.gql_ast_base.specs.declared.value.ValueKind.TheOpen.{ValueKind-F, Value-F}
@@ -33,7 +32,3 @@ kind_text = fold-ValueKind (List ℕ) (List ℕ) kind_step value_step
 
 abbrev pub value_text : Value → List ℕ
 value_text value = kind_text value.kind
-
--- one pair of an object
-abbrev pub member_text : Named × Value → List ℕ
-member_text member = member.0.text ++ codes ": " ++ value_text member.1

@@ -1,7 +1,8 @@
 //! Definitions and extensions.
 
 ghost use Rattle.std.specs.Prelude.{◌≡◌, IfOk};
-ghost use Rattle.gql_cst.specs.Forest.{plain, forest};
+ghost use Rattle.gql_cst.specs.Forest.{plain};
+ghost use Rattle.gql_cst.specs.bridge.Forest.{forest};
 ghost use Rattle.gql_ast_base.specs.Parts as parts;
 ghost use Rattle.gql_ast.specs.Documents as spec;
 

@@ -1,7 +1,7 @@
 //! Definitions of fields, arguments and enum values.
 
 ghost use Rattle.std.specs.Prelude.{◌≡◌, IfOk};
-ghost use Rattle.gql_ast_base.specs.Forest.{forest};
+ghost use Rattle.gql_ast_base.specs.bridge.Forest.{forest};
 ghost use Rattle.gql_ast.specs.Fields as spec;
 
 use gql_ast_base::{

@@ -1,7 +1,7 @@
 //! Operations and fragments.
 
 ghost use Rattle.std.specs.Prelude.{◌≡◌, IfOk};
-ghost use Rattle.gql_ast_base.specs.Forest.{forest};
+ghost use Rattle.gql_ast_base.specs.bridge.Forest.{forest};
 ghost use Rattle.gql_ast.specs.Operations as spec;
 
 use crate::selection::{Selection, selection_set, type_condition};

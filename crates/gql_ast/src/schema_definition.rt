@@ -1,7 +1,7 @@
 //! Definitions of schemas and directives.
 
 ghost use Rattle.std.specs.Prelude.{◌≡◌, Some, IfOk};
-ghost use Rattle.gql_ast_base.specs.Forest.{forest};
+ghost use Rattle.gql_ast_base.specs.bridge.Forest.{forest};
 ghost use Rattle.gql_ast.specs.Schemas as spec;
 
 use crate::field_definition::{InputValueDefinition, argument_definitions};

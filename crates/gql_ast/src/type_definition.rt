@@ -1,7 +1,7 @@
 //! Definitions of types.
 
 ghost use Rattle.std.specs.Prelude.{◌≡◌, IfOk};
-ghost use Rattle.gql_ast_base.specs.Forest.{forest};
+ghost use Rattle.gql_ast_base.specs.bridge.Forest.{forest};
 ghost use Rattle.gql_ast.specs.Definitions as spec;
 
 use crate::field_definition::{

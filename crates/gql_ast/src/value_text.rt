@@ -2,7 +2,8 @@
 
 ghost use Rattle.std.specs.Prelude.{◌≡◌, ◌++◌, false, codes, map, IfOk, OnOk, string_bytes};
 ghost use Rattle.gql_ast.specs.ValueText as spec;
-ghost use Rattle.gql_ast.specs.Pieces.{pieces_text, comma_after};
+ghost use Rattle.gql_ast.specs.bridge.ValueText as spec_bridge;
+ghost use Rattle.gql_ast.specs.bridge.Pieces.{pieces_text, comma_after};
 
 use gql_ast_base::{Name, Value, ValueKind};
 use jb_print::append_string;
@@ -62,7 +63,7 @@ fn write_items(out: &mut String, items: &Listed<Value>) -> Result<(), Memory>
 #[cycle(write)]
 fn write_members(out: &mut String, members: &Listed<(Name, Value)>) -> Result<(), Memory>
     ensures { OnOk result (string_bytes out.new
-        ≡ string_bytes out.old ++ (codes "{" ++ (pieces_text false (map spec.member_text members.now) ++ codes "}"))) }
+        ≡ string_bytes out.old ++ (codes "{" ++ (pieces_text false (map spec_bridge.member_text members.now) ++ codes "}"))) }
 {
     out.push_str("{")?;
     let mut later = false;

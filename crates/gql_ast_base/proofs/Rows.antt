@@ -2,10 +2,12 @@
 use Rattle.std.proofs.Common.{◌≡◌, ℕ, zero, suc, ◌+◌, ◌-◌, ◌<◌, ◌≤◌, true, false, if◌then◌else◌, List, [], ◌∷◌, ◌++◌, length, get_or, take, option_to_list, Option, Some, None, refl, sym, ap, ◌∙◌, subst, arith}
 use Rattle.std.proofs.lemmas.List.{take_more}
 use Rattle.gql_cst.specs.declared.tree.Tree.{Tree}
-use Rattle.gql_cst.specs.Forest.{Forest, nothing, tree_then, plain, forest}
+use Rattle.gql_cst.specs.Forest.{Forest, nothing, tree_then, plain}
+use Rattle.gql_cst.specs.bridge.Forest.{forest}
 use Rattle.gql_cst.specs.SyntaxKind.{SyntaxKind}
 use Rattle.gql_ast_base.specs.Kinds.{is_kind}
-use Rattle.gql_ast_base.specs.Parts.{or_else, head, gather, of_kind, children_of, inside, size, end_of, tree_end}
+use Rattle.gql_ast_base.specs.Parts.{or_else, head, gather, of_kind, children_of, inside, end_of, tree_end}
+use Rattle.gql_ast_base.specs.bridge.Parts.{size}
 
 pub size-item : (nodes : List Tree) (i : ℕ) (tree : Tree) → i < length nodes → tree ≡ get_or nodes i tree → size (plain tree).children + 1 ≤ size (forest nodes)
 size-item [] i tree within is = absurd (omega arith)

@@ -12,3 +12,4 @@ pub mod Types
 pub mod TypeParts
 pub mod Directives
 pub mod formers
+pub mod bridge

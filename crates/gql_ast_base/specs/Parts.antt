@@ -1,5 +1,5 @@
 -- The parts of concrete trees that abstract trees are made of.
-use Rattle.std.specs.Prelude.{ℕ, ◌+◌, ◌-◌, ◌==◌, is_some, Bool, false, ◌&&◌, ◌||◌, nat_eq, nat_lt, nat_le, if◌then◌else◌}
+use Rattle.std.specs.Prelude.{ℕ, ◌-◌, ◌==◌, is_some, Bool, false, ◌&&◌, ◌||◌, nat_eq, nat_lt, nat_le, if◌then◌else◌}
 use Rattle.std.specs.Prelude.{List, [], ◌∷◌, ◌++◌, length, slice_index, slice_range, slice_get, option_to_list, Option, Some, None}
 use Rattle.std.specs.Prelude.{option_and_then}
 use Rattle.std.specs.Option.{option_map}
@@ -52,11 +52,6 @@ children_of (Some tree) = tree.children
 -- what stands in the first tree of the kind
 abbrev pub inside : SyntaxKind → Forest → Forest
 inside kind row = children_of (child kind row)
-
--- how many trees stand in a row, at all levels
-abbrev pub size : Forest → ℕ
-size nothing = 0
-size (tree_then kind start end children rest) = 1 + (size children + size rest)
 
 -- ---- places
 
@@ -111,14 +106,6 @@ word text tree = option_and_then (λ found. if is_name found then Some found els
 -- the name that a token is
 unfoldable pub name_of : Text → FileId → Plain → Option Named
 name_of text file tree = option_map (λ found. record { text = found; location = location file tree }) (word text tree)
-
--- the name that stands in this range of a text, if one does
-unfoldable pub name_in : Text → FileId → ℕ → ℕ → Option Named
-name_in text file start end =
-    option_and_then (λ found. if is_name found then Some (record {
-      text = found;
-      location = Some (record { file_id = file; offset = start; end_offset = end });
-    }) else None) (piece text start end)
 
 -- the tree, if it is a name
 abbrev pub word_leaf : Text → Plain → Option Plain

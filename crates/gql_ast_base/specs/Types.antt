@@ -48,6 +48,3 @@ module _ (text : Text) (file : FileId) where
   -- the type that a tree refers to
   abbrev pub type_of : Plain → Option TypeRef
   type_of tree = type_step tree (forms tree.children)
-
-  abbrev pub form_of : Plain → Option TypeRef
-  form_of tree = form_step tree (types tree.children) (forms tree.children)

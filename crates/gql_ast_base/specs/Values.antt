@@ -87,13 +87,6 @@ module _ (text : Text) (file : FileId) where
     members (tree_then k start end children rest) =
         option_to_list (member_step (record { kind = k; start = start; end = end; children = children }) (values children)) ++ members rest
 
-  -- the content of a value that one tree is
-  abbrev pub content_of : Plain → Option ValueKind
-  content_of tree = content_step tree (values tree.children) (members tree.children)
-
-  abbrev pub member_of : Plain → Option (Named × Value)
-  member_of tree = member_step tree (values tree.children)
-
   -- the value that a tree stands for
   abbrev pub value_of : Plain → Option Value
   value_of tree = value_step tree (contents tree.children)

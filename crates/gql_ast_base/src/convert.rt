@@ -1,7 +1,8 @@
 //! The conversion of concrete trees.
 
 ghost use Rattle.std.specs.Prelude.{◌≡◌, ◌++◌, IfOk, OnOk, Option, List, ℕ, option_to_list};
-ghost use Rattle.gql_cst.specs.Forest.{Plain, plain, forest};
+ghost use Rattle.gql_cst.specs.Forest.{Plain, plain};
+ghost use Rattle.gql_cst.specs.bridge.Forest.{forest};
 ghost use Rattle.gql_source.specs.declared.file_id.FileId.{FileId as File};
 ghost use Rattle.gql_ast_base.specs.Parts as parts;
 

@@ -1,7 +1,7 @@
 //! Directives and arguments where they are used.
 
 ghost use Rattle.std.specs.Prelude.{◌≡◌, IfOk};
-ghost use Rattle.gql_ast_base.specs.Forest.{forest};
+ghost use Rattle.gql_ast_base.specs.bridge.Forest.{forest};
 ghost use Rattle.gql_ast_base.specs.Directives as spec;
 
 use crate::convert::{Convert, first, gather};

@@ -2,7 +2,8 @@
 
 ghost use Rattle.std.specs.Prelude.{◌≡◌, true, IfOk, slice_index};
 ghost use Rattle.std.specs.List.{list_any};
-ghost use Rattle.gql_cst.specs.Forest.{plain, forest};
+ghost use Rattle.gql_cst.specs.Forest.{plain};
+ghost use Rattle.gql_cst.specs.bridge.Forest.{forest};
 ghost use Rattle.gql_ast_base.specs.Literals as spec;
 
 use crate::convert::{Convert, first};

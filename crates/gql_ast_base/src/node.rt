@@ -2,7 +2,8 @@
 
 ghost use Rattle.std.specs.Prelude.{◌≡◌};
 ghost use Rattle.std.specs.Option.{option_map};
-ghost use Rattle.gql_cst.specs.Forest.{plain, forest};
+ghost use Rattle.gql_cst.specs.Forest.{plain};
+ghost use Rattle.gql_cst.specs.bridge.Forest.{forest};
 ghost use Rattle.gql_ast_base.specs.Kinds.{is_kind};
 ghost use Rattle.gql_ast_base.specs.Parts as parts;
 

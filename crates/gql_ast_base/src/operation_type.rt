@@ -1,7 +1,8 @@
 //! Operation types.
 
 ghost use Rattle.std.specs.Prelude.{◌≡◌};
-ghost use Rattle.gql_cst.specs.Forest.{plain, forest};
+ghost use Rattle.gql_cst.specs.Forest.{plain};
+ghost use Rattle.gql_cst.specs.bridge.Forest.{forest};
 ghost use Rattle.gql_ast_base.specs.OperationTypes as spec;
 
 use crate::convert::Convert;

@@ -2,7 +2,7 @@
 
 ghost use Rattle.std.specs.Prelude.{◌≡◌, ◌≤◌, IfOk, length, slice_range, unwrap_or};
 ghost use Rattle.std.specs.Option.{option_map};
-ghost use Rattle.gql_ast_base.specs.Parts as parts;
+ghost use Rattle.gql_ast_base.specs.bridge.Parts as parts;
 
 use crate::name::Name;
 use crate::token::piece;
@@ -54,7 +54,7 @@ impl<'t> Source<'t> {
 
     /// The name that stands in this range of the text, which is also its place. `None` where the range does not lie between
     /// characters of the text, or what stands there is no name; `Err` only where memory runs out.
-    #[tactic(auto, unfolding(crate::specs::Parts::name_in))]
+    #[tactic(auto, unfolding(crate::specs::bridge::Parts::name_in))]
     pub fn name_in(&self, range: Range<usize>) -> Result<Option<Name>, Memory>
         ensures { IfOk result (λ made. made ≡ parts.name_in self.now.text.now self.now.file_id range.start range.end) }
     {

@@ -2,7 +2,8 @@
 
 ghost use Rattle.std.specs.Prelude.{◌≡◌, Some, IfOk, IfSome};
 ghost use Rattle.std.specs.Option.{option_map, option_copied};
-ghost use Rattle.gql_cst.specs.Forest.{plain, forest};
+ghost use Rattle.gql_cst.specs.Forest.{plain};
+ghost use Rattle.gql_cst.specs.bridge.Forest.{forest};
 ghost use Rattle.gql_ast_base.specs.Parts as parts;
 
 use crate::name::Name;

@@ -2,10 +2,12 @@
 
 ghost use Rattle.std.specs.Prelude.{◌≡◌, IfOk};
 ghost use Rattle.std.specs.Option.{option_map};
-ghost use Rattle.gql_ast_base.specs.Forest.{plain, forest};
+ghost use Rattle.gql_ast_base.specs.Forest.{plain};
+ghost use Rattle.gql_ast_base.specs.bridge.Forest.{forest};
 ghost use Rattle.gql_ast_base.specs.Parts as parts;
 ghost use Rattle.gql_ast_base.specs.declared.type_ref.TypeRef.{List as ListOf};
 ghost use Rattle.gql_ast_base.specs.Types as spec;
+ghost use Rattle.gql_ast_base.specs.bridge.Types as spec_bridge;
 
 use crate::boxed::Boxed;
 use crate::convert::Convert;
@@ -101,7 +103,7 @@ pub fn list_of(alloc: Global, item: Option<TypeRef>) -> Result<Option<TypeRef>, 
 #[cycle(type_reference)]
 #[tactic(auto, unfolding(crate::specs::Types::form_step))]
 fn type_form(source: &Source<'_>, tree: &Tree) -> Result<Option<TypeRef>, Memory>
-    ensures { IfOk result (λ made. made ≡ spec.form_of source.now.text.now source.now.file_id (plain tree.now)) }
+    ensures { IfOk result (λ made. made ≡ spec_bridge.form_of source.now.text.now source.now.file_id (plain tree.now)) }
 {
     let nodes = tree.children().as_slice();
     if is_of(tree, SyntaxKind::NamedType) {

@@ -11,7 +11,8 @@ use Rattle.gql_ast.specs.declared.selection.Selection.{Field as a_field, InlineF
 use Rattle.gql_ast.specs.declared.selection.Selection.TheVariants.{FragmentSpread as a_spread}
 use Rattle.gql_ast_base.specs.Kinds.{is_kind}
 use Rattle.gql_ast_base.specs.Parts.{Text, head, gather, inside, nth_name}
-use Rattle.gql_ast.specs.Selections.{type_condition, spread_of, field_step, inline_step, choice_step, selection_step, selections, choices, selected, selection_of, choice_of, field_of, inline_fragment_of}
+use Rattle.gql_ast.specs.Selections.{type_condition, spread_of, field_step, inline_step, choice_step, selection_step, selections, choices, selected, selection_of, field_of, inline_fragment_of}
+use Rattle.gql_ast.specs.bridge.Selections.{choice_of}
 use Rattle.gql_ast_base.specs.NamedTypes.{named_type_in}
 use Rattle.gql_ast_laws.proofs.Blind.{EndsAt, BlindAt, Blind, of_node, none_at, choice_at, map_at}
 use Rattle.gql_ast_laws.proofs.Gathered.{gather_then}

@@ -9,7 +9,8 @@ use Rattle.gql_cst.specs.Bare.{bare, TokensEnd}
 use Rattle.gql_ast_base.specs.declared.type_ref.TypeRef.{List as ListOf}
 use Rattle.gql_ast_base.specs.declared.type_ref.TypeRef.TheVariants.{Named as NamedType}
 use Rattle.gql_ast_base.specs.Parts.{Text, head, gather, nth_name}
-use Rattle.gql_ast_base.specs.Types.{non_null, form_step, type_step, types, forms, type_of, form_of}
+use Rattle.gql_ast_base.specs.Types.{non_null, form_step, type_step, types, forms, type_of}
+use Rattle.gql_ast_base.specs.bridge.Types.{form_of}
 use Rattle.gql_ast_base.specs.NamedTypes.{named_type_in, named_type_of}
 use Rattle.gql_ast_laws.proofs.Blind.{EndsAt, BlindAt, Blind, none_at, choice_at}
 use Rattle.gql_ast_laws.proofs.Gathered.{gather_then}

@@ -9,7 +9,8 @@ use Rattle.gql_cst.specs.Forest.{Forest, nothing, tree_then}
 use Rattle.gql_cst.specs.Bare.{bare, TokensEnd}
 use Rattle.gql_ast_base.specs.declared.value.ValueKind.{List as ListKind, Object as ObjectKind}
 use Rattle.gql_ast_base.specs.declared.value.ValueKind.TheVariants.{Variable, Boolean, Enum}
-use Rattle.gql_ast_base.specs.Values.{literal, truth, simple_content, content_step, member_step, value_step, values, contents, members, content_of, member_of, value_of}
+use Rattle.gql_ast_base.specs.Values.{literal, truth, simple_content, content_step, member_step, value_step, values, contents, members, value_of}
+use Rattle.gql_ast_base.specs.bridge.Values.{content_of, member_of}
 use Rattle.gql_ast_base.specs.Parts.{Text, gather}
 use Rattle.gql_ast_laws.proofs.Blind.{EndsAt, BlindAt, Blind, none_at, token_at, choice_at}
 use Rattle.gql_ast_laws.proofs.Gathered.{gather_then}

@@ -18,7 +18,8 @@ use Rattle.gql_ast_base.specs.Parts.{Text, head, first, gather, child, children_
 use Rattle.gql_ast_base.specs.declared.value.Value.{Value}
 use Rattle.gql_ast_base.specs.declared.value.ValueKind.{ValueKind, List as ListKind, Object as ObjectKind}
 use Rattle.gql_ast_base.specs.declared.value.ValueKind.TheVariants.{Null, Variable, Int, Float, String, Boolean, Enum}
-use Rattle.gql_ast_base.specs.Values.{number_kind, literal, token_content, boolean_content, simple_content, content_step, pair_of, member_step, value_step, values, contents, members, content_of, member_of, value_of, default_value}
+use Rattle.gql_ast_base.specs.Values.{number_kind, literal, token_content, boolean_content, simple_content, content_step, pair_of, member_step, value_step, values, contents, members, value_of, default_value}
+use Rattle.gql_ast_base.specs.bridge.Values.{content_of, member_of}
 use Rattle.gql_ast_laws.proofs.Inner.{both_ways, node_of, here, later}
 use Rattle.gql_ast_laws.proofs.Shown.{node-row, rest-row}
 use Rattle.gql_ast_laws.proofs.TokenKinds.{word_is_token, kind_is}

@@ -4,7 +4,7 @@ use Rattle.std.proofs.lemmas.List.{append_assoc}
 use Rattle.std.specs.declared.ops.Range.{Range}
 use Rattle.std.specs.Prelude.{ℕ}
 use Rattle.gql_source.specs.declared.file_id.FileId.{FileId}
-use Rattle.gql_cst.specs.Machine.{node_of}
+use Rattle.gql_cst.specs.bridge.Machine.{node_of}
 use Rattle.gql_ast.specs.Documents.{definition_of, definitions}
 use Rattle.gql_ast_base.specs.Forest.{Plain, row_of}
 use Rattle.gql_ast_base.specs.SyntaxKind.TheVariants as kind
@@ -12,9 +12,9 @@ use Rattle.gql_ast_base.specs.Kinds.{is_kind}
 use Rattle.gql_ast_base.specs.Parts.{Text, gather}
 use Rattle.gql_ast_reader.specs.declared.open_row.OpenRow.{OpenRow}
 use Rattle.gql_ast_reader.specs.declared.open_rows.OpenRows.{OpenRows}
-use Rattle.gql_ast_reader.specs.Making.{own_definitions}
-use Rattle.gql_cst.specs.Open.{Open, grown_by, token, ignored}
-use Rattle.gql_ast_reader.specs.Stand.{kind_of, token_child, child_of, Keeps, AreIgnored}
+use Rattle.gql_ast_reader.specs.bridge.Making.{own_definitions}
+use Rattle.gql_cst.specs.bridge.Open.{Open, grown_by, token, ignored}
+use Rattle.gql_ast_reader.specs.bridge.Stand.{kind_of, token_child, child_of, Keeps, AreIgnored}
 use Rattle.gql_ast_reader.proofs.Grown.{ignored-all}
 
 pub ignored-more : (waiting : List Plain) (range : Range ℕ) → AreIgnored waiting → AreIgnored (waiting ++ ignored range ∷ [])

@@ -13,9 +13,9 @@ use Rattle.gql_ast.specs.Extensions.{union_extension_of, enum_extension_of, inpu
 use Rattle.gql_ast.specs.Schemas.{directive_definition_of, schema_of}
 use Rattle.gql_ast.specs.Operations.{operation_of, fragment_of}
 use Rattle.gql_ast.specs.Documents.{executable_definition_of, schema_definition_of, type_definition_of, extension_of, choice_of, definition_of}
-use Rattle.gql_ast_reader.specs.Places.{place_of}
-use Rattle.gql_ast_reader.specs.Standing.{part_at}
-use Rattle.gql_ast_reader.specs.Taking.{defined_part, definition_part}
+use Rattle.gql_ast_reader.specs.bridge.Places.{place_of}
+use Rattle.gql_ast_reader.specs.bridge.Standing.{part_at}
+use Rattle.gql_ast_reader.specs.bridge.Taking.{defined_part, definition_part}
 use Rattle.gql_ast_reader.proofs.Sorts.{token-case}
 
 module _ (text : Text) (file : FileId) (start end : ℕ) (children : Forest) where

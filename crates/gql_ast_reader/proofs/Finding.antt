@@ -12,17 +12,20 @@ use Rattle.gql_ast_base.specs.Directives.{argument_of, directive_of}
 use Rattle.gql_ast_base.specs.Literals as literals
 use Rattle.gql_ast_base.specs.Literals.{string_of}
 use Rattle.gql_ast_base.specs.NamedTypes.{named_type_of, named_type_in}
-use Rattle.gql_ast_base.specs.Types.{types, forms, type_of, form_of}
-use Rattle.gql_ast_base.specs.Values.{values, contents, members, value_of, content_of, member_of, default_value}
+use Rattle.gql_ast_base.specs.Types.{types, forms, type_of}
+use Rattle.gql_ast_base.specs.bridge.Types.{form_of}
+use Rattle.gql_ast_base.specs.Values.{values, contents, members, value_of, default_value}
+use Rattle.gql_ast_base.specs.bridge.Values.{content_of, member_of}
 use Rattle.gql_ast.specs.Definitions as definitions
 use Rattle.gql_ast.specs.Fields as fields
 use Rattle.gql_ast.specs.Fields.{input_value_of, field_of, enum_value_of}
 use Rattle.gql_ast.specs.Operations as operations
 use Rattle.gql_ast.specs.Operations.{variable_of}
 use Rattle.gql_ast.specs.Selections as selections
+use Rattle.gql_ast.specs.bridge.Selections as selections_bridge
 use Rattle.gql_ast.proofs.Selected.{selected-inside, selections-gathered}
-use Rattle.gql_ast_reader.specs.Places.{words, name_there, first_word}
-use Rattle.gql_ast_reader.specs.Standing.{in_first, joined, listed}
+use Rattle.gql_ast_reader.specs.bridge.Places.{words, name_there, first_word}
+use Rattle.gql_ast_reader.specs.bridge.Standing.{in_first, joined, listed}
 use Rattle.gql_ast_reader.proofs.Words.{nth-name-there}
 
 -- ---- values, types and choices one after the other
@@ -53,10 +56,10 @@ module _ (text : Text) (file : FileId) where
   forms-gathered (tree_then k start end children rest) =
       ap (λ l. option_to_list (form_of text file (record { kind = k; start = start; end = end; children = children })) ++ l) (forms-gathered rest)
 
-  pub choices-gathered : (row : Forest) → selections.choices text file row ≡ gather (selections.choice_of text file) row
+  pub choices-gathered : (row : Forest) → selections.choices text file row ≡ gather (selections_bridge.choice_of text file) row
   choices-gathered nothing = refl
   choices-gathered (tree_then k start end children rest) =
-      ap (λ l. option_to_list (selections.choice_of text file (record { kind = k; start = start; end = end; children = children })) ++ l) (choices-gathered rest)
+      ap (λ l. option_to_list (selections_bridge.choice_of text file (record { kind = k; start = start; end = end; children = children })) ++ l) (choices-gathered rest)
 
 -- ---- what stands in the first tree of a kind
 

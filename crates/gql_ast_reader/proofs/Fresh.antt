@@ -6,8 +6,8 @@ use Rattle.gql_ast_base.specs.SyntaxKind.{SyntaxKind}
 use Rattle.gql_ast_base.specs.SyntaxKind.TheVariants as kind
 use Rattle.gql_ast_base.specs.Parts.{Text}
 use Rattle.gql_ast.specs.Schemas.{directive_locations}
-use Rattle.gql_ast_reader.specs.Kept.{row_of}
-use Rattle.gql_ast_reader.specs.Fresh.{fresh}
+use Rattle.gql_ast_reader.specs.bridge.Kept.{row_of}
+use Rattle.gql_ast_reader.specs.bridge.Fresh.{fresh}
 
 pub fresh-is : (text : Text) (file : FileId) (k : SyntaxKind) → fresh k ≡ row_of text file k nothing
 unfolding directive_locations

@@ -4,8 +4,8 @@ use Rattle.std.proofs.lemmas.List.{append_assoc, append-nil}
 use Rattle.gql_source.specs.declared.file_id.FileId.{FileId}
 use Rattle.gql_cst.specs.Late.{is_late}
 use Rattle.gql_cst.specs.Leaves.{part_of as sort_of}
-use Rattle.gql_cst.specs.Machine.{node_of}
-use Rattle.gql_cst.specs.Sound.{is_node}
+use Rattle.gql_cst.specs.bridge.Machine.{node_of}
+use Rattle.gql_cst.specs.bridge.Sound.{is_node}
 use Rattle.gql_ast_base.specs.Forest.{Forest, Plain, nothing, row_of as forest_of}
 use Rattle.gql_ast_base.specs.SyntaxKind.{SyntaxKind}
 use Rattle.gql_ast_base.specs.SyntaxKind.TheVariants as kind
@@ -13,9 +13,9 @@ use Rattle.gql_ast_base.specs.Kinds.{is_kind}
 use Rattle.gql_ast_base.specs.Parts.{Text, or_else, start_of, end_of, tree_start, tree_end, span}
 use Rattle.gql_ast_reader.specs.declared.open_row.OpenRow.{OpenRow}
 use Rattle.gql_ast_reader.specs.declared.row.Row.{Row}
-use Rattle.gql_ast_reader.specs.Kept.{row_of}
-use Rattle.gql_ast_reader.specs.Making.{made}
-use Rattle.gql_ast_reader.specs.Stand.{Child, child_of, row_with, grown, closed, wrapped, empty, AreIgnored}
+use Rattle.gql_ast_reader.specs.bridge.Kept.{row_of}
+use Rattle.gql_ast_reader.specs.bridge.Making.{made}
+use Rattle.gql_ast_reader.specs.bridge.Stand.{Child, child_of, row_with, grown, closed, wrapped, empty, AreIgnored}
 use Rattle.gql_ast_reader.proofs.Fresh.{fresh-is}
 use Rattle.gql_ast_reader.proofs.Made.{made-is}
 use Rattle.gql_ast_reader.proofs.Rows.{row-behind}

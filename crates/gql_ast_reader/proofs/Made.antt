@@ -25,9 +25,9 @@ use Rattle.gql_ast.specs.declared.definition.Definition.TheVariants as definitio
 use Rattle.gql_ast.specs.Documents.{executable_definition_of, schema_definition_of, type_definition_of, extension_of, choice_of, definition_of}
 use Rattle.gql_ast_reader.specs.declared.part.Part.TheVariants as part
 use Rattle.gql_ast_reader.specs.declared.part.Item.TheVariants as item
-use Rattle.gql_ast_reader.specs.Standing.{part_at}
-use Rattle.gql_ast_reader.specs.Kept.{row_of}
-use Rattle.gql_ast_reader.specs.Making.{made}
+use Rattle.gql_ast_reader.specs.bridge.Standing.{part_at}
+use Rattle.gql_ast_reader.specs.bridge.Kept.{row_of}
+use Rattle.gql_ast_reader.specs.bridge.Making.{made}
 use Rattle.gql_ast_reader.proofs.Words.{nth-text-there}
 use Rattle.gql_ast_reader.proofs.Finding.{values-gathered, contents-gathered, members-gathered, types-gathered, forms-gathered, choices-gathered}
 use Rattle.gql_ast_reader.proofs.MadeParts.{argument-is, directive-is, pair-is, root-operation-is, operation-type-is, field-is, spread-is, inline-is, variable-is, input-is, field-definition-is, enum-value-is}

@@ -24,10 +24,10 @@ use Rattle.gql_ast.specs.Operations as operations
 use Rattle.gql_ast.specs.Operations.{variable_of, operation_of, fragment_of}
 use Rattle.gql_ast.specs.Schemas.{schema_of, directive_definition_of, root_operations, directive_locations}
 use Rattle.gql_ast.specs.Selections as selections
-use Rattle.gql_ast_reader.specs.Places.{words, name_there, first_word}
-use Rattle.gql_ast_reader.specs.Standing.{in_first, joined, listed}
-use Rattle.gql_ast_reader.specs.Kept.{row_of}
-use Rattle.gql_ast_reader.specs.Making.{operation_definition_made, fragment_made, schema_made, directive_definition_made, scalar_made, object_made, interface_made, union_made, enum_made, input_object_made}
+use Rattle.gql_ast_reader.specs.bridge.Places.{words, name_there, first_word}
+use Rattle.gql_ast_reader.specs.bridge.Standing.{in_first, joined, listed}
+use Rattle.gql_ast_reader.specs.bridge.Kept.{row_of}
+use Rattle.gql_ast_reader.specs.bridge.Making.{operation_definition_made, fragment_made, schema_made, directive_definition_made, scalar_made, object_made, interface_made, union_made, enum_made, input_object_made}
 use Rattle.gql_ast_reader.proofs.Words.{nth-text-there}
 use Rattle.gql_ast_reader.proofs.Finding.{nth-is, name-inside, condition-is, variables-are, directives-are, inputs-are, input-fields-are, fields-are, enum-values-are, interfaces-are, members-are, description-is}
 

@@ -20,8 +20,8 @@ use Rattle.gql_ast.specs.Documents.{extension_of, executable_definition_of, sche
 use Rattle.gql_ast.specs.declared.definition.Definition.{Definition}
 use Rattle.gql_ast.specs.declared.definition.Definition.TheVariants as definition
 use Rattle.gql_ast_reader.specs.declared.row.Row.{Row}
-use Rattle.gql_ast_reader.specs.Kept.{row_of}
-use Rattle.gql_ast_reader.specs.Extending.{extension_made, schema_extension_made, scalar_extension_made, object_extension_made, interface_extension_made, union_extension_made, enum_extension_made, input_object_extension_made}
+use Rattle.gql_ast_reader.specs.bridge.Kept.{row_of}
+use Rattle.gql_ast_reader.specs.bridge.Extending.{extension_made, schema_extension_made, scalar_extension_made, object_extension_made, interface_extension_made, union_extension_made, enum_extension_made, input_object_extension_made}
 use Rattle.gql_ast_reader.proofs.Words.{nth-text-there}
 use Rattle.gql_ast_reader.proofs.Finding.{nth-is, directives-are, input-fields-are, fields-are, enum-values-are, interfaces-are, members-are}
 

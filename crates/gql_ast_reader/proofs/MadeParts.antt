@@ -13,7 +13,8 @@ use Rattle.gql_ast_base.specs.Directives as uses
 use Rattle.gql_ast_base.specs.Directives.{argument_of, directive_of}
 use Rattle.gql_ast_base.specs.OperationTypes.{operation_word, operation_type_of, operation_type_in, root_operation_of}
 use Rattle.gql_ast_base.specs.Types.{type_of}
-use Rattle.gql_ast_base.specs.Values.{value_of, member_of, member_step, pair_of}
+use Rattle.gql_ast_base.specs.Values.{value_of, member_step, pair_of}
+use Rattle.gql_ast_base.specs.bridge.Values.{member_of}
 use Rattle.gql_ast_base.specs.declared.directive.Directive.{Directive}
 use Rattle.gql_ast.specs.declared.selection.Selection.{Selection}
 use Rattle.gql_ast.specs.declared.selection.InlineFragment.{InlineFragment}
@@ -22,10 +23,10 @@ use Rattle.gql_ast.specs.Fields.{input_value_of, enum_value_of}
 use Rattle.gql_ast.specs.Operations.{variable_of}
 use Rattle.gql_ast.specs.Selections as selections
 use Rattle.gql_ast.specs.Selections.{field_step, spread_of, inline_step}
-use Rattle.gql_ast_reader.specs.Places.{name_there, first_word}
-use Rattle.gql_ast_reader.specs.Standing.{in_first, joined, listed}
-use Rattle.gql_ast_reader.specs.Kept.{row_of}
-use Rattle.gql_ast_reader.specs.Making.{argument_made, directive_made, pair_made, root_operation_made, operation_made, field_made, spread_made, inline_made, variable_made, input_made, field_definition_made, enum_value_made}
+use Rattle.gql_ast_reader.specs.bridge.Places.{name_there, first_word}
+use Rattle.gql_ast_reader.specs.bridge.Standing.{in_first, joined, listed}
+use Rattle.gql_ast_reader.specs.bridge.Kept.{row_of}
+use Rattle.gql_ast_reader.specs.bridge.Making.{argument_made, directive_made, pair_made, root_operation_made, operation_made, field_made, spread_made, inline_made, variable_made, input_made, field_definition_made, enum_value_made}
 use Rattle.gql_ast_reader.proofs.Words.{nth-text-there}
 use Rattle.gql_ast_reader.proofs.Finding.{values-gathered, nth-is, name-inside, condition-is, named-type-is, arguments-are, directives-are, selections-are, inputs-are, description-is, default-is}
 

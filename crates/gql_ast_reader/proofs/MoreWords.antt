@@ -8,9 +8,9 @@ use Rattle.gql_ast_base.specs.Parts.{Text, gather, word, after_word}
 use Rattle.gql_ast.specs.declared.schema_definition.DirectiveLocation.{DirectiveLocation}
 use Rattle.gql_ast.specs.Schemas.{location_word, directive_location_of, directive_locations}
 use Rattle.gql_ast_reader.specs.declared.place.Place.{Place}
-use Rattle.gql_ast_reader.specs.Places.{place_of, word_place, words}
-use Rattle.gql_ast_reader.specs.Kept.{words_of}
-use Rattle.gql_ast_reader.specs.Taking.{kept, added, behind, location_at, words_taken}
+use Rattle.gql_ast_reader.specs.bridge.Places.{place_of, word_place, words}
+use Rattle.gql_ast_reader.specs.bridge.Kept.{words_of}
+use Rattle.gql_ast_reader.specs.bridge.Taking.{kept, added, behind, location_at, words_taken}
 use Rattle.gql_ast_reader.proofs.Behind.{gather-behind}
 use Rattle.gql_ast_reader.proofs.Words.{text-there}
 

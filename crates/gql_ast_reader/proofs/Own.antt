@@ -17,8 +17,8 @@ use Rattle.gql_ast.specs.declared.definition.Definition.{Definition}
 use Rattle.gql_ast_reader.specs.declared.part.Part.{Part}
 use Rattle.gql_ast_reader.specs.declared.part.Part.TheVariants as part
 use Rattle.gql_ast_reader.specs.declared.row.Own.TheVariants as own
-use Rattle.gql_ast_reader.specs.Taking.{kept, added, own_taken}
-use Rattle.gql_ast_reader.specs.Taking.{argument_part, directive_part, selection_part, value_part, pair_part, variable_part, input_part, field_part, enum_value_part, choice_part, defined_part, definition_part, name_part, content_part, text_part}
+use Rattle.gql_ast_reader.specs.bridge.Taking.{kept, added, own_taken}
+use Rattle.gql_ast_reader.specs.bridge.Taking.{argument_part, directive_part, selection_part, value_part, pair_part, variable_part, input_part, field_part, enum_value_part, choice_part, defined_part, definition_part, name_part, content_part, text_part}
 use Rattle.gql_ast_reader.proofs.Sorts.{with_part}
 
 module _ (text : Text) (file : FileId) where

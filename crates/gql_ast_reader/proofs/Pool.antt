@@ -6,16 +6,16 @@ use Rattle.std.proofs.lemmas.Option.{slice_get_within, get_or_from_slice_get}
 use Rattle.gql_source.specs.declared.file_id.FileId.{FileId}
 use Rattle.gql_cst.specs.Late.{is_late}
 use Rattle.gql_cst.specs.Leaves.{part_of as sort_of}
-use Rattle.gql_cst.specs.Machine.{node_of}
-use Rattle.gql_cst.specs.Sound.{is_node}
+use Rattle.gql_cst.specs.bridge.Machine.{node_of}
+use Rattle.gql_cst.specs.bridge.Sound.{is_node}
 use Rattle.gql_ast_base.specs.Forest.{Plain}
 use Rattle.gql_ast_base.specs.SyntaxKind.{SyntaxKind}
 use Rattle.gql_ast_base.specs.Parts.{Text}
 use Rattle.gql_ast_reader.specs.declared.open_row.OpenRow.{OpenRow}
 use Rattle.gql_ast_reader.specs.declared.open_rows.OpenRows.{OpenRows}
-use Rattle.gql_cst.specs.Open as opens
-use Rattle.gql_cst.specs.Open.{Open, grown_by}
-use Rattle.gql_ast_reader.specs.Stand.{Child, Keeps, Begins, Ends, Hands, kind_of, empty, child_of, row_with, row_for, grown, closed, wrapped, AreKept}
+use Rattle.gql_cst.specs.bridge.Open as opens
+use Rattle.gql_cst.specs.bridge.Open.{Open, grown_by}
+use Rattle.gql_ast_reader.specs.bridge.Stand.{Child, Keeps, Begins, Ends, Hands, kind_of, empty, child_of, row_with, row_for, grown, closed, wrapped, AreKept}
 use Rattle.gql_ast_reader.proofs.Grown.{grown-behind, empty-is, node-closed, late-wrapped}
 
 get-set-other : {T : Type 0} (xs : List T) (i k : ℕ) (x : T) → k < i → slice_get (slice_set xs i x) k ≡ slice_get xs k

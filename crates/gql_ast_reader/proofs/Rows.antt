@@ -11,18 +11,21 @@ use Rattle.gql_ast_base.specs.Directives.{argument_of, directive_of}
 use Rattle.gql_ast_base.specs.Literals.{string_of}
 use Rattle.gql_ast_base.specs.NamedTypes.{named_type_of}
 use Rattle.gql_ast_base.specs.OperationTypes.{operation_type_of, root_operation_of}
-use Rattle.gql_ast_base.specs.Types.{type_of, form_of}
-use Rattle.gql_ast_base.specs.Values.{value_of, content_of, member_of}
+use Rattle.gql_ast_base.specs.Types.{type_of}
+use Rattle.gql_ast_base.specs.bridge.Types.{form_of}
+use Rattle.gql_ast_base.specs.Values.{value_of}
+use Rattle.gql_ast_base.specs.bridge.Values.{content_of, member_of}
 use Rattle.gql_ast.specs.Selections as selections
+use Rattle.gql_ast.specs.bridge.Selections as selections_bridge
 use Rattle.gql_ast.specs.Operations.{variable_of}
 use Rattle.gql_ast.specs.Fields.{input_value_of, field_of, enum_value_of}
 use Rattle.gql_ast.specs.Documents as documents
 use Rattle.gql_ast_reader.specs.declared.part.Part.{Part}
 use Rattle.gql_ast_reader.specs.declared.row.Own.TheVariants as own
-use Rattle.gql_ast_reader.specs.Places.{first_word}
-use Rattle.gql_ast_reader.specs.Standing.{in_first, joined, part_of}
-use Rattle.gql_ast_reader.specs.Kept.{words_of, roles_of, singles_of, groups_of, own_of, row_of}
-use Rattle.gql_ast_reader.specs.Taking.{kept, added, word_part, root_operation_part, words_taken, roles_taken, groups_taken, singles_taken, own_taken, taken_if}
+use Rattle.gql_ast_reader.specs.bridge.Places.{first_word}
+use Rattle.gql_ast_reader.specs.bridge.Standing.{in_first, joined, part_of}
+use Rattle.gql_ast_reader.specs.bridge.Kept.{words_of, roles_of, singles_of, groups_of, own_of, row_of}
+use Rattle.gql_ast_reader.specs.bridge.Taking.{kept, added, word_part, root_operation_part, words_taken, roles_taken, groups_taken, singles_taken, own_taken, taken_if}
 use Rattle.gql_ast_reader.proofs.Behind.{gather-behind, first-behind, child-behind}
 use Rattle.gql_ast_reader.proofs.Sorts.{with_part, in_it, roles-at, groups-at, singles-at, root_operation-at, argument-at, directive-at, selection-at, choice-at, value-at, pair-at, variable-at, input-at, field-at, enum_value-at, name-at, content-at, text-at, word-at}
 use Rattle.gql_ast_reader.proofs.Defined.{defined-at, definition-at}
@@ -100,8 +103,8 @@ module _ (text : Text) (file : FileId) (trees : List Plain) (tree : Plain) where
       ap own.Value (one-behind (value_of text file) ∙ ap (kept (first (value_of text file) (forest_of trees))) (value-at text file tree.start tree.end tree.children tree.kind))
       ∙ owns.own-value text file (first (value_of text file) (forest_of trees)) (part_of text file tree)
   own-behind kind.Selection =
-      ap own.Choice (one-behind (selections.choice_of text file) ∙ ap (kept (first (selections.choice_of text file) (forest_of trees))) (choice-at text file tree.start tree.end tree.children tree.kind))
-      ∙ owns.own-choice text file (first (selections.choice_of text file) (forest_of trees)) (part_of text file tree)
+      ap own.Choice (one-behind (selections_bridge.choice_of text file) ∙ ap (kept (first (selections_bridge.choice_of text file) (forest_of trees))) (choice-at text file tree.start tree.end tree.children tree.kind))
+      ∙ owns.own-choice text file (first (selections_bridge.choice_of text file) (forest_of trees)) (part_of text file tree)
   own-behind kind.Definition =
       ap own.Defined (one-behind (documents.choice_of text file) ∙ ap (kept (first (documents.choice_of text file) (forest_of trees))) (defined-at text file tree.start tree.end tree.children tree.kind))
       ∙ owns.own-defined text file (first (documents.choice_of text file) (forest_of trees)) (part_of text file tree)

@@ -15,11 +15,14 @@ use Rattle.gql_ast_base.specs.Directives.{argument_of, directive_of}
 use Rattle.gql_ast_base.specs.Literals.{string_of, string_text, opens_string, opens_number}
 use Rattle.gql_ast_base.specs.NamedTypes.{named_type_of}
 use Rattle.gql_ast_base.specs.OperationTypes.{operation_type_of, root_operation_of}
-use Rattle.gql_ast_base.specs.Types.{type_of, form_of, type_step, form_step}
-use Rattle.gql_ast_base.specs.Values.{value_of, content_of, member_of, value_step, content_step, simple_content, member_step, literal, number_kind}
+use Rattle.gql_ast_base.specs.Types.{type_of, type_step, form_step}
+use Rattle.gql_ast_base.specs.bridge.Types.{form_of}
+use Rattle.gql_ast_base.specs.Values.{value_of, value_step, content_step, simple_content, member_step, literal, number_kind}
+use Rattle.gql_ast_base.specs.bridge.Values.{content_of, member_of}
 use Rattle.gql_ast_base.specs.declared.type_ref.TypeRef.TheVariants.{Named as NamedType}
 use Rattle.gql_ast_base.specs.declared.value.ValueKind.TheVariants.{Variable, Enum, String}
 use Rattle.gql_ast.specs.Selections as selections
+use Rattle.gql_ast.specs.bridge.Selections as selections_bridge
 use Rattle.gql_ast.specs.Selections.{selection_step, choice_step, field_step, spread_of, inline_step}
 use Rattle.gql_ast.specs.Operations.{variable_of}
 use Rattle.gql_ast.specs.Fields.{input_value_of, field_of, enum_value_of}
@@ -29,10 +32,10 @@ use Rattle.gql_ast_reader.specs.declared.part.Part.TheVariants as part
 use Rattle.gql_ast_reader.specs.declared.row.Roles.{Roles}
 use Rattle.gql_ast_reader.specs.declared.row.Singles.{Singles}
 use Rattle.gql_ast_reader.specs.declared.row.Groups.{Groups}
-use Rattle.gql_ast_reader.specs.Places.{place_of, text_at, first_word, word_place, token_is, token_part_at}
-use Rattle.gql_ast_reader.specs.Standing.{in_first, joined, part_at}
-use Rattle.gql_ast_reader.specs.Taking.{kept, roles_taken, groups_taken, singles_taken}
-use Rattle.gql_ast_reader.specs.Taking.{word_part, root_operation_part, argument_part, directive_part, selection_part, value_part, pair_part, variable_part, input_part, field_part, enum_value_part, choice_part, name_part, content_part, text_part}
+use Rattle.gql_ast_reader.specs.bridge.Places.{place_of, text_at, first_word, word_place, token_is, token_part_at}
+use Rattle.gql_ast_reader.specs.bridge.Standing.{in_first, joined, part_at}
+use Rattle.gql_ast_reader.specs.bridge.Taking.{kept, roles_taken, groups_taken, singles_taken}
+use Rattle.gql_ast_reader.specs.bridge.Taking.{word_part, root_operation_part, argument_part, directive_part, selection_part, value_part, pair_part, variable_part, input_part, field_part, enum_value_part, choice_part, name_part, content_part, text_part}
 use Rattle.gql_ast_reader.proofs.Words.{nth-name-there}
 
 -- with a part, if there is one
@@ -169,7 +172,7 @@ module _ (text : Text) (file : FileId) (start end : ℕ) (children : Forest) whe
   selection-at kind.Token = sym (token-case text (place_of (tree kind.Token)) (option_and_then selection_part) None refl refl refl)
   selection-at _ = refl
 
-  pub choice-at : (k : SyntaxKind) → selections.choice_of text file (tree k) ≡ option_and_then choice_part (part_at text file k (tree k))
+  pub choice-at : (k : SyntaxKind) → selections_bridge.choice_of text file (tree k) ≡ option_and_then choice_part (part_at text file k (tree k))
   unfolding is_kind choice_step field_step spread_of inline_step
   choice-at kind.Token = sym (token-case text (place_of (tree kind.Token)) (option_and_then choice_part) None refl refl refl)
   choice-at _ = refl

@@ -7,9 +7,10 @@ use Rattle.gql_ast_base.specs.Forest.{Forest, Plain, nothing, tree_then}
 use Rattle.gql_ast_base.specs.SyntaxKind.TheVariants.{Token}
 use Rattle.gql_ast_base.specs.Kinds.{is_kind}
 use Rattle.gql_ast_base.specs.Names.{is_name}
-use Rattle.gql_ast_base.specs.Parts.{Text, gather, word, word_leaf, nth_word, nth_text, nth_name, name_of, name_in, token_text, piece, is_boundary, location, span, start_of, end_of}
+use Rattle.gql_ast_base.specs.Parts.{Text, gather, word, word_leaf, nth_word, nth_text, nth_name, name_of, token_text, piece, is_boundary, location, span, start_of, end_of}
+use Rattle.gql_ast_base.specs.bridge.Parts.{name_in}
 use Rattle.gql_ast_reader.specs.declared.place.Place.{Place}
-use Rattle.gql_ast_reader.specs.Places.{place_of, text_at, name_at, name_there, words}
+use Rattle.gql_ast_reader.specs.bridge.Places.{place_of, text_at, name_at, name_there, words}
 
 word-cases : (b : Bool) (o : Option Text) (found : Text) → option_and_then (λ t. if is_name t then Some t else None) (if b then o else None) ≡ Some found
     → (b ≡ true) × (o ≡ Some found) × (is_name found ≡ true)

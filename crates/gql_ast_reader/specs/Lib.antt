@@ -1,11 +1,1 @@
-pub mod Places
-pub mod Standing
-pub mod Kept
-pub mod Fresh
-pub mod Taking
-pub mod Extending
-pub mod Making
-pub mod Stand
-pub mod Stands
-pub mod Items
-pub mod IsRead
+pub mod bridge

@@ -3,9 +3,9 @@
 //! Each kind has a function, in which what is made of its row is a local: what a table over the kinds held would be made room for at each node.
 
 ghost use Rattle.std.specs.Prelude.{◌≡◌, true, None, OnOk};
-ghost use Rattle.gql_ast_reader.specs.Items as kinds;
-ghost use Rattle.gql_ast_reader.specs.Making as spec;
-ghost use Rattle.gql_ast_reader.specs.Taking as taking;
+ghost use Rattle.gql_ast_reader.specs.bridge.Items as kinds;
+ghost use Rattle.gql_ast_reader.specs.bridge.Making as spec;
+ghost use Rattle.gql_ast_reader.specs.bridge.Taking as taking;
 
 use crate::found::joined;
 use crate::part::Role;

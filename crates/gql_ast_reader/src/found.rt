@@ -1,7 +1,7 @@
 //! What a row has found, as the node that is made of it has it.
 
 ghost use Rattle.std.specs.Prelude.{◌≡◌};
-ghost use Rattle.gql_ast_reader.specs.Standing as standing;
+ghost use Rattle.gql_ast_reader.specs.bridge.Standing as standing;
 
 use jb_text::Listed;
 use std::alloc::Global;

@@ -1,7 +1,7 @@
 //! Rows that stand behind each other.
 
 ghost use Rattle.std.specs.Prelude.{◌≡◌, ◌<◌, ◌≤◌, [], ◌∷◌, ◌++◌, ◌+◌, length, OnOk, vec_len};
-ghost use Rattle.gql_ast_reader.specs.Stand.{empty, Hands};
+ghost use Rattle.gql_ast_reader.specs.bridge.Stand.{empty, Hands};
 
 use crate::open_row::OpenRow;
 use gql_ast_base::{Memory, Source, SyntaxKind};

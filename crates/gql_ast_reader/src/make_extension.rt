@@ -1,7 +1,7 @@
 //! Extensions, of what their rows keep.
 
 ghost use Rattle.std.specs.Prelude.{◌≡◌, IfOk};
-ghost use Rattle.gql_ast_reader.specs.Extending as spec;
+ghost use Rattle.gql_ast_reader.specs.bridge.Extending as spec;
 
 use crate::make_type_extension::{
     make_enum_extension, make_input_object_extension, make_interface_extension,

@@ -1,7 +1,7 @@
 //! Definitions of fields, arguments and enum values, of what their rows keep.
 
 ghost use Rattle.std.specs.Prelude.{◌≡◌, IfOk};
-ghost use Rattle.gql_ast_reader.specs.Making as spec;
+ghost use Rattle.gql_ast_reader.specs.bridge.Making as spec;
 
 use crate::found::{joined, listed};
 use crate::place::name_there;

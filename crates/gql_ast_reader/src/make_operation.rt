@@ -3,7 +3,7 @@
 ghost use Rattle.std.specs.Prelude.{◌≡◌, IfOk};
 ghost use Rattle.std.specs.Option.{option_map};
 ghost use Rattle.gql_ast.specs.declared.definition.Definition.TheVariants as definition;
-ghost use Rattle.gql_ast_reader.specs.Making as spec;
+ghost use Rattle.gql_ast_reader.specs.bridge.Making as spec;
 
 use crate::found::{joined, listed};
 use crate::place::name_there;

@@ -4,7 +4,7 @@ ghost use Rattle.std.specs.Prelude.{◌≡◌, IfOk};
 ghost use Rattle.std.specs.Option.{option_map};
 ghost use Rattle.gql_ast.specs.declared.selection.Selection.{Field as a_field, InlineFragment as an_inline_fragment};
 ghost use Rattle.gql_ast.specs.declared.selection.Selection.TheVariants.{FragmentSpread as a_spread};
-ghost use Rattle.gql_ast_reader.specs.Making as spec;
+ghost use Rattle.gql_ast_reader.specs.bridge.Making as spec;
 
 use crate::found::{joined, listed};
 use crate::place::name_there;

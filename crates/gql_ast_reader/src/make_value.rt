@@ -2,7 +2,7 @@
 
 ghost use Rattle.std.specs.Prelude.{◌≡◌, Some, IfOk};
 ghost use Rattle.gql_ast_base.specs.declared.value.ValueKind.{List as ListKind, Object as ObjectKind};
-ghost use Rattle.gql_ast_reader.specs.Making as spec;
+ghost use Rattle.gql_ast_reader.specs.bridge.Making as spec;
 
 use crate::place::{name_there, text_there};
 use crate::row::Row;

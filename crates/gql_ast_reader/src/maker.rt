@@ -4,8 +4,8 @@ ghost use Rattle.std.specs.Prelude.{◌≡◌, ℕ, List, [], ◌∷◌, IfOk};
 ghost use Rattle.gql_cst.specs.Forest.{Plain, row_of};
 ghost use Rattle.gql_ast.specs.Documents.{definition_of};
 ghost use Rattle.gql_ast_base.specs.Parts.{gather};
-ghost use Rattle.gql_cst.specs.Open.{whole_text};
-ghost use Rattle.gql_ast_reader.specs.Stands.{Stands};
+ghost use Rattle.gql_cst.specs.bridge.Open.{whole_text};
+ghost use Rattle.gql_ast_reader.specs.bridge.Stands.{Stands};
 
 use crate::open_rows::OpenRows;
 use crate::place::Place;
@@ -57,7 +57,7 @@ impl<'t, K: Told> Maker<'t, K> {
 }
 
 impl<'t, K: Told> Output for Maker<'t, K> {
-    ghost use Rattle.gql_ast_reader.specs.Stands.{Stands};
+    ghost use Rattle.gql_ast_reader.specs.bridge.Stands.{Stands};
 
     ghost stands = { λ maker _ os waiting. Stands K.text K.file maker.source maker.rows os waiting };
 

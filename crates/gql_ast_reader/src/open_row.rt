@@ -4,8 +4,8 @@ ghost use Rattle.std.specs.Prelude.{◌≡◌, ℕ, List, OnOk};
 ghost use Rattle.gql_source.specs.declared.file_id.FileId.{FileId};
 ghost use Rattle.gql_ast_base.specs.SyntaxKind.TheVariants.{NonNullType};
 ghost use Rattle.gql_ast_base.specs.Parts as parts;
-ghost use Rattle.gql_ast_reader.specs.Making.{own_definitions};
-ghost use Rattle.gql_ast_reader.specs.Stand.{closed, empty, grown, token_child, wrapped};
+ghost use Rattle.gql_ast_reader.specs.bridge.Making.{own_definitions};
+ghost use Rattle.gql_ast_reader.specs.bridge.Stand.{closed, empty, grown, token_child, wrapped};
 
 use crate::deliver::deliver;
 use crate::make_type::make_non_null_type;

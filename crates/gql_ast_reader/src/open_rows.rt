@@ -6,7 +6,7 @@ ghost use Rattle.gql_cst.specs.Forest.{row_of};
 ghost use Rattle.gql_ast.specs.Documents.{definition_of};
 ghost use Rattle.gql_ast_base.specs.Parts.{gather};
 ghost use Rattle.gql_ast_base.specs.SyntaxKind.TheVariants.{NonNullType};
-ghost use Rattle.gql_cst.specs.Open.{Open};
+ghost use Rattle.gql_cst.specs.bridge.Open.{Open};
 
 use crate::handing::{hand_on, push_row};
 use crate::open_row::OpenRow;
@@ -27,7 +27,7 @@ pub(crate) struct OpenRows {
 }
 
 impl OpenRows {
-    ghost use Rattle.gql_ast_reader.specs.Stand.{token_child, Keeps, Grows, Wraps, Ends, Begins};
+    ghost use Rattle.gql_ast_reader.specs.bridge.Stand.{token_child, Keeps, Grows, Wraps, Ends, Begins};
 
     /// No node is open.
     pub(crate) fn new(alloc: Global) -> OpenRows

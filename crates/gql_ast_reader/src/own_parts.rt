@@ -1,7 +1,7 @@
 //! What only rows of one sort of node keep, taken out of them.
 
 ghost use Rattle.std.specs.Prelude.{◌≡◌};
-ghost use Rattle.gql_ast_reader.specs.Making as spec;
+ghost use Rattle.gql_ast_reader.specs.bridge.Making as spec;
 
 use crate::row::Own;
 use gql_ast::{

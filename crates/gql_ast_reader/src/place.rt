@@ -2,7 +2,7 @@
 
 ghost use Rattle.std.specs.Prelude.{◌≡◌, IfOk};
 ghost use Rattle.std.specs.Option.{option_copied};
-ghost use Rattle.gql_ast_reader.specs.Places as spec;
+ghost use Rattle.gql_ast_reader.specs.bridge.Places as spec;
 
 use gql_ast_base::{Name, Source, piece};
 use jb_text::Memory;

@@ -1,7 +1,7 @@
 //! Reads the definitions of a text.
 
 ghost use Rattle.std.specs.Prelude.{◌≡◌, IfOk};
-ghost use Rattle.gql_ast_reader.specs.IsRead.{IsRead};
+ghost use Rattle.gql_ast_reader.specs.bridge.IsRead.{IsRead};
 
 use crate::maker::Maker;
 use crate::told::Told;

@@ -3,7 +3,7 @@ use Rattle.std.proofs.Common.{◌≡◌, ℕ, List, ◌∙◌, sym, subst}
 use Rattle.std.specs.Prelude.{Result, Ok, Err, IfOk, box_value}
 use Rattle.gql_engine.specs.declared.answer_error.AnswerError.{AnswerError}
 use Rattle.gql_c.specs.Checks.{AreReports, ChecksTexts}
-use Rattle.gql_c.specs.Outcomes.{IsRefusal, IsRefusedWith}
+use Rattle.gql_c.specs.bridge.Outcomes.{IsRefusal, IsRefusedWith}
 use Rattle.gql_c.specs.Replies.{HoldsReply}
 use Rattle.gql_c.specs.Schemas.{Reads, TellsRefusal}
 use Rattle.gql_c.specs.declared.held.Held.{Held}

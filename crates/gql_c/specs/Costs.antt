@@ -41,12 +41,6 @@ IsCost limit cost NoMemory = Unit {0}
 IsCost limit cost WrongHandle = ⊥
 IsCost limit cost Unread = ⊥
 
--- the reply says so
-abbrev pub IsTooCostlyTold : Costing → Type 0
-IsTooCostlyTold (TooCostly held) = SaysTooCostly (box_value held)
-IsTooCostlyTold NoMemory = Unit {0}
-IsTooCostlyTold costing = ⊥
-
 -- the reply is the JSON of this error
 abbrev pub IsErrorTold : GraphQLError → Costing → Type 0
 IsErrorTold error (Refused held) = HoldsReply (IsJsonOf (Some (error ∷ []))) (box_value held)

@@ -2,7 +2,6 @@ pub mod Checks
 pub mod Costs
 pub mod Data
 pub mod Executions
-pub mod Handles
 pub mod Kinds
 pub mod Outcomes
 pub mod Queries
@@ -12,3 +11,4 @@ pub mod Schemas
 pub mod Shares
 pub mod Steps
 pub mod Tables
+pub mod bridge

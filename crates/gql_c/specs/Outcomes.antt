@@ -1,8 +1,5 @@
 -- What comes of a call, and how it is told: by a status, and by what two handles hold afterwards.
-use Rattle.std.specs.Prelude.{◌≡◌, ℕ, List, Option, Some, None, Result, Ok, Err, box_value}
-use Rattle.gql_engine.specs.Told.{IsToldOf}
-use Rattle.gql_engine.specs.declared.answer_error.AnswerError.{AnswerError}
-use Rattle.gql_c.specs.Replies.{HoldsReply}
+use Rattle.std.specs.Prelude.{◌≡◌, ℕ, Option, Some, None, box_value}
 use Rattle.gql_c.specs.declared.held.Held.{Held}
 use Rattle.gql_c.specs.declared.outcome.Outcome.{Outcome}
 use Rattle.gql_c.specs.declared.outcome.Outcome.TheVariants.{Answered, Refused, NoMemory, WrongHandle, Unread}
@@ -35,31 +32,3 @@ pub record Tells (Holds : Outcome → Type 0) (status : ℕ) (to : Option Held) 
   pub outcome : Outcome
   pub holds : Holds outcome
   pub told : IsReplied outcome status to
-
--- the value was made, unless memory ran out
-abbrev pub IsAnswered : Held → Outcome → Type 0
-IsAnswered held (Answered made) = box_value made ≡ held
-IsAnswered held (Refused made) = ⊥
-IsAnswered held NoMemory = Unit {0}
-IsAnswered held WrongHandle = ⊥
-IsAnswered held Unread = ⊥
-
--- a refusal with this text, unless memory ran out
-abbrev pub IsRefusedText : List ℕ → Outcome → Type 0
-IsRefusedText text (Answered made) = ⊥
-IsRefusedText text (Refused made) = HoldsReply (λ bytes. bytes ≡ text) (box_value made)
-IsRefusedText text NoMemory = Unit {0}
-IsRefusedText text WrongHandle = ⊥
-IsRefusedText text Unread = ⊥
-
-abbrev pub IsRefusedWith : {E : Type 0} → Result (List ℕ) E → Outcome → Type 0
-IsRefusedWith (Ok text) outcome = IsRefusedText text outcome
-IsRefusedWith (Err error) outcome = outcome ≡ NoMemory
-
--- the JSON of a refusal, unless memory ran out
-abbrev pub IsRefusal : AnswerError → Outcome → Type 0
-IsRefusal refusal (Answered made) = ⊥
-IsRefusal refusal (Refused made) = HoldsReply (IsToldOf refusal) (box_value made)
-IsRefusal refusal NoMemory = Unit {0}
-IsRefusal refusal WrongHandle = ⊥
-IsRefusal refusal Unread = ⊥

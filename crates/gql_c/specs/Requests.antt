@@ -1,9 +1,7 @@
 -- What is asked of a query: the name of an operation, the text of its variables, and bits.
 use Rattle.std.specs.Prelude.{◌≡◌, ◌%◌, ◌/◌, ◌==◌, ℕ, Bool, true, if◌then◌else◌, List, [], ◌∷◌}
-use Rattle.std.specs.Prelude.{Option, Some, None, Result, Ok, Err, codes}
-use Rattle.std.specs.Borrow.{Bor}
+use Rattle.std.specs.Prelude.{Option, Some, None, codes}
 use Rattle.std.specs.Str.{IsUtf8}
-use Rattle.gql_document_types.specs.ChosenOperation.{text_of}
 
 -- the bit of 1: the operation is that of the name
 abbrev pub is_named : ℕ → Bool
@@ -29,8 +27,3 @@ IsNameRead name flags = is_named flags ≡ true → IsUtf8 name
 -- a name counts, and is no text
 abbrev pub IsNoName : List ℕ → ℕ → Type 0
 IsNoName name flags = (is_named flags ≡ true) × ¬ (IsUtf8 name)
-
--- the name that counts, or that it is no text
-abbrev pub IsName : {E : Type 0} → List ℕ → ℕ → Result (Option (Bor (List ℕ))) E → Type 0
-IsName name flags (Ok given) = (text_of given ≡ name_given name flags) × IsNameRead name flags
-IsName name flags (Err _) = IsNoName name flags

@@ -1,6 +1,7 @@
 //! Data from their texts.
 
-ghost use Rattle.gql_c.specs.Data.{ReadsData, ReadsMembers, ReadsValue};
+ghost use Rattle.gql_c.specs.Data.{ReadsData};
+ghost use Rattle.gql_c.specs.bridge.Data.{ReadsMembers, ReadsValue};
 ghost use Rattle.gql_c.specs.Outcomes.{Tells};
 
 use crate::handle::Handle;

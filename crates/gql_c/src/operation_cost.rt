@@ -1,7 +1,8 @@
 //! What an operation costs, known before it is executed.
 
 ghost use Rattle.std.specs.Prelude.{◌≡◌, ◌≤◌, ◌<◌, IfErr, IfOk, OnOk, option_map};
-ghost use Rattle.gql_c.specs.Costs.{Costs, CostsIn, CostsNamed, IsCost, IsCostTold, IsErrorTold, IsNotChosen, IsTooCostlyTold, TellsCost, cost_in, number_of};
+ghost use Rattle.gql_c.specs.Costs.{Costs, CostsIn, CostsNamed, IsCost, IsCostTold, IsErrorTold, IsNotChosen, TellsCost, cost_in, number_of};
+ghost use Rattle.gql_c.specs.bridge.Costs.{IsTooCostlyTold};
 ghost use Rattle.gql_cost.specs.Refusal.{IsTooCostly};
 ghost use Rattle.gql_document_types.specs.ChosenOperation.{text_of};
 ghost use Rattle.gql_document_types.specs.Spreads.{AreAcyclic};

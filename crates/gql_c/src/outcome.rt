@@ -1,6 +1,6 @@
 //! What comes of a call, before it is put into handles.
 
-ghost use Rattle.gql_c.specs.Outcomes.{IsAnswered, IsRefusal, IsRefusedText, IsRefusedWith};
+ghost use Rattle.gql_c.specs.bridge.Outcomes.{IsAnswered, IsRefusal, IsRefusedText, IsRefusedWith};
 
 use crate::held::Held;
 use bytes::Bytes;

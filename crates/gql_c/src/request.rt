@@ -1,7 +1,8 @@
 //! What is asked of a query.
 
 ghost use Rattle.std.specs.Prelude.{◌≡◌, IfOk};
-ghost use Rattle.gql_c.specs.Requests.{IsName, is_introspected, is_named, variables_given};
+ghost use Rattle.gql_c.specs.Requests.{is_introspected, is_named, variables_given};
+ghost use Rattle.gql_c.specs.bridge.Requests.{IsName};
 
 use bytes::Bytes;
 use gql_engine::Memory;

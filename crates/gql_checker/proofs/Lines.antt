@@ -13,7 +13,7 @@ use Rattle.gql_response_check.specs.declared.verdict.Verdict.{Verdict}
 use Rattle.gql_response_check.specs.declared.verdict.Verdict.TheVariants.{Explained, NotResponse, FalseError, BadValue}
 use Rattle.gql_checker.specs.Command.{Answers, Refuses, other, unready}
 use Rattle.gql_checker.specs.Judged.{IsJudgedAs}
-use Rattle.gql_checker.specs.Told.{output_of}
+use Rattle.gql_checker.specs.bridge.Told.{output_of}
 
 on-ok : {A E : Type 0} {P Q : A → Type 0} (result : Result A E) → ((a : A) → P a → Q a) → IfOk result P → IfOk result Q
 on-ok (Ok a) f h = f a h

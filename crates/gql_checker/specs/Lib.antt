@@ -2,3 +2,4 @@ pub mod Judged
 pub mod Told
 pub mod Command
 pub mod Program
+pub mod bridge

@@ -3,9 +3,6 @@ use Rattle.std.specs.Prelude.{ℕ, List, ◌++◌, map, codes}
 use Rattle.std.specs.Fmt.{decimal}
 use Rattle.jb_print.specs.Compact.{compact}
 use Rattle.jb_tree.specs.declared.value.Value.TheVariants as json
-use Rattle.gql_engine.specs.Serving.{line}
-use Rattle.gql_engine.specs.declared.output.Output.{Output}
-use Rattle.gql_engine.specs.declared.output.Output.TheVariants.{Done, Refused}
 use Rattle.gql_resolvers.specs.Trail.{Segment}
 use Rattle.gql_response.specs.Response.{segment_value}
 use Rattle.gql_response_check.specs.declared.verdict.Verdict.{Verdict}
@@ -21,10 +18,3 @@ told Explained = codes "explained"
 told (NotResponse fault) = codes "not a response"
 told (FalseError index) = codes "false error " ++ decimal index
 told (BadValue path) = codes "bad value at " ++ path_text path
-
--- the line of a verdict: what was asked for is that the response is explained
-abbrev pub output_of : Verdict → Output
-output_of Explained = Done (line (told Explained))
-output_of (NotResponse fault) = Refused (line (told (NotResponse fault)))
-output_of (FalseError index) = Refused (line (told (FalseError index)))
-output_of (BadValue path) = Refused (line (told (BadValue path)))

@@ -2,7 +2,8 @@
 
 ghost use Rattle.std.specs.Prelude.{◌≡◌, IfOk, string_bytes};
 ghost use Rattle.gql_checker.specs.Told as spec;
-ghost use Rattle.gql_checker.specs.Told.{output_of, path_text};
+ghost use Rattle.gql_checker.specs.Told.{path_text};
+ghost use Rattle.gql_checker.specs.bridge.Told.{output_of};
 ghost use Rattle.gql_response.specs.Response.{segment_value};
 
 use bytes::Bytes;

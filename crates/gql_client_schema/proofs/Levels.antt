@@ -6,7 +6,8 @@ use Rattle.jb_text.specs.declared.refused.Refused.{Refused}
 use Rattle.gql_ast_base.specs.declared.type_ref.TypeRef.{TypeRef}
 use Rattle.gql_client_schema.specs.Members.{Members}
 use Rattle.gql_client_schema.specs.Reading.{Answers, Steps, member, under}
-use Rattle.gql_client_schema.specs.References.{inner, inside}
+use Rattle.gql_client_schema.specs.References.{inner}
+use Rattle.gql_client_schema.specs.bridge.References.{inside}
 
 -- where levels are left, `ofType` is what is inside it
 pub inner_more : (left : ℕ) (members : Members) (r : Result (Option TypeRef) (Refused Steps)) → 0 < left

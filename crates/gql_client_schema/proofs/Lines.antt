@@ -24,7 +24,8 @@ use Rattle.gql_parser.specs.Diagnosed.{diagnostic}
 use Rattle.gql_parser.specs.SchemaText.{its_given}
 use Rattle.gql_parser.specs.SchemaFaults.{SchemaFaults, no_sentence, no_build, broken}
 use Rattle.gql_client_schema.specs.ClientSchema.{HasCause, IsClientSchema}
-use Rattle.gql_client_schema.specs.Program.{EndsLine, item_report, list_reports, read_text, shape_text, refusal_of}
+use Rattle.gql_client_schema.specs.Program.{item_report, list_reports, read_text, shape_text, refusal_of}
+use Rattle.gql_client_schema.specs.bridge.Program.{EndsLine}
 use Rattle.gql_client_schema.specs.declared.making.ClientFault.{ClientFault}
 use Rattle.gql_client_schema.specs.declared.making.ClientFault.TheVariants.{Read, Shape, Schema}
 use Rattle.gql_client_schema.specs.declared.making.ClientSchema.{ClientSchema}

@@ -17,7 +17,8 @@ use Rattle.gql_schema_types.specs.Schemas.{object_of}
 use Rattle.gql_schema_types.specs.declared.schema.Schema.{Schema}
 use Rattle.gql_schema_types.specs.declared.types.ObjectType.{ObjectType}
 use Rattle.gql_document_types.specs.declared.selection.Selection.{Selection}
-use Rattle.gql_client_schema.specs.Answers.{GivesAgain, IsAnsweredWith, IsAnswerIn, IsBuiltIn, IsQueryIn, IsQueryOn, IsSame}
+use Rattle.gql_client_schema.specs.Answers.{GivesAgain, IsAnsweredWith, IsQueryOn}
+use Rattle.gql_client_schema.specs.bridge.Answers.{IsAnswerIn, IsBuiltIn, IsQueryIn, IsSame}
 use Rattle.gql_client_schema.specs.Query.{full_query}
 use Rattle.gql_client_schema.proofs.OneQuery.{DocumentsLaw, one_built}
 

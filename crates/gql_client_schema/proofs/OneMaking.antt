@@ -12,7 +12,8 @@ use Rattle.gql_parser.specs.SchemaText.{SchemaText}
 use Rattle.gql_schema_types.specs.declared.schema.Schema.{Schema as SchemaOf}
 use Rattle.gql_sdl.specs.Schemas.{schema_text}
 use Rattle.gql_sdl.specs.declared.shown.ShownSchema.{ShownSchema}
-use Rattle.gql_client_schema.specs.ClientSchema.{AreWrong, ComesFor, HasCause, IsClientSchema, IsFaultOfShown, IsMade, IsMadeOf, IsMadeOfShown, IsOfShown, IsRefused, IsUnmade, Spells, unread_as}
+use Rattle.gql_client_schema.specs.ClientSchema.{AreWrong, ComesFor, HasCause, IsClientSchema, IsMade, IsRefused, Spells}
+use Rattle.gql_client_schema.specs.bridge.ClientSchema.{IsFaultOfShown, IsMadeOf, IsMadeOfShown, IsOfShown, IsUnmade, unread_as}
 use Rattle.gql_client_schema.specs.Parts.{read_answer}
 use Rattle.gql_client_schema.specs.Reading.{Gives, Breaks, Steps}
 use Rattle.gql_client_schema.specs.declared.making.ClientFault.{ClientFault}

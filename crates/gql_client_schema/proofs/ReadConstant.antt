@@ -9,7 +9,8 @@ use Rattle.gql_cst.specs.Leaves.{Part, word, ignored, node, part_of, leaves}
 use Rattle.gql_cst.specs.Levels.{levels, NestsTo}
 use Rattle.gql_cst.specs.Nesting.{within_node, nesting}
 use Rattle.gql_cst.specs.Outcome.{IsWithin, Stops}
-use Rattle.gql_cst.specs.Parses.{IsParse, Accepts, reached_at}
+use Rattle.gql_cst.specs.Parses.{IsParse, reached_at}
+use Rattle.gql_cst.specs.bridge.Parses.{Accepts}
 use Rattle.gql_cst.specs.Report.{report_of}
 use Rattle.gql_cst.specs.Sentences.{root_kind, row_then, shown}
 use Rattle.gql_cst.specs.TreeOf.{IsTreeOf}

@@ -6,7 +6,8 @@ use Rattle.jb_tree.specs.declared.value.Value.{Value}
 use Rattle.jb_tree.specs.Value.{is_null}
 use Rattle.gql_client_schema.specs.Members.{or_null}
 use Rattle.gql_response.specs.declared.path.ResponseDataPathSegment.{ResponseDataPathSegment}
-use Rattle.gql_client_schema.specs.Reading.{Steps, Reading, gives, breaks, asks, and_then, mapped, both, under, item, Gives, Breaks, Answers, IsPath, read_items}
+use Rattle.gql_client_schema.specs.Reading.{Steps, Reading, gives, breaks, asks, and_then, mapped, both, under, item, Gives, Breaks, Answers, read_items}
+use Rattle.gql_client_schema.specs.bridge.Reading.{IsPath}
 
 module _ {A B : Type 0} (f : A → Reading B) where
   pub then_gives : (m : Reading A) (a : A) (b : B) → Gives m a → Gives (f a) b → Gives (and_then m f) b

@@ -1,5 +1,5 @@
 -- What the full query is answered with on a schema: sections 4 and 6 of GraphQL October 2021.
-use Rattle.std.specs.Prelude.{◌≡◌, ℕ, List, [], Option, Some, None}
+use Rattle.std.specs.Prelude.{◌≡◌, [], Option, Some, None}
 use Rattle.std.specs.Prelude.{option_and_then, codes}
 use Rattle.std.specs.Map.{lookup}
 use Rattle.std.specs.Str.{bytes_eq}
@@ -45,23 +45,3 @@ pub record GivesAgain (schema : Schema) (given : Option Value) : Type 0 where
 -- the data of an answer
 abbrev pub data_in : Value → Option Value
 data_in value = option_and_then (lookup (bytes_eq (codes "data"))) (object_members value)
-
--- ---- on the way
-
-abbrev pub IsQueryIn : Schema → Option ExecutableDocument → Type 0
-IsQueryIn schema (Some document) = IsQueryOn schema document
-IsQueryIn schema None = (document : ExecutableDocument) → IsQueryOn schema document → ⊥
-
--- the document that the text builds, whether its fragments lead back to themselves or not
-abbrev pub IsBuiltIn : Schema → Option ExecutableDocument → Type 0
-IsBuiltIn schema (Some document) = IsBuiltOf schema full_query document
-IsBuiltIn schema None = (document : ExecutableDocument) → IsBuiltOf schema full_query document → ⊥
-
--- no errors and these data
-pub record IsSame (response : ExecutionResponse) (given : Option Value) : Type 0 where
-  pub no_errors : response.errors ≡ []
-  pub again : given ≡ Some (data_value response.root)
-
-abbrev pub IsAnswerIn : Schema → ExecutableDocument → Option ExecutionResponse → Type 0
-IsAnswerIn schema document (Some response) = IsAnsweredWith schema document response
-IsAnswerIn schema document None = (response : ExecutionResponse) → IsAnsweredWith schema document response → ⊥

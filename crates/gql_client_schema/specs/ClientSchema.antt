@@ -1,11 +1,10 @@
 -- What is made of an answer to the full query, or why nothing is.
-use Rattle.std.specs.Prelude.{◌≡◌, ◌↔◌, ℕ, List, IsTrue, Result, Ok, Err}
+use Rattle.std.specs.Prelude.{◌≡◌, ◌↔◌, ℕ, List, IsTrue}
 use Rattle.jb_text.specs.declared.refused.Refused.{Refused}
 use Rattle.jb_text.specs.declared.refused.Refused.TheVariants as refused
 use Rattle.jb_tree.specs.declared.value.Value.{Value}
 use Rattle.jb_read.specs.Spelling.{JsonText}
 use Rattle.jb_read.specs.Faults.{JsonFault}
-use Rattle.jb_read.specs.declared.fault.ReadFault.{ReadFault}
 use Rattle.gql_diag.specs.List.{Diagnostics}
 use Rattle.gql_parser.specs.SchemaFaults.{SchemaFaults}
 use Rattle.gql_parser.specs.SchemaText.{SchemaText}
@@ -40,12 +39,6 @@ pub record AreWrong (value : Value) (list : Diagnostics) : Type 0 where
   pub reads : Gives (read_answer value) shown
   pub faults : SchemaFaults (schema_text shown) list
 
--- why nothing is made of a value
-abbrev pub IsUnmade : Value → ClientFault → Type 0
-IsUnmade value (Read fault) = ⊥
-IsUnmade value (Shape path) = Breaks (read_answer value) path
-IsUnmade value (Schema list) = AreWrong value list
-
 pub record Spells (bytes : List ℕ) (Holds : Value → Type 0) : Type 0 where
   pub value : Value
   pub spells : JsonText bytes value
@@ -66,31 +59,3 @@ IsRefused bytes refused.Memory = Unit {0}
 abbrev pub ComesFor : ClientFault → Refused ClientFault → Type 0
 ComesFor fault (refused.Fault told) = fault ≡ told
 ComesFor fault refused.Memory = Unit {0}
-
--- ---- on the way
-
--- the refusal of bytes that are no JSON text
-abbrev pub unread_as : Refused ReadFault → Refused ClientFault
-unread_as (refused.Fault fault) = refused.Fault (Read fault)
-unread_as refused.Memory = refused.Memory
-
-abbrev pub IsMadeOf : Value → Result ClientSchema (Refused ClientFault) → Type 0
-IsMadeOf value (Ok made) = IsMade value made
-IsMadeOf value (Err (refused.Fault fault)) = IsUnmade value fault
-IsMadeOf value (Err refused.Memory) = Unit {0}
-
--- the same of what is shown
-pub record IsMadeOfShown (shown : ShownSchema) (value : Value) (made : ClientSchema) : Type 0 where
-  pub is : made.text ≡ schema_text shown
-  pub schema : SchemaOf
-  pub means : SchemaText made.text schema
-  pub same : IsTrue made.same ↔ GivesAgain schema (data_in value)
-
-abbrev pub IsFaultOfShown : ShownSchema → ClientFault → Type 0
-IsFaultOfShown shown (Schema list) = SchemaFaults (schema_text shown) list
-IsFaultOfShown shown _ = ⊥
-
-abbrev pub IsOfShown : ShownSchema → Value → Result ClientSchema (Refused ClientFault) → Type 0
-IsOfShown shown value (Ok made) = IsMadeOfShown shown value made
-IsOfShown shown value (Err (refused.Fault fault)) = IsFaultOfShown shown fault
-IsOfShown shown value (Err refused.Memory) = Unit {0}

@@ -1,5 +1,5 @@
 -- Texts of constant values: section 2.9 of GraphQL October 2021.
-use Rattle.std.specs.Prelude.{◌≡◌, ℕ, List, Option, Some, None}
+use Rattle.std.specs.Prelude.{◌≡◌, ℕ, List, Some, None}
 use Rattle.gql_ast.specs.ValueText.{value_text}
 use Rattle.gql_ast_base.specs.Values.{value_of}
 use Rattle.gql_ast_base.specs.declared.value.Value.{Value}
@@ -35,8 +35,3 @@ pub record IsConstant (text printed : List ℕ) : Type 0 where
 -- the text is none
 abbrev pub IsNoConstant : List ℕ → Type 0
 IsNoConstant text = (printed : List ℕ) → IsConstant text printed → ⊥
-
--- how the constant value is printed that the text is, if it is one
-abbrev pub IsConstantIn : List ℕ → Option (List ℕ) → Type 0
-IsConstantIn text (Some printed) = IsConstant text printed
-IsConstantIn text None = IsNoConstant text

@@ -7,3 +7,4 @@ pub mod Answers
 pub mod Query
 pub mod ClientSchema
 pub mod Program
+pub mod bridge

@@ -13,7 +13,6 @@ use Rattle.jb_io.specs.Reply.{line}
 use Rattle.jb_print.specs.Compact.{compact}
 use Rattle.jb_read.specs.KindName.{kind_name}
 use Rattle.jb_read.specs.declared.fault.ReadFault.{ReadFault}
-use Rattle.jb_tree.specs.declared.value.Value.{Value}
 use Rattle.jb_tree.specs.declared.value.Value.TheVariants as json
 use Rattle.gql_response.specs.Response.{segment_value}
 use Rattle.gql_client_schema.specs.ClientSchema.{HasCause, IsClientSchema}
@@ -57,11 +56,6 @@ abbrev pub refusal_of : ClientFault → List ℕ
 refusal_of (Read fault) = line (read_text fault)
 refusal_of (Shape path) = line (shape_text path)
 refusal_of (Schema list) = list_reports list
-
--- it ends in LF
-pub record EndsLine (text : List ℕ) : Type 0 where
-  pub front : List ℕ
-  pub is : text ≡ line front
 
 -- with its LF the text is what is written of a schema that the bytes show
 pub record Prints (bytes text : List ℕ) : Type 0 where

@@ -65,11 +65,6 @@ Answers reading (Ok found) = Gives reading found
 Answers reading (Err (Fault path)) = Breaks reading path
 Answers reading (Err Memory) = Unit {0}
 
--- this path, or want of memory
-abbrev pub IsPath : Steps → Refused Steps → Type 0
-IsPath path (Fault at) = path ≡ at
-IsPath path Memory = Unit {0}
-
 -- each item in turn, from this one on, behind those that are read
 abbrev pub read_items : {V A : Type 0} → (V → Reading A) → ℕ → List A → List V → Reading (List A)
 read_items rule index done [] = gives done

@@ -13,7 +13,7 @@ use Rattle.gql_client_schema.specs.declared.kind.Head.{Head}
 use Rattle.gql_client_schema.specs.declared.kind.Head.TheVariants as head
 use Rattle.gql_client_schema.specs.declared.kind.Kind.{Kind}
 use Rattle.gql_client_schema.specs.declared.kind.Kind.TheVariants as kinds
-use Rattle.gql_client_schema.specs.Members.{Members, right, in_object, or_null, required, there, read_text, read_name}
+use Rattle.gql_client_schema.specs.Members.{Members, right, in_object, or_null, required, read_text, read_name}
 use Rattle.gql_client_schema.specs.Reading.{Reading, gives, and_then, mapped, both}
 
 -- the kinds of `__TypeKind`
@@ -84,10 +84,6 @@ nested rule value = if is_null value then gives None else in_object rule value
 unfoldable pub inner : ℕ → Members → Reading (Option TypeRef)
 inner zero members = gives None
 inner (suc left) members = required (nested (link_of (inner left))) (codes "ofType") members
-
--- the value of `ofType`, above so many levels
-abbrev pub inside : ℕ → Option Value → Reading (Option TypeRef)
-inside left = there (nested (link_of (inner left)))
 
 abbrev pub linked : ℕ → Members → Reading (Option TypeRef)
 linked left members = link_of (inner left) members

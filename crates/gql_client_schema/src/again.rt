@@ -5,6 +5,7 @@ ghost use Rattle.std.specs.Option.{option_copied};
 ghost use Rattle.gql_document_types.specs.Spreads.{AreAcyclic};
 ghost use Rattle.gql_response.specs.Response.{data_value};
 ghost use Rattle.gql_client_schema.specs.Answers as spec;
+ghost use Rattle.gql_client_schema.specs.bridge.Answers as spec_bridge;
 
 use crate::full_query::full_query;
 use gql_ast_laws::laws as tree_laws;
@@ -57,7 +58,7 @@ fn answered_again(
 
 /// The document that the query's text builds against the schema.
 fn query_on(alloc: Global, schema: &Valid<Schema>) -> Result<Option<ExecutableDocument>, Memory>
-    ensures { IfOk result (spec.IsQueryIn schema.now) }
+    ensures { IfOk result (spec_bridge.IsQueryIn schema.now) }
 {
     match built_query(alloc, schema)? {
         Some(document) => if_acyclic(alloc, schema, document),
@@ -71,8 +72,8 @@ fn if_acyclic(
     schema: &Valid<Schema>,
     document: ExecutableDocument,
 ) -> Result<Option<ExecutableDocument>, Memory>
-    requires { spec.IsBuiltIn schema.now (Some document) }
-    ensures { IfOk result (spec.IsQueryIn schema.now) }
+    requires { spec_bridge.IsBuiltIn schema.now (Some document) }
+    ensures { IfOk result (spec_bridge.IsQueryIn schema.now) }
 {
     tree_laws::texts_have_one_document();
     let acyclic = document.fragments_acyclic(alloc)?;
@@ -85,7 +86,7 @@ fn if_acyclic(
 
 /// The same, whether fragments lead back to themselves or not.
 fn built_query(alloc: Global, schema: &Valid<Schema>) -> Result<Option<ExecutableDocument>, Memory>
-    ensures { IfOk result (spec.IsBuiltIn schema.now) }
+    ensures { IfOk result (spec_bridge.IsBuiltIn schema.now) }
 {
     tree_laws::texts_have_one_document();
     let mut parser = Parser::new();
@@ -104,7 +105,7 @@ fn answer_on(
     document: &Valid<ExecutableDocument>,
 ) -> Result<Option<ExecutionResponse>, Memory>
     requires { AreAcyclic document.now.fragments }
-    ensures { IfOk result (spec.IsAnswerIn schema.now document.now) }
+    ensures { IfOk result (spec_bridge.IsAnswerIn schema.now document.now) }
 {
     let operation = match document.as_ref().operations_get(alloc, None) {
         Ok(operation) => operation,
@@ -129,7 +130,7 @@ fn answer_on(
 
 /// Whether the response has these data and no errors.
 fn is_same(response: ExecutionResponse, given: Option<&Value>) -> bool
-    ensures { IsTrue result ↔ spec.IsSame response (option_copied given.entry) }
+    ensures { IsTrue result ↔ spec_bridge.IsSame response (option_copied given.entry) }
 {
     let Some(given) = given else {
         return false;

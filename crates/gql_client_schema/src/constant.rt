@@ -1,7 +1,7 @@
 //! The texts of constant values.
 
 ghost use Rattle.std.specs.Prelude.{◌≡◌, IfOk};
-ghost use Rattle.gql_client_schema.specs.Constants.{IsConstantIn};
+ghost use Rattle.gql_client_schema.specs.bridge.Constants.{IsConstantIn};
 ghost use Rattle.gql_client_schema.specs.Parts.{constant_of as constant_in, read_constant};
 ghost use Rattle.gql_client_schema.specs.Reading.{Answers};
 

@@ -4,6 +4,7 @@ ghost use Rattle.std.specs.Prelude.{◌≡◌, IfOk, IfErr, IsErrAnd};
 ghost use Rattle.std.specs.Option.{option_copied};
 ghost use Rattle.gql_client_schema.specs.Answers.{data_in as data_of};
 ghost use Rattle.gql_client_schema.specs.ClientSchema as spec;
+ghost use Rattle.gql_client_schema.specs.bridge.ClientSchema as spec_bridge;
 ghost use Rattle.gql_client_schema.specs.declared.making.ClientFault.{ClientFault as FaultOf};
 
 use crate::again::gives_again;
@@ -67,7 +68,7 @@ pub fn client_schema(alloc: Global, answer: &Bytes) -> Result<ClientSchema, Refu
 
 /// The refusal of bytes that are no JSON text.
 fn unread(refused: Refused<ReadFault>) -> Refused<ClientFault>
-    ensures { result ≡ spec.unread_as refused }
+    ensures { result ≡ spec_bridge.unread_as refused }
 {
     match refused {
         Refused::Fault(fault) => Refused::Fault(ClientFault::Read(fault)),
@@ -77,7 +78,7 @@ fn unread(refused: Refused<ReadFault>) -> Refused<ClientFault>
 
 /// What is made of the value of an answer.
 fn made_of(alloc: Global, value: &Value) -> Result<ClientSchema, Refused<ClientFault>>
-    ensures { spec.IsMadeOf value.now result }
+    ensures { spec_bridge.IsMadeOf value.now result }
 {
     match read_answer(alloc, value) {
         Ok(shown) => made_of_shown(alloc, &shown, value),
@@ -94,7 +95,7 @@ fn made_of_shown(
     shown: &ShownSchema,
     value: &Value,
 ) -> Result<ClientSchema, Refused<ClientFault>>
-    ensures { spec.IsOfShown shown.now value.now result }
+    ensures { spec_bridge.IsOfShown shown.now value.now result }
 {
     let text = print_schema(alloc, shown)?;
     match schema_of_text(alloc, text.as_str()) {

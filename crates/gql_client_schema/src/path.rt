@@ -2,7 +2,8 @@
 
 ghost use Rattle.std.specs.Prelude.{◌≡◌, ◌∷◌, [], true, IfOk};
 ghost use Rattle.gql_ast_base.specs.Names.{is_name};
-ghost use Rattle.gql_client_schema.specs.Reading.{Answers, IsPath, Reading, item as item_step, member as member_step, under};
+ghost use Rattle.gql_client_schema.specs.Reading.{Answers, Reading, item as item_step, member as member_step, under};
+ghost use Rattle.gql_client_schema.specs.bridge.Reading.{IsPath};
 
 use gql_ast_base::Name;
 use gql_response::ResponseDataPathSegment;

@@ -4,6 +4,7 @@ ghost use Rattle.std.specs.Prelude.{◌≡◌, ◌-◌, ◌<◌, IfOk};
 ghost use Rattle.std.specs.Option.{option_copied};
 ghost use Rattle.gql_client_schema.specs.Reading.{Answers, gives};
 ghost use Rattle.gql_client_schema.specs.References as spec;
+ghost use Rattle.gql_client_schema.specs.bridge.References as spec_bridge;
 
 use crate::kind::{Head, head_of};
 use crate::path::{Unread, in_member, misfit};
@@ -66,7 +67,7 @@ fn inner(alloc: Global, left: u32, members: &Map) -> Result<Option<TypeRef>, Unr
 #[cycle(levels)]
 fn inside(alloc: Global, left: u32, value: Option<&Value>) -> Result<Option<TypeRef>, Unread>
     requires { 0 < left }
-    ensures { Answers (spec.inside (left - 1) (option_copied value.entry)) result }
+    ensures { Answers (spec_bridge.inside (left - 1) (option_copied value.entry)) result }
 {
     match value {
         Some(value) => nested(alloc, left, value),

@@ -4,6 +4,7 @@ ghost use Rattle.std.specs.Prelude.{◌≡◌, IfOk};
 ghost use Rattle.jb_io.specs.Reply.{line};
 ghost use Rattle.gql_response.specs.Response.{segment_value};
 ghost use Rattle.gql_client_schema.specs.Program as spec;
+ghost use Rattle.gql_client_schema.specs.bridge.Program as spec_bridge;
 
 use crate::making::{ClientFault, ClientSchema, client_schema};
 use crate::reports::list_reports;
@@ -49,7 +50,7 @@ impl Command for Printing {
 
 /// The schema's text without its last LF, or with the remark behind it.
 fn output(made: ClientSchema) -> Result<Bytes, Memory>
-    requires { spec.EndsLine made.text }
+    requires { spec_bridge.EndsLine made.text }
     ensures { IfOk result (λ text. line text ≡ spec.output_of made) }
 {
     let mut text = made.text.into_string();
@@ -62,7 +63,7 @@ fn output(made: ClientSchema) -> Result<Bytes, Memory>
 
 /// What is told of a fault, without its last LF.
 fn refusal(alloc: Global, fault: ClientFault) -> Result<Bytes, Memory>
-    requires { spec.EndsLine (spec.refusal_of fault) }
+    requires { spec_bridge.EndsLine (spec.refusal_of fault) }
     ensures { IfOk result (λ text. line text ≡ spec.refusal_of fault) }
 {
     match fault {
@@ -106,7 +107,7 @@ fn step_value(alloc: Global, step: &ResponseDataPathSegment) -> Result<Value, Me
 
 /// The text before the LF that ends it.
 fn before_line_feed(text: Bytes) -> Bytes
-    requires { spec.EndsLine text }
+    requires { spec_bridge.EndsLine text }
     ensures { line result ≡ text }
 {
     let mut front = text;

@@ -16,7 +16,7 @@ use Rattle.gql_document_types.specs.declared.selection.Selection.{Selection}
 use Rattle.gql_document_types.specs.declared.selection.Selection.TheVariants as selection
 use Rattle.gql_document_types.specs.declared.selection.SelectionSet.{SelectionSet}
 use Rattle.gql_client_schema_laws.specs.Asked.{Asked, asks_nothing, asks_field, asks_fragment, name_at, place, arguments_at, written}
-use Rattle.gql_client_schema_laws.specs.Built.{AreDefinedOn}
+use Rattle.gql_client_schema_laws.specs.bridge.Built.{AreDefinedOn}
 use Rattle.gql_client_schema_laws.specs.Selected.{definition_in, selected}
 use Rattle.gql_schema_types.specs.MetaFields.{type_name_field}
 use Rattle.gql_schema_types.specs.Schemas.{field_of}

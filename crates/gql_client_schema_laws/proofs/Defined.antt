@@ -7,7 +7,7 @@ use Rattle.gql_ast.specs.declared.field_definition.FieldDefinition.{FieldDefinit
 use Rattle.gql_document.specs.BuiltSelections.{is_selected_leaf, makes_of}
 use Rattle.gql_document.specs.Nodes.{is_nonempty, is_leaf}
 use Rattle.gql_client_schema_laws.specs.Asked.{Asked, asks_nothing, asks_fragment, written}
-use Rattle.gql_client_schema_laws.specs.Built.{AreDefinedOn}
+use Rattle.gql_client_schema_laws.specs.bridge.Built.{AreDefinedOn}
 use Rattle.gql_client_schema_laws.specs.FullQuery as full
 use Rattle.gql_client_schema_laws.specs.Introspection.{required, RefersAs, HasField, HasObject, FieldRow, HasIntrospection}
 use Rattle.gql_client_schema_laws.specs.Whole.{HasSchemaField}

@@ -17,7 +17,7 @@ use Rattle.gql_document_types.specs.declared.fragment.Fragment.{Fragment}
 use Rattle.gql_document_types.specs.declared.operation.Operation.{Operation}
 use Rattle.gql_document_types.specs.declared.selection.SelectionSet.{SelectionSet}
 use Rattle.gql_client_schema_laws.specs.Asked.{Asked, query_file, written}
-use Rattle.gql_client_schema_laws.specs.Built.{AreDefinedOn}
+use Rattle.gql_client_schema_laws.specs.bridge.Built.{AreDefinedOn}
 use Rattle.gql_client_schema_laws.specs.FullQuery as full
 use Rattle.gql_client_schema_laws.specs.Introspection.{HasIntrospection}
 use Rattle.gql_client_schema_laws.specs.Selected.{full_document, full_fragments, full_operation, fragment_on, full_files}

@@ -8,7 +8,8 @@ use Rattle.gql_schema_rules_parts.specs.ObjectTypes.{is_another_kind}
 use Rattle.gql_schema_rules_parts.specs.OutputType.{is_input_object}
 use Rattle.gql_schema_rules_parts.specs.Subtypes.{is_below, is_subname}
 use Rattle.gql_rules_values.specs.Known.{is_known, is_built_in_scalar}
-use Rattle.gql_client_schema_laws.specs.Pairs.{Paired, Both}
+use Rattle.gql_client_schema_laws.specs.Pairs.{Paired}
+use Rattle.gql_client_schema_laws.specs.bridge.Pairs.{Both}
 use Rattle.gql_client_schema_laws.specs.Retold.{IsRetoldName, IsRetoldScalar, IsRetoldObject, IsRetoldInterface, IsRetoldUnion, IsRetoldEnum, IsRetoldInputObject, IsRetoldType}
 use Rattle.gql_client_schema_laws.proofs.Pairs.{value_alike, some_alike, any_alike, find_alike}
 use Rattle.gql_schema_types.specs.Implementers.{implements, is_object}

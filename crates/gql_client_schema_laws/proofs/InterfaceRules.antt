@@ -20,7 +20,8 @@ use Rattle.gql_schema_rules_parts.specs.MissingInterfaceFieldArgument.{missing_i
 use Rattle.gql_schema_rules_parts.specs.Subtypes.{is_subtype, is_same_type, are_known}
 use Rattle.gql_schema_rules_parts.specs.TransitiveImplementedInterfaces.{must_implement, interfaces_of, interfaces_by, is_new, told_with, told_after, missing, missing_by, transitive_implemented_interfaces}
 use Rattle.gql_rules_values.specs.Written.{is_written}
-use Rattle.gql_client_schema_laws.specs.Pairs.{Paired, Both}
+use Rattle.gql_client_schema_laws.specs.Pairs.{Paired}
+use Rattle.gql_client_schema_laws.specs.bridge.Pairs.{Both}
 use Rattle.gql_client_schema_laws.specs.Retold.{IsRetoldName, IsRetoldInput, IsRetoldField, IsRetoldType}
 use Rattle.gql_client_schema_laws.proofs.Found.{by_kind, called_alike, found_as, known_alike, subname_alike}
 use Rattle.gql_client_schema_laws.proofs.Pairs.{joined_alike, only_alike, if_alike, told_alike, some_alike, flat_alike, find_alike, pairs_more}

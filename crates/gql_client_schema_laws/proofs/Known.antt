@@ -29,7 +29,8 @@ use Rattle.gql_grammar.specs.declared.rule.Rule.TheVariants.{Document}
 use Rattle.gql_grammar.specs.declared.symbol.Symbol.TheVariants.{One}
 use Rattle.gql_grammar.specs.declared.syntax_kind.SyntaxKind.TheVariants as kind
 use Rattle.gql_grammar.specs.declared.word.Word.{Word}
-use Rattle.gql_lexer.specs.Lex.{lex, run_len, blank_len, string_len, string, quoted}
+use Rattle.gql_lexer.specs.Lex.{run_len, blank_len, string_len}
+use Rattle.gql_lexer.specs.bridge.Lex.{lex, string, quoted}
 use Rattle.gql_lexer.specs.Value.{values}
 use Rattle.gql_ast_laws.proofs.Forests.{planted}
 use Rattle.gql_ast_laws.proofs.Found.{the}

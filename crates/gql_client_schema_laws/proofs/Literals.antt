@@ -20,7 +20,8 @@ use Rattle.gql_rules_values.specs.UndefinedInputValue.{input_name}
 use Rattle.gql_rules_values.specs.UniqueInputValue.{unique_keys}
 use Rattle.gql_rules_values.specs.declared.known.Defined.TheVariants.{TypesAndScalars}
 use Rattle.gql_rules_values.proofs.Nodes.{at-List, at-Object, at-Null, at-Variable, at-Int, at-Float, at-String, at-Boolean, at-Enum}
-use Rattle.gql_client_schema_laws.specs.Pairs.{Paired, Both}
+use Rattle.gql_client_schema_laws.specs.Pairs.{Paired}
+use Rattle.gql_client_schema_laws.specs.bridge.Pairs.{Both}
 use Rattle.gql_client_schema_laws.specs.Retold.{IsRetoldInputField, IsRetoldType}
 use Rattle.gql_client_schema_laws.proofs.Found.{by_kind, found_as, known_alike}
 use Rattle.gql_client_schema_laws.proofs.Tops.{top_of, kind_is, seen}

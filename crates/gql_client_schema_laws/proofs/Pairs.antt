@@ -4,7 +4,8 @@ use Rattle.std.specs.List.{AllByRecursion, slice_get, find, position, position_o
 use Rattle.std.specs.Option.{option_map_or}
 use Rattle.gql_diag_messages.specs.declared.diagnostic_data.DiagnosticData.{DiagnosticData}
 use Rattle.gql_rules_values.specs.Faults.{only_if}
-use Rattle.gql_client_schema_laws.specs.Pairs.{Paired, Both}
+use Rattle.gql_client_schema_laws.specs.Pairs.{Paired}
+use Rattle.gql_client_schema_laws.specs.bridge.Pairs.{Both}
 
 -- ---- nothing is told
 

@@ -26,7 +26,8 @@ use Rattle.gql_rules_values.specs.UndefinedInputValue.{input_name, undefined_key
 use Rattle.gql_rules_values.specs.UniqueInputValue.{key, key_place, unique_level, unique_keys}
 use Rattle.gql_rules_values.specs.UnsupportedValueType.{unsupported_value_type}
 use Rattle.gql_rules_values.specs.ValueTypes.{form_level, form_of, scalar_accepts, type_accepts, accepts, fits}
-use Rattle.gql_client_schema_laws.specs.Pairs.{Paired, Both}
+use Rattle.gql_client_schema_laws.specs.Pairs.{Paired}
+use Rattle.gql_client_schema_laws.specs.bridge.Pairs.{Both}
 use Rattle.gql_client_schema_laws.specs.Retold.{IsRetoldInput, IsRetoldInputField, IsRetoldValue, IsRetoldType, IsRetoldInputObject}
 use Rattle.gql_client_schema_laws.proofs.Found.{by_kind, kind_alike, found_as}
 use Rattle.gql_client_schema_laws.proofs.Tops.{Level, HasTop, top_of, SameMember, same_members}

@@ -17,6 +17,6 @@ pub mod FullQuery
 pub mod Selected
 pub mod Introspection
 pub mod Whole
-pub mod Built
 pub mod Data
 pub mod OwnText
+pub mod bridge

@@ -8,7 +8,8 @@ use Rattle.gql_ast_base.specs.Names.{Named}
 use Rattle.gql_ast_base.specs.declared.value.Value.{Value}
 use Rattle.gql_ast_base.specs.declared.value.ValueKind.{ValueKind, List as ListKind, Object as ObjectKind, the_lemmas}
 use Rattle.gql_coerce.specs.Outcome.{Outcome, mapped, all_of}
-use Rattle.gql_coerce.specs.Translation.{translated, translated_kind, translated_member, member_of}
+use Rattle.gql_coerce.specs.Translation.{translated, translated_kind, member_of}
+use Rattle.gql_coerce.specs.bridge.Translation.{translated_member}
 
 module _ (d : List ℕ) where
   kind-List : (items : List Value) (place : Option Span) → translated_kind d (ListKind items) place ≡ mapped Array (all_of (map (translated d) items))

@@ -3,7 +3,6 @@ pub mod Faults
 pub mod Subject
 pub mod Wrapped
 pub mod Messages
-pub mod Missing
 pub mod Scalars
 pub mod Translation
 pub mod Filled
@@ -13,7 +12,6 @@ pub mod Variables
 pub mod LiteralValue
 pub mod Arguments
 pub mod InputTypes
-pub mod ByName
 pub mod Told
 pub mod Inputs
-pub mod Wanted
+pub mod bridge

@@ -63,7 +63,3 @@ module _ (d : List ℕ) where
 
   abbrev pub translated : Value → Outcome JsonValue
   translated value = translated_kind value.kind value.location
-
-  -- a name beside what its value is translated to
-  abbrev pub translated_member : Named × Value → Outcome (List ℕ × JsonValue)
-  translated_member member = mapped (λ value. (member.0.text, value)) (translated member.1)

@@ -1,7 +1,7 @@
 //! The arguments of a field (GraphQL October 2021, section 6.4.1).
 
 ghost use Rattle.std.specs.Prelude.{Some};
-ghost use Rattle.gql_coerce.specs.ByName.{FindsFirst};
+ghost use Rattle.gql_coerce.specs.bridge.ByName.{FindsFirst};
 ghost use Rattle.gql_coerce.specs.Outcome.{Answers, told_as};
 ghost use Rattle.gql_coerce.specs.Told.{argument_fault};
 ghost use Rattle.gql_coerce.specs.Arguments.{coerced_arguments, argument_value, argument_given, whole_value, no_argument, literal_argument};

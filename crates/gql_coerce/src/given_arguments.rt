@@ -5,7 +5,7 @@ ghost use Rattle.std.specs.Option.{option_copied};
 ghost use Rattle.std.specs.Str.{bytes_eq};
 ghost use Rattle.std.specs.Map.{lookup};
 ghost use Rattle.gql_ast_base.specs.declared.directive.Argument.{Argument as Given};
-ghost use Rattle.gql_coerce.specs.ByName.{FindsFirst};
+ghost use Rattle.gql_coerce.specs.bridge.ByName.{FindsFirst};
 ghost use Rattle.gql_coerce.specs.Arguments.{first_named};
 
 use crate::outcome::insert;

@@ -7,14 +7,14 @@ ghost use Rattle.std.specs.Option.{option_copied};
 ghost use Rattle.std.specs.Map.{keys_of};
 ghost use Rattle.jb_tree.specs.declared.value.Value.{Value as JsonValue, Null, Object};
 ghost use Rattle.gql_coerce.specs.Outcome.{Outcome, Answers, mapped};
-ghost use Rattle.gql_coerce.specs.Subject.{subject_text};
-ghost use Rattle.gql_coerce.specs.Missing.{missing_fault};
+ghost use Rattle.gql_coerce.specs.bridge.Subject.{subject_text};
+ghost use Rattle.gql_coerce.specs.bridge.Missing.{missing_fault};
 ghost use Rattle.gql_ast_base.specs.TypeParts.{named_type, is_non_null};
 ghost use Rattle.gql_coerce.specs.Wrapped.{wrap};
 ghost use Rattle.gql_coerce.specs.Filled.{filled, absent, not_given};
 ghost use Rattle.gql_coerce.specs.InputValue as spec;
 ghost use Rattle.gql_coerce.specs.InputTypes.{field_name};
-ghost use Rattle.gql_coerce.specs.Wanted.{IsFound};
+ghost use Rattle.gql_coerce.specs.bridge.Wanted.{IsFound};
 ghost use Rattle.gql_coerce.specs.InputValue.{coerced, leaf, object, first_unknown, misfit, input_object, field_value, places, taken, each_at};
 
 use crate::fault::{CoercionFault, refuse, suspect};

@@ -4,7 +4,7 @@ ghost use Rattle.std.specs.Prelude.{◌≡◌, ℕ, List, IfOk};
 ghost use Rattle.std.specs.Option.{option_copied};
 ghost use Rattle.std.specs.Str.{bytes_eq};
 ghost use Rattle.std.specs.Map.{lookup};
-ghost use Rattle.gql_coerce.specs.ByName.{FindsLast};
+ghost use Rattle.gql_coerce.specs.bridge.ByName.{FindsLast};
 ghost use Rattle.gql_coerce.specs.LiteralValue.{Literals, last_named};
 
 use crate::outcome::insert;

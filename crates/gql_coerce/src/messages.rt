@@ -4,7 +4,7 @@ ghost use Rattle.std.specs.Prelude.{◌≡◌, IfOk};
 ghost use Rattle.jb_print.specs.Compact.{compact};
 ghost use Rattle.gql_ast.specs.ValueText.{value_text};
 ghost use Rattle.gql_coerce.specs.Messages as spec;
-ghost use Rattle.gql_coerce.specs.Subject.{subject_text};
+ghost use Rattle.gql_coerce.specs.bridge.Subject.{subject_text};
 
 use crate::subject::Subject;
 use gql_ast::{print_type, print_value};

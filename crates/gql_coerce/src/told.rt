@@ -2,7 +2,8 @@
 
 ghost use Rattle.std.specs.Prelude.{◌≡◌};
 ghost use Rattle.gql_coerce.specs.Outcome.{Outcome, Answers, told_as};
-ghost use Rattle.gql_coerce.specs.Told.{input_error, argument_fault};
+ghost use Rattle.gql_coerce.specs.Told.{argument_fault};
+ghost use Rattle.gql_coerce.specs.bridge.Told.{input_error};
 
 use crate::fault::CoercionFault;
 use gql_source::SourceSpan;

@@ -7,8 +7,9 @@ ghost use Rattle.indexmap.specs.IndexMap.{insert_all};
 ghost use Rattle.jb_text.specs.Numeral.{is_numeral};
 ghost use Rattle.jb_tree.specs.declared.value.Value.{String as JsonString, Array, Object};
 ghost use Rattle.gql_coerce.specs.Outcome.{Answers, mapped, all_of};
-ghost use Rattle.gql_coerce.specs.Subject.{subject_text};
-ghost use Rattle.gql_coerce.specs.Translation.{translated, translated_kind, whole_of, number_or, translated_member, signed_within, unsigned_within};
+ghost use Rattle.gql_coerce.specs.bridge.Subject.{subject_text};
+ghost use Rattle.gql_coerce.specs.Translation.{translated, translated_kind, whole_of, number_or, signed_within, unsigned_within};
+ghost use Rattle.gql_coerce.specs.bridge.Translation.{translated_member};
 
 use crate::fault::{CoercionFault, refuse, suspect};
 use crate::messages::{float_overflow, int_overflow, variable_in_default};

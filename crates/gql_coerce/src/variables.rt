@@ -1,7 +1,7 @@
 //! The values of an operation's variables (GraphQL October 2021, section 6.1.2).
 
 ghost use Rattle.gql_coerce.specs.Outcome.{Answers, told_as};
-ghost use Rattle.gql_coerce.specs.Told.{input_error};
+ghost use Rattle.gql_coerce.specs.bridge.Told.{input_error};
 ghost use Rattle.gql_coerce.specs.Variables.{coerced_variables, variable_value};
 
 use crate::fault::CoercionFault;

@@ -4,7 +4,7 @@ ghost use Rattle.std.specs.Prelude.{◌≡◌, IfSome};
 ghost use Rattle.std.specs.Option.{option_copied, option_map, option_and_then};
 ghost use Rattle.gql_coerce.specs.InputTypes.{as_input_object as input_object_of};
 ghost use Rattle.gql_ast_base.specs.TypeParts.{item_type as item_of};
-ghost use Rattle.gql_coerce.specs.Wanted.{IsFound};
+ghost use Rattle.gql_coerce.specs.bridge.Wanted.{IsFound};
 
 use crate::input_types::as_input_object;
 use gql_ast_base::TypeRef;

@@ -1,6 +1,7 @@
 -- A part whose nodes have changed, and a node whose parts have.
 use Rattle.std.proofs.Common.{rules, ◌≡◌, List}
-use Rattle.gql_collect.specs.Plan.{type_in, parts_in, field_in, nodes_in}
+use Rattle.gql_collect.specs.Plan.{field_in}
+use Rattle.gql_collect.specs.bridge.Plan.{type_in, parts_in, nodes_in}
 use Rattle.gql_collect.specs.declared.plan.Node.{Node, out-Node, roll-Node, the_lemmas}
 use Rattle.gql_collect.specs.declared.plan.Part.{Part, out-Part, roll-Part}
 

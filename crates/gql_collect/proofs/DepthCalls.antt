@@ -6,10 +6,12 @@ use Rattle.gql_document_types.specs.declared.fragment.Fragment.{Fragment}
 use Rattle.gql_document_types.specs.declared.selection.Field.{Field}
 use Rattle.gql_document_types.specs.declared.selection.InlineFragment.{InlineFragment}
 use Rattle.gql_document_types.specs.declared.selection.Selection.{Selection}
-use Rattle.gql_collect.specs.Check.{Memo, accept_all, total, unentered}
-use Rattle.gql_collect.specs.Checked.{Accepted, Refused, AcceptedOne, RefusedOne}
+use Rattle.gql_collect.specs.Check.{total}
+use Rattle.gql_collect.specs.bridge.Check.{Memo, accept_all, unentered}
+use Rattle.gql_collect.specs.bridge.Checked.{Accepted, Refused, AcceptedOne, RefusedOne}
 use Rattle.gql_collect.specs.Nested.{Nested, nothing, Fragments, Place, body_in, body_of}
-use Rattle.gql_collect.specs.View.{One, one_field, one_spread, one_inline, then_more, weight_of, one_of, field_of, inline_of, nested, body_nested, fragments_nested}
+use Rattle.gql_collect.specs.View.{One, one_field, one_spread, one_inline, then_more, weight_of, one_of, nested, body_nested, fragments_nested}
+use Rattle.gql_collect.specs.bridge.View.{field_of, inline_of}
 use Rattle.gql_collect.proofs.DepthFacts.{unentered-set}
 use Rattle.gql_collect.proofs.DepthSteps.{IsCheckedSoFar, check-one, check-end, check-refused, field-accepted, field-third, field-refused, spread-again, spread-third, spread-accepted, spread-refused, inline-accepted, inline-refused}
 use Rattle.gql_collect.proofs.Views.{view-inside, view-node, selections-item, fragment-defined}

@@ -1,9 +1,11 @@
 -- The depth check that remembers accepts exactly where the expanded depth is small, and looks at each selection once.
 use Rattle.std.proofs.Common.{arith, ◌≡◌, ℕ, zero, suc, ◌+◌, ◌<◌, ◌≤◌, max, List, [], ◌∷◌, length, set, replicate, ◌⊎◌, inl, inr, Option, Some, None, slice_get, refl, sym, ap, ◌∙◌, subst, lt_irrefl}
 use Rattle.std.proofs.lemmas.Bool.{cases_lt}
-use Rattle.gql_collect.specs.Nested.{Nested, nothing, field_then, spread_then, inline_then, Fragments, Place, body_of, IsBelow, AreRanked}
+use Rattle.gql_collect.specs.Nested.{Nested, nothing, field_then, spread_then, inline_then, Fragments, Place, body_of}
+use Rattle.gql_collect.specs.bridge.Nested.{IsBelow, AreRanked}
 use Rattle.gql_collect.specs.Expanded.{depth_with, fragment_depth, expanded_depth}
-use Rattle.gql_collect.specs.Check.{Memo, Accepts, accept_all, accept_field, accept_again, accept_into, accept_inline, Refuses, refuse_field, refuse_in_field, refuse_after_field, refuse_again, refuse_after_again, refuse_into, refuse_after_into, refuse_inline, refuse_after_inline, total, total_fragments, if_unentered, unentered}
+use Rattle.gql_collect.specs.Check.{total, total_fragments}
+use Rattle.gql_collect.specs.bridge.Check.{Memo, Accepts, accept_all, accept_field, accept_again, accept_into, accept_inline, Refuses, refuse_field, refuse_in_field, refuse_after_field, refuse_again, refuse_after_again, refuse_into, refuse_after_into, refuse_inline, refuse_after_inline, if_unentered, unentered}
 
 set-other : {A : Type 0} (m : List A) (f g : ℕ) (v : A) → (g ≡ f → ⊥) → slice_get (set m f v) g ≡ slice_get m g
 set-other [] f g v ne = refl

@@ -1,9 +1,9 @@
 -- How far a depth check has come, and a step of it.
 use Rattle.std.proofs.Common.{arith, ◌≡◌, ℕ, suc, ◌+◌, ◌<◌, ◌≤◌, max, Some, None, set, slice_get, refl, sym, subst}
 use Rattle.gql_collect.specs.Nested.{Nested, nothing, Fragments, Place, body_of}
-use Rattle.gql_collect.specs.Check.{Memo, Accepts, accept_all, accept_field, accept_again, accept_into, accept_inline, Refuses, refuse_field, refuse_in_field, refuse_after_field, refuse_again, refuse_after_again, refuse_into, refuse_after_into, refuse_inline, refuse_after_inline, unentered}
+use Rattle.gql_collect.specs.bridge.Check.{Memo, Accepts, accept_all, accept_field, accept_again, accept_into, accept_inline, Refuses, refuse_field, refuse_in_field, refuse_after_field, refuse_again, refuse_after_again, refuse_into, refuse_after_into, refuse_inline, refuse_after_inline, unentered}
 use Rattle.gql_collect.specs.View.{One, one_field, one_spread, one_inline, then_more}
-use Rattle.gql_collect.specs.Checked.{Accepted, Refused, AcceptedOne, RefusedOne}
+use Rattle.gql_collect.specs.bridge.Checked.{Accepted, Refused, AcceptedOne, RefusedOne}
 use Rattle.gql_collect.proofs.DepthFacts.{unentered-less}
 
 accepts_at : {fragments : Fragments} {c : ℕ} {m n : Memo} {s : Nested} (d e j k : ℕ) → d ≡ e → j ≡ k → Accepts fragments c m s d n j → Accepts fragments c m s e n k

@@ -16,7 +16,7 @@ use Rattle.gql_document_types.specs.Ranks.{AreRanked}
 use Rattle.gql_collect.specs.Same.{SameFirst}
 use Rattle.gql_collect.specs.Setting.{Setting}
 use Rattle.gql_collect.specs.Sizes.{size, fragments_size}
-use Rattle.gql_collect.specs.Walk.{number_of, WalksAll}
+use Rattle.gql_collect.specs.bridge.Walk.{number_of, WalksAll}
 use Rattle.gql_collect.proofs.Numbers.{AreBelow, shape_numbers, first-below, rest-below, when-below, below-all, contents-below, body-is, body-none, shape_own, own-shape, when-size, contents-size}
 use Rattle.gql_collect.proofs.WalkFacts.{IsFlat, flat_none, flat_on, AreFlat, none_flat, one_flat, collected_all, none-marked}
 

@@ -5,7 +5,7 @@ use Rattle.gql_document_types.specs.declared.selection.Selection.{Selection}
 use Rattle.gql_collect.specs.Flat.{when, body}
 use Rattle.gql_collect.specs.Kept.{is_kept}
 use Rattle.gql_collect.specs.Setting.{Setting}
-use Rattle.gql_collect.specs.Walk.{put_before, number_of, is_new, mark, IsEntered, IsFollowed}
+use Rattle.gql_collect.specs.bridge.Walk.{put_before, number_of, is_new, mark, IsEntered, IsFollowed}
 use Rattle.gql_collect.proofs.Numbers.{body-is}
 
 module _ (s : Setting) (it : FragmentSpread) (marks : List Bool) (left : List (List Selection)) where

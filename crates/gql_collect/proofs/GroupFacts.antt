@@ -11,7 +11,7 @@ use Rattle.gql_document_types.specs.declared.selection.Selection.{Selection}
 use Rattle.gql_schema_types.specs.declared.schema.Schema.{Schema}
 use Rattle.gql_schema_types.specs.declared.types.ObjectType.{ObjectType}
 use Rattle.gql_collect.specs.Flat.{flat_sets}
-use Rattle.gql_collect.specs.Grouping.{begun, added}
+use Rattle.gql_collect.specs.bridge.Grouping.{begun, added}
 use Rattle.gql_collect.specs.Groups.{response_key, has_key, distinct_after, keys, FieldGroup, group_at, groups_of, has_field, is_defined, applying, SameGroups, none_same, one_same}
 use Rattle.gql_collect.specs.Same.{SameFirst}
 use Rattle.gql_collect.specs.Setting.{Setting}

@@ -1,7 +1,7 @@
 -- Lists that grow while looks are counted.
 use Rattle.std.proofs.Common.{arith, ◌≡◌, ◌+◌, ◌*◌, inl, inr, ℕ, List, length, ap, subst}
 use Rattle.gql_collect.specs.Lists.{IsOneOf}
-use Rattle.gql_collect.specs.Ways.{Grows}
+use Rattle.gql_collect.specs.bridge.Ways.{Grows}
 
 module _ {W : Type 0} (most : ℕ) where
   pub grows-none : (before after : ℕ) (old new : ℕ → List W) (Holds : W → Type 0) → after ≡ before → ((n : ℕ) → new n ≡ old n) → Grows most before after old new Holds

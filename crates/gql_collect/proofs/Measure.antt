@@ -9,7 +9,7 @@ use Rattle.gql_collect.specs.Flat.{Shape, when, body}
 use Rattle.gql_collect.specs.Kept.{is_kept}
 use Rattle.gql_collect.specs.Setting.{Setting}
 use Rattle.gql_collect.specs.Sizes.{own, size, sets_size, outer_size, fragments_size}
-use Rattle.gql_collect.specs.Walk.{Walk, looks_at, put_before, number_of, is_followed, mark, marked, gone_into, with_first}
+use Rattle.gql_collect.specs.bridge.Walk.{Walk, looks_at, put_before, number_of, is_followed, mark, marked, gone_into, with_first}
 use Rattle.gql_collect.proofs.Numbers.{shape_own, own-shape, when-size}
 use Rattle.gql_collect.proofs.Unentered.{unentered, follow_less}
 

@@ -11,9 +11,10 @@ use Rattle.gql_collect.specs.Collected.{setting}
 use Rattle.gql_collect.specs.Grouping.{groups_seen}
 use Rattle.gql_collect.specs.Groups.{SameGroups, applying}
 use Rattle.gql_collect.specs.declared.group.Group.{Group}
-use Rattle.gql_collect.specs.Growth.{is_for, AreBegun, IsAdded}
+use Rattle.gql_collect.specs.bridge.Growth.{is_for, AreBegun, IsAdded}
 use Rattle.gql_collect.specs.Lists.{IsOneOf, AreApart}
-use Rattle.gql_collect.specs.Plan.{Ground, type_in, parts_in, group_in, nodes_in, names_in, fields_in, groups_in, groups_from, sets_below, IsTyped, IsWithin, IsPlanned, AreCollected, AreNodesTo, AreNodes, HaveNodes, ArePartsOf, IsNodeOf}
+use Rattle.gql_collect.specs.Plan.{group_in, fields_in, groups_in, groups_from}
+use Rattle.gql_collect.specs.bridge.Plan.{Ground, type_in, parts_in, nodes_in, names_in, sets_below, IsTyped, IsWithin, IsPlanned, AreCollected, AreNodesTo, AreNodes, HaveNodes, ArePartsOf, IsNodeOf}
 use Rattle.gql_collect.specs.declared.plan.Node.{Node}
 use Rattle.gql_collect.specs.declared.plan.Part.{Part}
 use Rattle.gql_collect.specs.declared.planned_field.PlannedField.{PlannedField}

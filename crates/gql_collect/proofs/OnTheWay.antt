@@ -7,7 +7,8 @@ use Rattle.gql_document_types.specs.declared.selection.Selection.{Selection, out
 use Rattle.gql_collect.specs.Flat.{field_of}
 use Rattle.gql_collect.specs.Setting.{Setting}
 use Rattle.gql_collect.specs.Sizes.{sets_size, outer_size, fragments_size}
-use Rattle.gql_collect.specs.Walk.{Walk, looks_at, lists_of, fields_of, walk_of, put_before, with_list, gone_into, with_selection, with_first, Walks, walked_all, walked_on, WalksAll, no_more, list_first}
+use Rattle.gql_collect.specs.Walk.{fields_of}
+use Rattle.gql_collect.specs.bridge.Walk.{Walk, looks_at, lists_of, walk_of, put_before, with_list, gone_into, with_selection, with_first, Walks, walked_all, walked_on, WalksAll, no_more, list_first}
 use Rattle.gql_collect.proofs.Measure.{left_over, weight, looks-within, unentered-within, first_looks, first_outer, first_less}
 
 module _ (s : Setting) where

@@ -9,12 +9,13 @@ use Rattle.gql_document_types.specs.declared.selection.Selection.{Selection, out
 use Rattle.gql_document_types.specs.declared.selection.Selection.TheOpen.{Selection-F}
 use Rattle.gql_collect.specs.Applies.{applies_if}
 use Rattle.gql_collect.specs.Flat.{Shape, when, body, field_of}
-use Rattle.gql_collect.specs.Grouping.{added, fields_in_groups}
+use Rattle.gql_collect.specs.Grouping.{fields_in_groups}
+use Rattle.gql_collect.specs.bridge.Grouping.{added}
 use Rattle.gql_collect.specs.Groups.{FieldGroup, groups_of, response_key}
 use Rattle.gql_collect.specs.Kept.{is_kept}
 use Rattle.gql_collect.specs.Setting.{Setting}
 use Rattle.gql_collect.specs.Standing.{fields_in, fields_in_all, fields_in_fragments, weighed, NoneMoreOften}
-use Rattle.gql_collect.specs.Walk.{number_of, is_followed, mark, marked, gone_into, Walks, walked_all, walked_on, WalksAll, no_more, list_first}
+use Rattle.gql_collect.specs.bridge.Walk.{number_of, is_followed, mark, marked, gone_into, Walks, walked_all, walked_on, WalksAll, no_more, list_first}
 use Rattle.gql_collect.proofs.GroupFacts.{groups-more}
 use Rattle.gql_collect.proofs.Standings.{weighed-append, inner, shape_inner, inner-none, inner-cons}
 use Rattle.gql_collect.proofs.Unentered.{unentered, when-count, follow_less}

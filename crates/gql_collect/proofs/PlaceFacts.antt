@@ -3,10 +3,11 @@ use Rattle.std.proofs.Common.{arith, rules, ◌≡◌, ℕ, zero, suc, ◌+◌, 
 use Rattle.std.specs.Option.{option_or}
 use Rattle.std.proofs.lemmas.Option.{slice_get-map}
 use Rattle.std.proofs.lemmas.List.Folds.{find-append}
-use Rattle.gql_collect.specs.Nested.{Nested, Fragments, Place, body_of, IsBelow, AreRanked}
+use Rattle.gql_collect.specs.Nested.{Nested, Fragments, Place, body_of}
+use Rattle.gql_collect.specs.bridge.Nested.{IsBelow, AreRanked}
 use Rattle.gql_collect.specs.DepthPlace.{Stop, Way, after, at_place, at_spread, way_with, enter_at, is_deep, depth_place}
 use Rattle.gql_collect.specs.Expanded.{depth_with, fragment_depth}
-use Rattle.gql_collect.specs.Check.{Memo, Accepts, accept_all, accept_field, accept_again, accept_into, accept_inline, Refuses, refuse_field, refuse_in_field, refuse_after_field, refuse_again, refuse_after_again, refuse_into, refuse_after_into, refuse_inline, refuse_after_inline}
+use Rattle.gql_collect.specs.bridge.Check.{Memo, Accepts, accept_all, accept_field, accept_again, accept_into, accept_inline, Refuses, refuse_field, refuse_in_field, refuse_after_field, refuse_again, refuse_after_again, refuse_into, refuse_after_into, refuse_inline, refuse_after_inline}
 use Rattle.gql_collect.proofs.DepthFacts.{Right, checked, right-inside, right-outside, depth-fixed, at-none, below_all}
 
 high-is_deep : (n : ℕ) → 3 ≤ n → leb 3 n ≡ true

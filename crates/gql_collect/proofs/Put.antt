@@ -8,7 +8,8 @@ use Rattle.std.proofs.lemmas.List.Quantifiers.{position-Some}
 use Rattle.gql_document_types.specs.declared.selection.Field.{Field}
 use Rattle.gql_schema_types.specs.Entries.{is_called, entry}
 use Rattle.gql_schema_types.proofs.Lookups.{place-texts, missing}
-use Rattle.gql_collect.specs.Grouping.{group_seen, groups_seen, key_name, key_texts, group_keys, begun, added, extended}
+use Rattle.gql_collect.specs.Grouping.{group_seen, groups_seen}
+use Rattle.gql_collect.specs.bridge.Grouping.{key_name, key_texts, group_keys, begun, added, extended}
 use Rattle.gql_collect.specs.Groups.{response_key, FieldGroup}
 use Rattle.gql_collect.specs.declared.group.Group.{Group}
 use Rattle.gql_collect.specs.declared.group.Key.{Key}

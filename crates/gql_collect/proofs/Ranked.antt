@@ -14,7 +14,8 @@ use Rattle.gql_document_types.specs.declared.selection.InlineFragment.{InlineFra
 use Rattle.gql_document_types.specs.declared.selection.Selection.{Selection, the_lemmas}
 use Rattle.gql_document_types.specs.declared.selection.Selection.TheVariants as selection
 use Rattle.gql_collect.specs.Check.{total}
-use Rattle.gql_collect.specs.Nested.{Nested, Place, body_in, IsBelow, AreRanked}
+use Rattle.gql_collect.specs.Nested.{Nested, Place, body_in}
+use Rattle.gql_collect.specs.bridge.Nested.{IsBelow, AreRanked}
 use Rattle.gql_collect.specs.View.{One, one_field, one_spread, one_inline, then_more, spread_of, number_of, one_of, nested, body_nested, fragments_nested}
 use Rattle.gql_document_types.proofs.Variants.{each}
 use Rattle.gql_collect.proofs.Views.{view-field, view-spread, view-inline, view-inside, view-node}

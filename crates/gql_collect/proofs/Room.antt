@@ -9,8 +9,9 @@ use Rattle.gql_collect.specs.Sizes.{fragments_size, size}
 use Rattle.gql_collect.specs.Standing.{NoneMoreOften, fields_in, fields_in_all, fields_in_fragments, weighed}
 use Rattle.gql_collect.specs.Walk.{fields_of}
 use Rattle.gql_collect.specs.declared.group.Group.{Group}
-use Rattle.gql_collect.specs.Plan.{sets_below}
-use Rattle.gql_collect.specs.Room.{HasRoom, all_selections, set_below, fields_down, fields_down_fragments}
+use Rattle.gql_collect.specs.bridge.Plan.{sets_below}
+use Rattle.gql_collect.specs.Room.{all_selections}
+use Rattle.gql_collect.specs.bridge.Room.{HasRoom, set_below, fields_down, fields_down_fragments}
 use Rattle.gql_collect.proofs.Totals.{size_below, down-total, down-fragments-total}
 use Rattle.gql_collect.proofs.Weights.{weighed-append, inner, down-level, down-fragments-level, below-size, below-fields}
 

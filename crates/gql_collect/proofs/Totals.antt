@@ -12,7 +12,7 @@ use Rattle.gql_collect.specs.Standing.{fields_in, weighed}
 use Rattle.gql_collect.proofs.Numbers.{own-field, own-spread, own-inline}
 use Rattle.gql_collect.proofs.Standings.{inner as weight_in, shape_inner, inner-none, inner-cons}
 use Rattle.gql_document_types.proofs.Variants.{out-field, out-spread, out-inline, each}
-use Rattle.gql_collect.specs.Room.{set_below, fields_down, fields_down_fragments}
+use Rattle.gql_collect.specs.bridge.Room.{set_below, fields_down, fields_down_fragments}
 use Rattle.gql_collect.proofs.Weights.{weighed-flat, weighed-most, weighed-append}
 
 total_one : One → ℕ

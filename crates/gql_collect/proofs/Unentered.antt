@@ -8,7 +8,7 @@ use Rattle.gql_collect.specs.Applies.{applies}
 use Rattle.gql_collect.specs.Flat.{when, contents, body}
 use Rattle.gql_collect.specs.Kept.{is_kept}
 use Rattle.gql_collect.specs.Setting.{Setting}
-use Rattle.gql_collect.specs.Walk.{number_of, is_new, is_followed, mark}
+use Rattle.gql_collect.specs.bridge.Walk.{number_of, is_new, is_followed, mark}
 use Rattle.gql_collect.proofs.Numbers.{body-is}
 
 pub new-mark : (s : Setting) (marks : List Bool) (f : ℕ) → is_new s marks (Some f) ≡ true → slice_get marks f ≡ Some false

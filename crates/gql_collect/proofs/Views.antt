@@ -8,7 +8,8 @@ use Rattle.gql_document_types.specs.declared.selection.FragmentSpread.{FragmentS
 use Rattle.gql_document_types.specs.declared.selection.InlineFragment.{InlineFragment}
 use Rattle.gql_document_types.specs.declared.selection.Selection.{Selection, the_lemmas}
 use Rattle.gql_document_types.specs.declared.selection.Selection.TheVariants as selection
-use Rattle.gql_collect.specs.View.{one_field, one_inline, then_more, spread_of, weight_of, number_of, one_of, field_of, inline_of, nested, body_nested, fragments_nested}
+use Rattle.gql_collect.specs.View.{one_field, one_inline, then_more, spread_of, weight_of, number_of, one_of, nested, body_nested, fragments_nested}
+use Rattle.gql_collect.specs.bridge.View.{field_of, inline_of}
 
 module _ (fragments : List Fragment) where
   pub view-field : (f : Field) → one_of fragments (selection.Field f) ≡ field_of fragments f

@@ -19,7 +19,7 @@ use Rattle.gql_collect.specs.Kept.{is_kept}
 use Rattle.gql_document_types.specs.Ranks.{AreRanked}
 use Rattle.gql_collect.specs.Same.{SameFirst}
 use Rattle.gql_collect.specs.Setting.{Setting}
-use Rattle.gql_collect.specs.Walk.{number_of, is_new, mark, marked, gone_into, Walks, walked_all, walked_on, WalksAll, no_more, list_first}
+use Rattle.gql_collect.specs.bridge.Walk.{number_of, is_new, mark, marked, gone_into, Walks, walked_all, walked_on, WalksAll, no_more, list_first}
 use Rattle.gql_collect.proofs.Numbers.{AreBelow, shape_numbers, first-below, rest-below, when-below, below-all, contents-below, body-is, body-none}
 use Rattle.gql_collect.proofs.SameFacts.{same-append, same-known, same-twice}
 use Rattle.gql_collect.proofs.Unentered.{new-mark}

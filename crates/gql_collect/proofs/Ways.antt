@@ -6,10 +6,11 @@ use Rattle.std.proofs.lemmas.List.{length-map}
 use Rattle.std.proofs.lemmas.List.Concat.{flat_map-append}
 use Rattle.gql_schema_types.specs.declared.types.ObjectType.{ObjectType}
 use Rattle.gql_collect.specs.Groups.{response_key}
-use Rattle.gql_collect.specs.Growth.{AreFresh}
+use Rattle.gql_collect.specs.bridge.Growth.{AreFresh}
 use Rattle.gql_collect.specs.Lists.{IsOneOf}
-use Rattle.gql_collect.specs.Plan.{nodes_in, parts_in, type_in}
-use Rattle.gql_collect.specs.Ways.{Way, Turn, key_in, part_ways, node_turns, turns_to, ways_to, Grows, TurnsTo}
+use Rattle.gql_collect.specs.bridge.Plan.{nodes_in, parts_in, type_in}
+use Rattle.gql_collect.specs.Ways.{Way}
+use Rattle.gql_collect.specs.bridge.Ways.{Turn, key_in, part_ways, node_turns, turns_to, ways_to, Grows, TurnsTo}
 use Rattle.gql_collect.specs.declared.plan.Node.{Node}
 use Rattle.gql_collect.specs.declared.plan.Part.{Part}
 use Rattle.gql_collect.specs.declared.planned_field.PlannedField.{PlannedField}

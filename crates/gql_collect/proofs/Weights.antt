@@ -6,7 +6,7 @@ use Rattle.gql_document_types.specs.declared.selection.Field.{Field}
 use Rattle.gql_document_types.specs.declared.selection.Selection.{Selection}
 use Rattle.gql_collect.specs.Sizes.{size, sets_size}
 use Rattle.gql_collect.specs.Standing.{fields_in, fields_in_all, fields_in_fragments, weighed}
-use Rattle.gql_collect.specs.Room.{set_below, fields_down, fields_down_fragments}
+use Rattle.gql_collect.specs.bridge.Room.{set_below, fields_down, fields_down_fragments}
 
 module _ (w : Field → ℕ) where
   pub weighed-append : (xs ys : List Field) → weighed w (xs ++ ys) ≡ weighed w xs + weighed w ys

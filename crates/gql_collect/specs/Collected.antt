@@ -8,13 +8,9 @@ use Rattle.gql_schema_types.specs.declared.schema.Schema.{Schema}
 use Rattle.gql_schema_types.specs.declared.types.ObjectType.{ObjectType}
 use Rattle.gql_collect.specs.Kept.{Variables}
 use Rattle.gql_collect.specs.Setting.{Setting}
-use Rattle.gql_collect.specs.declared.collecting.Collector.{Collector}
 
 abbrev pub setting : List Fragment → Schema → ObjectType → Variables → Setting
 setting fragments schema object variables = record { fragments = fragments; schema = schema; object = object; variables = variables }
-
-abbrev pub setting_of : Collector → Setting
-setting_of collector = setting collector.fragments.now collector.schema.now collector.object.now collector.variables.now
 
 abbrev pub sets_of : List (Bor SelectionSet) → List (List Selection)
 sets_of sets = map (λ (set : Bor SelectionSet). set.now.selections) sets

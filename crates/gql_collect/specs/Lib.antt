@@ -14,11 +14,10 @@ pub mod Expanded
 pub mod DepthPlace
 pub mod View
 pub mod Check
-pub mod Checked
 pub mod Refusal
 pub mod Lists
 pub mod Room
 pub mod Plan
-pub mod Growth
 pub mod Ways
 pub mod RequestErrors
+pub mod bridge

@@ -1,5 +1,5 @@
 -- Selections as far as their depth goes.
-use Rattle.std.specs.Prelude.{◌<◌, ◌≤◌, ℕ, List, length, Option, Some, None, slice_get}
+use Rattle.std.specs.Prelude.{ℕ, List, Option, Some, None, slice_get}
 use Rattle.gql_source.specs.Span.{Span}
 
 -- where a selection stands in a text
@@ -24,15 +24,3 @@ body_in (Some body) = body
 -- what a spread of a fragment stands for
 abbrev pub body_of : Fragments → ℕ → Nested
 body_of fragments f = body_in (slice_get fragments f)
-
--- each spread, at every depth, is of a fragment of a smaller rank
-abbrev pub IsBelow : (ℕ → ℕ) → ℕ → Nested → Type 0
-IsBelow rank r nothing = Unit {0}
-IsBelow rank r (field_then weight place within rest) = IsBelow rank r within × IsBelow rank r rest
-IsBelow rank r (spread_then f place rest) = (rank f < r) × IsBelow rank r rest
-IsBelow rank r (inline_then body rest) = IsBelow rank r body × IsBelow rank r rest
-
--- no fragment leads back to itself: each has a rank above those of the fragments that it spreads
-pub record AreRanked (fragments : Fragments) (rank : ℕ → ℕ) : Type 0 where
-  pub bodies : (f : ℕ) → IsBelow rank (rank f) (body_of fragments f)
-  pub bounded : (f : ℕ) → rank f ≤ length fragments

@@ -1,16 +1,7 @@
 -- A fault of coercion as the error of a request.
-use Rattle.std.specs.Prelude.{true, false}
 use Rattle.gql_coerce.specs.declared.fault.CoercionFault.{CoercionFault}
-use Rattle.gql_coerce.specs.declared.told.InputCoercionError.{InputCoercionError}
-use Rattle.gql_coerce.specs.declared.told.InputCoercionError.TheVariants.{SuspectedValidationBug, ValueError}
 use Rattle.gql_response.specs.declared.request_error.RequestError.{RequestError}
 
 -- with the same message, place and mark
 abbrev pub request_error : CoercionFault → RequestError
 request_error fault = record { message = fault.message; location = fault.location; is_suspected_validation_bug = fault.suspected }
-
--- ---- the same of a fault as callers of the coercion are told it
-
-abbrev pub error_told : InputCoercionError → RequestError
-error_told (SuspectedValidationBug message location) = record { message = message; location = location; is_suspected_validation_bug = true }
-error_told (ValueError message location) = record { message = message; location = location; is_suspected_validation_bug = false }

@@ -4,8 +4,6 @@ use Rattle.std.specs.Str.{bytes_eq}
 use Rattle.gql_ast_base.specs.Names.{Named}
 use Rattle.gql_document_types.specs.RootFields.{fragment_name}
 use Rattle.gql_document_types.specs.declared.fragment.Fragment.{Fragment}
-use Rattle.gql_document_types.specs.declared.selection.Field.{Field, fold-Field}
-use Rattle.gql_document_types.specs.declared.selection.InlineFragment.{InlineFragment, fold-InlineFragment}
 use Rattle.gql_document_types.specs.declared.selection.Selection.{Selection, fold-Selection}
 use Rattle.gql_document_types.specs.declared.selection.Selection.TheOpen.{Selection-F, Field-F, InlineFragment-F, SelectionSet-F}
 use Rattle.gql_collect.specs.Nested.{Nested, nothing, field_then, spread_then, inline_then, Fragments, Place}
@@ -65,12 +63,6 @@ module _ (fragments : List Fragment) where
 
   abbrev pub one_of : Selection → One
   one_of = fold-Selection One One One Nested selection_step field_step inline_step set_step
-
-  abbrev pub field_of : Field → One
-  field_of = fold-Field One One One Nested selection_step field_step inline_step set_step
-
-  abbrev pub inline_of : InlineFragment → One
-  inline_of = fold-InlineFragment One One One Nested selection_step field_step inline_step set_step
 
   abbrev pub nested : List Selection → Nested
   nested selections = joined (map one_of selections)

@@ -7,7 +7,9 @@ ghost use Rattle.gql_collect.specs.Same.{SameFirst};
 ghost use Rattle.gql_collect.specs.Sizes.{fragments_size, outer_size, sets_size};
 ghost use Rattle.gql_collect.specs.Standing.{NoneMoreOften, fields_in_all, fields_in_fragments};
 ghost use Rattle.gql_collect.specs.Walk as walk;
-ghost use Rattle.gql_collect.specs.Collected.{setting, setting_of, sets_of};
+ghost use Rattle.gql_collect.specs.bridge.Walk as walk_bridge;
+ghost use Rattle.gql_collect.specs.Collected.{setting, sets_of};
+ghost use Rattle.gql_collect.specs.bridge.Collected.{setting_of};
 
 use crate::applies::{applies, applies_if};
 use crate::directives::is_kept;
@@ -57,7 +59,7 @@ pub(crate) fn selected_fields<'d, L: Ledger>(
 
 /// The selections of these sets, the first one last.
 fn laid_aside<'d>(alloc: Global, pieces: &Pieces<'d>) -> Result<Listed<&'d [Selection]>, Memory>
-    ensures { IfOk result (λ pending. walk.lists_of pending ≡ sets_of pieces.now) }
+    ensures { IfOk result (λ pending. walk_bridge.lists_of pending ≡ sets_of pieces.now) }
 {
     let mut pending = Listed::new(alloc);
     for set in pieces.as_slice().iter().rev() {
@@ -84,10 +86,10 @@ impl<'d, 'v> Collector<'d, 'v> {
         marks: &mut [bool],
         steps: &mut Steps<L>,
     ) -> Result<Listed<&'d Field>, Memory>
-        ensures fields { IfOk result (λ fields. walk.WalksAll (setting_of self.now) marks.old (walk.lists_of pending.entry) (walk.fields_of fields)) }
-        ensures looks { steps.new ≤ steps.old + (sets_size (walk.lists_of pending.entry) + fragments_size self.now.fragments.now) }
+        ensures fields { IfOk result (λ fields. walk_bridge.WalksAll (setting_of self.now) marks.old (walk_bridge.lists_of pending.entry) (walk.fields_of fields)) }
+        ensures looks { steps.new ≤ steps.old + (sets_size (walk_bridge.lists_of pending.entry) + fragments_size self.now.fragments.now) }
         ensures rises { steps.old ≤ steps.new }
-        ensures counted { OnOk result (steps.old + outer_size (walk.lists_of pending.entry) ≤ steps.new) }
+        ensures counted { OnOk result (steps.old + outer_size (walk_bridge.lists_of pending.entry) ≤ steps.new) }
     {
         let mut fields = Listed::new(alloc);
         while let Some(list) = pending.pop() {
@@ -105,8 +107,8 @@ impl<'d, 'v> Collector<'d, 'v> {
         fields: &mut Listed<&'d Field>,
         steps: &mut Steps<L>,
     ) -> Result<(), Memory>
-        ensures walk { OnOk result (walk.walk_of marks.new pending.new fields.new ≡ walk.with_first (setting_of self.now) selections.now (walk.walk_of marks.old pending.old fields.old)) }
-        ensures looks { steps.new ≡ steps.old + walk.looks_at selections.now }
+        ensures walk { OnOk result (walk_bridge.walk_of marks.new pending.new fields.new ≡ walk_bridge.with_first (setting_of self.now) selections.now (walk_bridge.walk_of marks.old pending.old fields.old)) }
+        ensures looks { steps.new ≡ steps.old + walk_bridge.looks_at selections.now }
     {
         match selections.split_first() {
             Some((first, others)) => {
@@ -126,7 +128,7 @@ impl<'d, 'v> Collector<'d, 'v> {
         pending: &mut Listed<&'d [Selection]>,
         fields: &mut Listed<&'d Field>,
     ) -> Result<(), Memory>
-        ensures { OnOk result (walk.walk_of marks.new pending.new fields.new ≡ walk.with_selection (setting_of self.now) selection.now (walk.walk_of marks.old pending.old fields.old)) }
+        ensures { OnOk result (walk_bridge.walk_of marks.new pending.new fields.new ≡ walk_bridge.with_selection (setting_of self.now) selection.now (walk_bridge.walk_of marks.old pending.old fields.old)) }
     {
         match selection {
             Selection::Field(field) => self.note_field(field, fields),
@@ -137,7 +139,7 @@ impl<'d, 'v> Collector<'d, 'v> {
 
     /// Notes a field that is kept.
     fn note_field(&self, field: &'d Field, fields: &mut Listed<&'d Field>) -> Result<(), Memory>
-        ensures { OnOk result (walk.fields_of fields.new ≡ walk.with_field (setting_of self.now) field.now (walk.fields_of fields.old)) }
+        ensures { OnOk result (walk.fields_of fields.new ≡ walk_bridge.with_field (setting_of self.now) field.now (walk.fields_of fields.old)) }
     {
         if is_kept(self.variables, field.directives.as_slice()) {
             fields.push(field)
@@ -152,7 +154,7 @@ impl<'d, 'v> Collector<'d, 'v> {
         fragment: &'d InlineFragment,
         pending: &mut Listed<&'d [Selection]>,
     ) -> Result<(), Memory>
-        ensures { OnOk result (walk.lists_of pending.new ≡ walk.with_inline (setting_of self.now) fragment.now (walk.lists_of pending.old)) }
+        ensures { OnOk result (walk_bridge.lists_of pending.new ≡ walk_bridge.with_inline (setting_of self.now) fragment.now (walk_bridge.lists_of pending.old)) }
     {
         if is_kept(self.variables, fragment.directives.as_slice())
             && applies_if(&self.schema.types, self.object, &fragment.type_condition)
@@ -170,7 +172,7 @@ impl<'d, 'v> Collector<'d, 'v> {
         marks: &mut [bool],
         pending: &mut Listed<&'d [Selection]>,
     ) -> Result<(), Memory>
-        ensures { OnOk result (walk.IsFollowed (setting_of self.now) spread.now marks.old (walk.lists_of pending.old) marks.new (walk.lists_of pending.new)) }
+        ensures { OnOk result (walk_bridge.IsFollowed (setting_of self.now) spread.now marks.old (walk_bridge.lists_of pending.old) marks.new (walk_bridge.lists_of pending.new)) }
     {
         if !is_kept(self.variables, spread.directives.as_slice()) {
             return Ok(());
@@ -188,7 +190,7 @@ impl<'d, 'v> Collector<'d, 'v> {
         marks: &mut [bool],
         pending: &mut Listed<&'d [Selection]>,
     ) -> Result<(), Memory>
-        ensures { OnOk result (walk.IsEntered (setting_of self.now) number marks.old (walk.lists_of pending.old) marks.new (walk.lists_of pending.new)) }
+        ensures { OnOk result (walk_bridge.IsEntered (setting_of self.now) number marks.old (walk_bridge.lists_of pending.old) marks.new (walk_bridge.lists_of pending.new)) }
     {
         match marks.get(number) {
             Some(false) => {
@@ -201,7 +203,7 @@ impl<'d, 'v> Collector<'d, 'v> {
 
     /// Goes on to what is inside the fragment of the number, if it applies.
     fn go_inside(&self, number: usize, pending: &mut Listed<&'d [Selection]>) -> Result<(), Memory>
-        ensures { OnOk result (walk.lists_of pending.new ≡ walk.with_contents (setting_of self.now) number (walk.lists_of pending.old)) }
+        ensures { OnOk result (walk_bridge.lists_of pending.new ≡ walk_bridge.with_contents (setting_of self.now) number (walk_bridge.lists_of pending.old)) }
     {
         match self.fragments.at(number) {
             Some(fragment)
@@ -220,7 +222,7 @@ fn lay_aside<'d>(
     selections: &'d [Selection],
     pending: &mut Listed<&'d [Selection]>,
 ) -> Result<(), Memory>
-    ensures { OnOk result (walk.lists_of pending.new ≡ walk.put_before selections.now (walk.lists_of pending.old)) }
+    ensures { OnOk result (walk_bridge.lists_of pending.new ≡ walk_bridge.put_before selections.now (walk_bridge.lists_of pending.old)) }
 {
     if selections.is_empty() {
         return Ok(());

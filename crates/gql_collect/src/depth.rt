@@ -1,8 +1,9 @@
 //! A walk through selections that enters each fragment once and remembers its depth.
 
 ghost use Rattle.std.specs.Prelude.{◌≡◌, ◌<◌, length, MatchResult};
-ghost use Rattle.gql_collect.specs.Checked.{Accepted, AcceptedOne, Refused, RefusedOne};
-ghost use Rattle.gql_collect.specs.View.{field_of, fragments_nested, inline_of, nested, number_of, one_of, one_spread, spread_of, weight_of};
+ghost use Rattle.gql_collect.specs.bridge.Checked.{Accepted, AcceptedOne, Refused, RefusedOne};
+ghost use Rattle.gql_collect.specs.View.{fragments_nested, nested, number_of, one_of, one_spread, spread_of, weight_of};
+ghost use Rattle.gql_collect.specs.bridge.View.{field_of, inline_of};
 
 use crate::steps::Steps;
 use gql_document_types::{Field, Fragment, FragmentSpread, InlineFragment, Selection};

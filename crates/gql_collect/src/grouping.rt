@@ -5,6 +5,7 @@ ghost use Rattle.std.specs.List.{filter};
 ghost use Rattle.gql_schema_types.specs.Entries.{entry};
 ghost use Rattle.gql_collect.specs.Collected.{setting, sets_of};
 ghost use Rattle.gql_collect.specs.Grouping as step;
+ghost use Rattle.gql_collect.specs.bridge.Grouping as step_bridge;
 ghost use Rattle.gql_collect.specs.Groups as spec;
 ghost use Rattle.gql_document_types.specs.Spreads.{AreAcyclic};
 ghost use Rattle.gql_collect.specs.Sizes.{fragments_size, outer_size, sets_size};
@@ -89,9 +90,9 @@ fn put<'d>(
     keys: &mut Table<Key<'d>>,
     groups: &mut Listed<Group<'d>>,
 ) -> Result<(), Memory>
-    requires { step.key_texts keys.old ≡ step.group_keys (step.groups_seen groups.old) }
-    ensures groups { OnOk result (step.groups_seen groups.new ≡ step.added (step.groups_seen groups.old) field.now) }
-    ensures keys { OnOk result (step.key_texts keys.new ≡ step.group_keys (step.groups_seen groups.new)) }
+    requires { step_bridge.key_texts keys.old ≡ step_bridge.group_keys (step.groups_seen groups.old) }
+    ensures groups { OnOk result (step.groups_seen groups.new ≡ step_bridge.added (step.groups_seen groups.old) field.now) }
+    ensures keys { OnOk result (step_bridge.key_texts keys.new ≡ step_bridge.group_keys (step.groups_seen groups.new)) }
 {
     match keys.find(response_name(field).as_str()) {
         Some(number) => extend(field, number, groups),
@@ -101,7 +102,7 @@ fn put<'d>(
 
 /// Puts a field last into the group of the number.
 fn extend<'d>(field: &'d Field, number: usize, groups: &mut Listed<Group<'d>>) -> Result<(), Memory>
-    ensures { OnOk result (groups.new ≡ step.extended groups.old number field.entry) }
+    ensures { OnOk result (groups.new ≡ step_bridge.extended groups.old number field.entry) }
 {
     match groups.get_mut(number) {
         Some(group) => group.fields.push(field),
@@ -116,9 +117,9 @@ fn begin<'d>(
     keys: &mut Table<Key<'d>>,
     groups: &mut Listed<Group<'d>>,
 ) -> Result<(), Memory>
-    requires { entry step.key_name (spec.response_key field.now) keys.old ≡ None }
-    ensures groups { OnOk result (step.groups_seen groups.new ≡ step.groups_seen groups.old ++ step.begun field.now ∷ []) }
-    ensures keys { OnOk result (step.key_texts keys.new ≡ step.key_texts keys.old ++ spec.response_key field.now ∷ []) }
+    requires { entry step_bridge.key_name (spec.response_key field.now) keys.old ≡ None }
+    ensures groups { OnOk result (step.groups_seen groups.new ≡ step.groups_seen groups.old ++ step_bridge.begun field.now ∷ []) }
+    ensures keys { OnOk result (step_bridge.key_texts keys.new ≡ step_bridge.key_texts keys.old ++ spec.response_key field.now ∷ []) }
 {
     note_key(keys, Key { field })?;
     let mut fields = Listed::new(alloc);
@@ -131,7 +132,7 @@ fn begin<'d>(
 
 /// Adds a key that is not there.
 fn note_key<'d>(keys: &mut Table<Key<'d>>, key: Key<'d>) -> Result<(), Memory>
-    requires { entry step.key_name (step.key_name key).text keys.old ≡ None }
+    requires { entry step_bridge.key_name (step_bridge.key_name key).text keys.old ≡ None }
     ensures { OnOk result (keys.new ≡ keys.old ++ key.entry ∷ []) }
 {
     match keys.insert_new(key) {

@@ -2,6 +2,7 @@
 
 ghost use Rattle.std.specs.Prelude.{◌≡◌, []};
 ghost use Rattle.gql_collect.specs.Plan as spec;
+ghost use Rattle.gql_collect.specs.bridge.Plan as spec_bridge;
 
 use crate::planned_field::PlannedField;
 use gql_schema_types::ObjectType;
@@ -42,8 +43,8 @@ impl Drop for Part<'_> {
 impl<'d> Node<'d> {
     /// The node of objects of this type, with these parts.
     pub(crate) fn new(object_type: &'d ObjectType, parts: Listed<Part<'d>>) -> Node<'d>
-        ensures typed { spec.type_in result ≡ object_type.now }
-        ensures parts { spec.parts_in result ≡ parts.entry }
+        ensures typed { spec_bridge.type_in result ≡ object_type.now }
+        ensures parts { spec_bridge.parts_in result ≡ parts.entry }
     {
         Node { object_type, parts }
     }
@@ -53,7 +54,7 @@ impl<'d> Part<'d> {
     /// The part of a field, with no nodes yet.
     pub(crate) fn new(alloc: Global, field: PlannedField<'d>) -> Part<'d>
         ensures field { spec.field_in result ≡ field.entry }
-        ensures nodes { spec.nodes_in result ≡ [] }
+        ensures nodes { spec_bridge.nodes_in result ≡ [] }
     {
         let nodes = Listed::new(alloc);
         Part { field, nodes }

@@ -1,7 +1,7 @@
 //! What the objects of one type ask by a group: a definition and arguments, which are the same for each of them.
 
 ghost use Rattle.std.specs.Prelude.{◌≡◌, IfOk, IfSome};
-ghost use Rattle.gql_collect.specs.Plan as spec;
+ghost use Rattle.gql_collect.specs.bridge.Plan as spec;
 
 use crate::group::Group;
 use crate::kept_arguments::are_kept;

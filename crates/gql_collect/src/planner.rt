@@ -5,9 +5,9 @@ ghost use Rattle.std.specs.List.{position};
 ghost use Rattle.gql_collect.specs.Collected.{sets_of};
 ghost use Rattle.gql_document_types.specs.Ranks.{AreRanked};
 ghost use Rattle.gql_collect.specs.Sizes.{outer_size};
-ghost use Rattle.gql_collect.specs.Growth as growth;
-ghost use Rattle.gql_collect.specs.Plan as spec;
-ghost use Rattle.gql_collect.specs.Ways.{Grows, turns_to};
+ghost use Rattle.gql_collect.specs.bridge.Growth as growth;
+ghost use Rattle.gql_collect.specs.bridge.Plan as spec;
+ghost use Rattle.gql_collect.specs.bridge.Ways.{Grows, turns_to};
 
 use crate::group::Group;
 use crate::grouping::collect_fields;

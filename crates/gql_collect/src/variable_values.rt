@@ -2,9 +2,10 @@
 
 ghost use Rattle.std.specs.Prelude.{◌≡◌};
 ghost use Rattle.gql_coerce.specs.Outcome.{Answers, Outcome, told_as};
-ghost use Rattle.gql_coerce.specs.Told.{input_error};
+ghost use Rattle.gql_coerce.specs.bridge.Told.{input_error};
 ghost use Rattle.gql_coerce.specs.Variables.{coerced_variables};
-ghost use Rattle.gql_collect.specs.RequestErrors.{request_error as error_of, error_told};
+ghost use Rattle.gql_collect.specs.RequestErrors.{request_error as error_of};
+ghost use Rattle.gql_collect.specs.bridge.RequestErrors.{error_told};
 
 use gql_coerce::{InputCoercionError, coerce_variables};
 use gql_document_types::Operation;

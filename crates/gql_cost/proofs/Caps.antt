@@ -1,7 +1,7 @@
 -- Numbers up to a most: sums and products of them.
 use Rattle.std.proofs.Common.{arith, ◌≡◌, ℕ, zero, suc, ◌+◌, ◌*◌, ap, ◌∙◌, inl, inr, mul-le-mul_left, suc-mul}
 use Rattle.std.specs.Prelude.{◌⊎◌}
-use Rattle.gql_cost.specs.Walked.{IsCapped}
+use Rattle.gql_cost.specs.bridge.Walked.{IsCapped}
 
 module _ (most : ℕ) where
   pub capped-sum : (n m a b k : ℕ) → IsCapped most n a → IsCapped most m b → IsCapped most (a + b) k → IsCapped most (n + m) k

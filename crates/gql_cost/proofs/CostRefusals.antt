@@ -4,7 +4,8 @@ use Rattle.gql_engine.specs.Depths.{all_selections, depth_looks}
 use Rattle.gql_engine.specs.Ready.{Ready}
 use Rattle.gql_engine.specs.Wanted.{Wanted}
 use Rattle.gql_engine.specs.declared.answer_error.AnswerError.TheVariants as error
-use Rattle.gql_cost.specs.Costing.{IsAboveLimit, IsForMemory}
+use Rattle.gql_cost.specs.Costing.{IsAboveLimit}
+use Rattle.gql_cost.specs.bridge.Costing.{IsForMemory}
 use Rattle.gql_cost.specs.Limited.{HasLimitedCauseOf, IsUnexecuted}
 use Rattle.gql_cost.specs.ReachedNodes.{cost_of}
 use Rattle.gql_cost.specs.declared.cost_limit.CostLimit.{CostLimit}

@@ -24,7 +24,8 @@ use Rattle.gql_cost.specs.Even.{AreEven}
 use Rattle.gql_cost.specs.HasNodes.{HasNodes}
 use Rattle.gql_cost.specs.Nodes.{nodes}
 use Rattle.gql_cost.specs.Short.{AreShort}
-use Rattle.gql_cost.specs.Sum.{fragment_most, sets_sum, cost}
+use Rattle.gql_cost.specs.Sum.{fragment_most, cost}
+use Rattle.gql_cost.specs.bridge.Sum.{sets_sum}
 use Rattle.gql_cost.proofs.Bound.{nodes-bounded}
 use Rattle.gql_cost.proofs.Fixed.{most-fixed}
 use Rattle.gql_cost.proofs.Rooms.{has-room}

@@ -17,7 +17,8 @@ use Rattle.gql_engine.specs.declared.output.Output.TheVariants.{Done}
 use Rattle.gql_cost.specs.Command.{Refuses}
 use Rattle.gql_cost.specs.Limited.{AnsweredWithin, HasLimitedCauseOf}
 use Rattle.gql_cost.specs.Program.{CountedAnswers}
-use Rattle.gql_cost.specs.Told.{IsLimitedLine, IsLimitedTold}
+use Rattle.gql_cost.specs.Told.{IsLimitedTold}
+use Rattle.gql_cost.specs.bridge.Told.{IsLimitedLine}
 use Rattle.gql_cost.specs.declared.cost_limit.CostLimit.{CostLimit}
 use Rattle.gql_cost.specs.declared.limited_error.LimitedError.{LimitedError}
 use Rattle.gql_cost.specs.declared.limited_error.LimitedError.TheVariants.{Answer}

@@ -16,7 +16,8 @@ use Rattle.gql_schema_types.specs.declared.types.ObjectType.{ObjectType}
 use Rattle.gql_valid_laws.specs.Covariant.{lists_in}
 use Rattle.gql_cost.specs.Even.{IsEvenGroup, IsEven}
 use Rattle.gql_cost.specs.Size.{size}
-use Rattle.gql_cost.specs.Sum.{sum_with, sets_sum}
+use Rattle.gql_cost.specs.Sum.{sum_with}
+use Rattle.gql_cost.specs.bridge.Sum.{sets_sum}
 use Rattle.gql_cost.proofs.Bound.{field_size, HasRoom}
 use Rattle.gql_cost.proofs.Groups.{HasSome, IsHeaded, all-headed, group_weight, groups-weigh, added-filter}
 use Rattle.gql_cost.proofs.Sizes.{tower, size-tower, tower-add}

@@ -10,7 +10,7 @@ use Rattle.gql_document_types.proofs.Views.{count-field, count-spread, count-inl
 use Rattle.gql_document_types.specs.Count.{count, count_one}
 use Rattle.gql_document_types.specs.declared.fragment.Fragment.{Fragment}
 use Rattle.gql_document_types.specs.declared.selection.Selection.{Selection}
-use Rattle.gql_cost.specs.Walked.{fragments_count}
+use Rattle.gql_cost.specs.bridge.Walked.{fragments_count}
 
 counts-some : (s : Selection) → 1 ≤ count_one s
 counts-some s = each (λ s. 1 ≤ count_one s) (λ f. omega (arith, count-field f)) (λ p. omega (arith, count-spread p)) (λ i. omega (arith, count-inline i)) s

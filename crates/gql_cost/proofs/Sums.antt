@@ -17,7 +17,8 @@ use Rattle.gql_collect.specs.Kept.{is_kept}
 use Rattle.gql_collect.specs.Setting.{Setting}
 use Rattle.gql_collect.specs.Standing.{weighed}
 use Rattle.gql_schema_types.specs.Entries.{entry}
-use Rattle.gql_cost.specs.Sum.{sum_one, sum_with, field_sum, sets_sum}
+use Rattle.gql_cost.specs.Sum.{sum_one, sum_with}
+use Rattle.gql_cost.specs.bridge.Sum.{field_sum, sets_sum}
 
 module _ (items : ℕ) (of : List ℕ → ℕ) where
   pub sum-field : (f : Field) → sum_one items of (selection.Field f) ≡ field_sum items of f

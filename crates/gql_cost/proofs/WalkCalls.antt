@@ -4,8 +4,8 @@ use Rattle.std.specs.Option.{option_map_or}
 use Rattle.gql_document_types.proofs.Counts.{count-defined, entry-there, one-field}
 use Rattle.gql_document_types.proofs.Views.{count-field}
 use Rattle.gql_document_types.specs.Count.{count, count_one}
-use Rattle.gql_document_types.specs.Counted.{one_count, field_count}
-use Rattle.gql_document_types.specs.Expanded.{expanded_field}
+use Rattle.gql_document_types.specs.bridge.Counted.{one_count, field_count}
+use Rattle.gql_document_types.specs.bridge.Expanded.{expanded_field}
 use Rattle.gql_document_types.specs.RootFields.{fragment_name}
 use Rattle.gql_document_types.specs.declared.fragment.Fragment.{Fragment}
 use Rattle.gql_document_types.specs.declared.selection.Field.{Field}
@@ -14,8 +14,9 @@ use Rattle.gql_document_types.specs.declared.selection.Selection.TheVariants as 
 use Rattle.gql_schema_types.proofs.Lookups.{found, missing}
 use Rattle.gql_schema_types.specs.Entries.{is_called}
 use Rattle.gql_cost.proofs.Sums.{sum-field}
-use Rattle.gql_cost.specs.Sum.{sum, sum_one, field_sum, fragment_most}
-use Rattle.gql_cost.specs.Walked.{IsCapped, HaveSums, AreRight, Walked, sum_at, WalkedOne, WalkedField, WalkedFragment, WalkedSpread}
+use Rattle.gql_cost.specs.Sum.{sum, sum_one, fragment_most}
+use Rattle.gql_cost.specs.bridge.Sum.{field_sum}
+use Rattle.gql_cost.specs.bridge.Walked.{IsCapped, HaveSums, AreRight, Walked, sum_at, WalkedOne, WalkedField, WalkedFragment, WalkedSpread}
 
 -- one field counts itself and what is inside it
 count-single : (field : Field) → count (selection.Field field ∷ []) ≡ 1 + count field.selection_set.selections

@@ -6,12 +6,12 @@ use Rattle.std.proofs.lemmas.List.{length-replicate}
 use Rattle.gql_document_types.proofs.Counts.{drop-item, count-inside, item-less}
 use Rattle.gql_document_types.specs.Contents.{HaveContents}
 use Rattle.gql_document_types.specs.Count.{count}
-use Rattle.gql_document_types.specs.Counted.{count_at}
+use Rattle.gql_document_types.specs.bridge.Counted.{count_at}
 use Rattle.gql_document_types.specs.Expanded.{expanded}
 use Rattle.gql_document_types.specs.declared.fragment.Fragment.{Fragment}
 use Rattle.gql_document_types.specs.declared.selection.Selection.{Selection}
 use Rattle.gql_cost.specs.Sum.{sum, sum_one, fragment_most}
-use Rattle.gql_cost.specs.Walked.{IsCapped, waits, waiting, fragments_count, AreRight, Walked, sum_at, WalkedAll, WalkedOne}
+use Rattle.gql_cost.specs.bridge.Walked.{IsCapped, waits, waiting, fragments_count, AreRight, Walked, sum_at, WalkedAll, WalkedOne}
 use Rattle.gql_cost.proofs.Caps.{capped-sum}
 
 -- ---- lists that are written

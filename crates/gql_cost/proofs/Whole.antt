@@ -8,7 +8,7 @@ use Rattle.gql_collect.specs.Room.{all_selections}
 use Rattle.gql_graph.specs.Ranks.{IsRanked}
 use Rattle.gql_cost.proofs.Fixed.{most-fixed}
 use Rattle.gql_cost.specs.Sum.{sum, cost}
-use Rattle.gql_cost.specs.Walked.{HaveSums, WalkedAll}
+use Rattle.gql_cost.specs.bridge.Walked.{HaveSums, WalkedAll}
 use Rattle.gql_cost.proofs.Selections.{all-total}
 use Rattle.gql_cost.proofs.Walks.{below-most, waiting-start}
 

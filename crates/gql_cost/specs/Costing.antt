@@ -1,5 +1,5 @@
 -- When a cost is refused. Want of memory alone is free.
-use Rattle.std.specs.Prelude.{◌≡◌, ◌<◌, ℕ}
+use Rattle.std.specs.Prelude.{◌<◌, ℕ}
 use Rattle.gql_engine.specs.declared.answer_error.AnswerError.TheVariants as error
 use Rattle.gql_cost.specs.declared.limited_error.LimitedError.{LimitedError}
 use Rattle.gql_cost.specs.declared.limited_error.LimitedError.TheVariants.{Answer, TooCostly}
@@ -9,6 +9,3 @@ abbrev pub IsAboveLimit : ℕ → ℕ → LimitedError → Type 0
 IsAboveLimit most cost TooCostly = most < cost
 IsAboveLimit most cost (Answer error.Memory) = Unit {0}
 IsAboveLimit most cost (Answer refusal) = ⊥
-
-abbrev pub IsForMemory : LimitedError → Type 0
-IsForMemory refusal = refusal ≡ Answer error.Memory

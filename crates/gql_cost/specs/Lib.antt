@@ -4,7 +4,6 @@ pub mod Nodes
 pub mod Short
 pub mod HasNodes
 pub mod Even
-pub mod Walked
 pub mod Refusal
 pub mod Examples
 pub mod Words
@@ -14,3 +13,4 @@ pub mod Limited
 pub mod Told
 pub mod Command
 pub mod Program
+pub mod bridge

@@ -2,7 +2,6 @@
 use Rattle.std.specs.Prelude.{ℕ, zero, suc, ◌+◌, List, length, map}
 use Rattle.gql_document_types.specs.RootFields.{body}
 use Rattle.gql_document_types.specs.declared.fragment.Fragment.{Fragment}
-use Rattle.gql_document_types.specs.declared.selection.Field.{Field}
 use Rattle.gql_document_types.specs.declared.selection.Selection.{Selection, fold-Selection}
 use Rattle.gql_document_types.specs.declared.selection.Selection.TheOpen.{Selection-F, Field-F, InlineFragment-F, SelectionSet-F}
 use Rattle.gql_collect.specs.Sizes.{added}
@@ -30,14 +29,6 @@ module _ (items : ℕ) where
 
     abbrev pub sum_with : List Selection → ℕ
     sum_with selections = added (map sum_one selections)
-
-    -- a field with what is selected below it
-    abbrev pub field_sum : Field → ℕ
-    field_sum field = size items field.definition.ty (sum_with field.selection_set.selections)
-
-    -- several sets
-    abbrev pub sets_sum : List (List Selection) → ℕ
-    sets_sum sets = added (map sum_with sets)
 
   module _ (fragments : List Fragment) where
     -- of the fragment of a name, at most so many fragments inside one another; nothing where it is not defined

@@ -1,11 +1,8 @@
 -- What a client is told of a refusal: the errors of an object with errors alone (GraphQL October 2021, section 7.1.2).
-use Rattle.std.specs.Prelude.{◌≡◌, ℕ, List, [], ◌∷◌, Option, Some, codes}
+use Rattle.std.specs.Prelude.{ℕ, List, [], ◌∷◌, Option, Some, codes}
 use Rattle.gql_diag.specs.Refusal.{message_error}
 use Rattle.gql_response.specs.declared.graphql_error.GraphQLError.{GraphQLError}
-use Rattle.gql_engine.specs.Serving.{line}
 use Rattle.gql_engine.specs.Told.{IsJsonOf, errors_told}
-use Rattle.gql_engine.specs.declared.output.Output.{Output}
-use Rattle.gql_engine.specs.declared.output.Output.TheVariants.{Refused}
 use Rattle.gql_cost.specs.declared.limited_error.LimitedError.{LimitedError}
 use Rattle.gql_cost.specs.declared.limited_error.LimitedError.TheVariants.{Answer, TooCostly}
 
@@ -16,7 +13,3 @@ limited_errors TooCostly = Some (message_error (codes "cost above limit") ∷ []
 
 abbrev pub IsLimitedTold : LimitedError → List ℕ → Type 0
 IsLimitedTold refusal text = IsJsonOf (limited_errors refusal) text
-
--- the output is the line of that
-abbrev pub IsLimitedLine : LimitedError → Output → Type 0
-IsLimitedLine refusal output = (text : List ℕ) × IsLimitedTold refusal text × (output ≡ Refused (line text))

@@ -2,7 +2,7 @@
 
 ghost use Rattle.std.specs.Prelude.{◌≡◌, IfErr, IfOk};
 ghost use Rattle.gql_cost.specs.Limited.{AnsweredWithin, HasLimitedCauseOf};
-ghost use Rattle.gql_cost.specs.Told.{IsLimitedLine};
+ghost use Rattle.gql_cost.specs.bridge.Told.{IsLimitedLine};
 ghost use Rattle.gql_engine.specs.Reply.{root_of, wanted_of};
 ghost use Rattle.gql_engine.specs.Request.{asked_in};
 ghost use Rattle.gql_resolvers.specs.DataMeaning.{data_meaning};

@@ -1,7 +1,7 @@
 //! The response to what is wanted, within a limit.
 
 ghost use Rattle.std.specs.Prelude.{◌≤◌, ℕ, IfErr, IfOk};
-ghost use Rattle.gql_cost.specs.Costing.{IsForMemory};
+ghost use Rattle.gql_cost.specs.bridge.Costing.{IsForMemory};
 ghost use Rattle.gql_cost.specs.Limited.{AnsweredWithin, HasLimitedCauseOf, IsUnexecuted};
 ghost use Rattle.gql_cost.specs.Sum.{cost};
 ghost use Rattle.gql_engine.specs.Phases.{IsReady, IsReadyForSome};

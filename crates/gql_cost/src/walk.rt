@@ -2,7 +2,7 @@
 
 ghost use Rattle.std.specs.Prelude.{◌≡◌, ◌<◌, ◌≤◌, ◌+◌, ◌*◌, ℕ, suc, length};
 ghost use Rattle.gql_cost.specs.Size.{size};
-ghost use Rattle.gql_cost.specs.Walked.{AreRight, HaveSums, IsCapped, WalkedAll, WalkedField, WalkedFragment, WalkedInline, WalkedOne, WalkedSpread};
+ghost use Rattle.gql_cost.specs.bridge.Walked.{AreRight, HaveSums, IsCapped, WalkedAll, WalkedField, WalkedFragment, WalkedInline, WalkedOne, WalkedSpread};
 ghost use Rattle.gql_document_types.specs.Contents.{HaveContents};
 
 use gql_ast_base::TypeRef;

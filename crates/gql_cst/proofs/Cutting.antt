@@ -7,27 +7,28 @@ use Rattle.gql_grammar.specs.declared.rule.Rule.{Rule}
 use Rattle.gql_grammar.specs.declared.symbol.Symbol.{Symbol}
 use Rattle.gql_grammar.specs.declared.symbol.Symbol.TheVariants.{Token, One, Optional, Repeated, Eager, Wrap, Close}
 use Rattle.gql_grammar.specs.declared.syntax_kind.SyntaxKind.{SyntaxKind}
-use Rattle.gql_grammar.specs.Ends as stack_ends
-use Rattle.gql_grammar.specs.Ends.{Ends, symbol, close, closes}
+use Rattle.gql_grammar.specs.bridge.Ends as stack_ends
+use Rattle.gql_grammar.specs.bridge.Ends.{Ends, symbol, close, closes}
 use Rattle.gql_grammar.specs.Factored.{factored}
 use Rattle.gql_grammar.specs.Reads.{Reads, Sentence, done, wrap}
 use Rattle.gql_grammar.specs.Row as row
 use Rattle.gql_grammar.specs.Row.{Row, joined, with_node}
 use Rattle.gql_grammar.specs.Rule.{kind_of}
 use Rattle.gql_grammar.specs.Sentence as fits
-use Rattle.gql_grammar.specs.Stands.{way_at, rooted, around}
+use Rattle.gql_grammar.specs.bridge.Stands.{way_at, rooted, around}
 use Rattle.gql_grammar.specs.Starts.{begins}
 use Rattle.gql_grammar.proofs.Rooted.{closes-more, none_beginning}
 use Rattle.gql_grammar.proofs.Samples.{endable}
 use Rattle.gql_grammar.proofs.Turns.{Sentence-from}
 use Rattle.gql_cst.specs.Cut.{is_filled, Cuts, behind, IsCut}
 use Rattle.gql_cst.specs.Forest.{Plain}
-use Rattle.gql_cst.specs.Judged.{IsFilled}
+use Rattle.gql_cst.specs.bridge.Judged.{IsFilled}
 use Rattle.gql_cst.specs.Late.{is_late}
 use Rattle.gql_cst.specs.Leaves.{part_of}
-use Rattle.gql_cst.specs.Machine.{State, Turned, again, taken, refused, finished, Settles, takes_it, refuses_it, finishes, later, Begins, Judges, node_of, pushed, entered, enter, takes_at, turned_at, closed_in, ended, all_ended}
-use Rattle.gql_cst.specs.Sentences.{shown_of, root_kind, kind_or, empty, Stood}
-use Rattle.gql_cst.specs.Sound.{is_node, makes_node, IsSound}
+use Rattle.gql_cst.specs.bridge.Machine.{State, Turned, again, taken, refused, finished, Settles, takes_it, refuses_it, finishes, later, Begins, Judges, node_of, pushed, entered, enter, takes_at, turned_at, closed_in, ended, all_ended}
+use Rattle.gql_cst.specs.Sentences.{root_kind, kind_or}
+use Rattle.gql_cst.specs.bridge.Sentences.{shown_of, empty, Stood}
+use Rattle.gql_cst.specs.bridge.Sound.{is_node, makes_node, IsSound}
 use Rattle.gql_cst.proofs.Opening.{way_begins, begins-append, entered_begins, Goes, settles_goes}
 use Rattle.gql_cst.proofs.Cuts.{whole, Leads, then_leads, leads-node, makes_late, reads-leads, filled_node, reads-filled, up-leads}
 use Rattle.gql_cst.proofs.Deeper.{up}

@@ -6,7 +6,7 @@ use Rattle.gql_grammar.specs.declared.rule.Rule.{Rule}
 use Rattle.gql_grammar.specs.declared.symbol.Symbol.{Symbol}
 use Rattle.gql_grammar.specs.declared.symbol.Symbol.TheVariants.{Token, One, Optional, Repeated, Eager, Wrap, Close}
 use Rattle.gql_grammar.specs.declared.syntax_kind.SyntaxKind.{SyntaxKind}
-use Rattle.gql_grammar.specs.Ends.{Ends, end, symbol, close, closes}
+use Rattle.gql_grammar.specs.bridge.Ends.{Ends, end, symbol, close, closes}
 use Rattle.gql_grammar.specs.Factored.{factored}
 use Rattle.gql_grammar.specs.Grammar.{Grammar}
 use Rattle.gql_grammar.specs.Reads.{Reads, done, token, tree, group, skip, take, stop, again, leave, enter, wrap, Sentence}
@@ -16,10 +16,11 @@ use Rattle.gql_grammar.proofs.Turns.{Sentence-ends}
 use Rattle.gql_grammar.proofs.Rooted.{closes-more}
 use Rattle.gql_cst.specs.Forest.{Forest, nothing, tree_then, Plain, row_of}
 use Rattle.gql_cst.specs.Leaves.{Part, word, ignored, node, part_of}
-use Rattle.gql_cst.specs.Machine.{State, node_of, ended}
+use Rattle.gql_cst.specs.bridge.Machine.{State, node_of, ended}
 use Rattle.gql_cst.specs.Nesting.{within_node, nesting as depth_of}
-use Rattle.gql_cst.specs.Sentences.{row_then, shown, shown_of, root_kind, Stood}
-use Rattle.gql_cst.specs.Sound.{makes_node, IsSound}
+use Rattle.gql_cst.specs.Sentences.{row_then, shown, root_kind}
+use Rattle.gql_cst.specs.bridge.Sentences.{shown_of, Stood}
+use Rattle.gql_cst.specs.bridge.Sound.{makes_node, IsSound}
 use Rattle.gql_cst.proofs.Shown.{shown_of-append, shown_of-node}
 use Rattle.gql_cst.proofs.Ways.{both}
 

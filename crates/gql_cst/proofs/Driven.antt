@@ -5,17 +5,17 @@ use Rattle.gql_grammar.specs.declared.word.Word.{Word}
 use Rattle.gql_grammar.specs.declared.symbol.Symbol.{Symbol}
 use Rattle.gql_grammar.specs.declared.syntax_kind.SyntaxKind.{SyntaxKind}
 use Rattle.gql_grammar.specs.Row.{level}
-use Rattle.gql_grammar.specs.Turns.{turns}
+use Rattle.gql_grammar.specs.bridge.Turns.{turns}
 use Rattle.gql_cst.specs.declared.frame.Frame.{Frame}
 use Rattle.gql_cst.specs.declared.machine.Machine.{Machine}
 use Rattle.gql_cst.specs.declared.turn.Turn.{Turn}
 use Rattle.gql_cst.specs.Forest.{Plain}
-use Rattle.gql_cst.specs.Frames.{closing, stack_of, beginning, nodes_of, IsSame}
-use Rattle.gql_cst.specs.Held.{frames_of, Holds, Becomes, Goes, IsHeld}
+use Rattle.gql_cst.specs.bridge.Frames.{closing, stack_of, beginning, nodes_of, IsSame}
+use Rattle.gql_cst.specs.bridge.Held.{frames_of, Holds, Becomes, Goes, IsHeld}
 use Rattle.gql_cst.specs.Late.{is_late}
-use Rattle.gql_cst.specs.Lies.{Lies}
-use Rattle.gql_cst.specs.Machine.{State, Turned, again, pushed, opened, wrapped, turned_by, turned, Settles, later, told, grown}
-use Rattle.gql_cst.specs.Open.{Node, Open, opens, opened as begins, grown_by, token as token_of, ignored as ignored_of}
+use Rattle.gql_cst.specs.bridge.Lies.{Lies}
+use Rattle.gql_cst.specs.bridge.Machine.{State, Turned, again, pushed, opened, wrapped, turned_by, turned, Settles, later, told, grown}
+use Rattle.gql_cst.specs.bridge.Open.{Node, Open, opens, opened as begins, grown_by, token as token_of, ignored as ignored_of}
 use Rattle.gql_cst.proofs.Falls.{turns-fall}
 use Rattle.gql_cst.proofs.Frames.{some-node, reverse-pushed, turned-symbol, Wraps, Ends, lies-same, lies-pushed, lies-opened, lies-wrapped, lies-closed}
 

@@ -9,18 +9,19 @@ use Rattle.gql_grammar.specs.declared.rule.Rule.{Rule}
 use Rattle.gql_grammar.specs.declared.syntax_kind.SyntaxKind.TheVariants as kind
 use Rattle.gql_cst.specs.declared.turn.Turn.{Turn}
 use Rattle.gql_cst.specs.declared.turn.Turn.TheVariants as turn
-use Rattle.gql_cst.specs.Standing.{Standing}
+use Rattle.gql_cst.specs.bridge.Standing.{Standing}
 use Rattle.gql_cst.specs.Forest.{Plain, nothing}
 use Rattle.gql_grammar.specs.declared.syntax_kind.SyntaxKind.{SyntaxKind}
-use Rattle.gql_cst.specs.Leaves.{Part, word, ignored, node, part_of, Leaf, leaves_of, IsLeaf}
-use Rattle.gql_cst.specs.Nesting.{nesting_of}
+use Rattle.gql_cst.specs.Leaves.{Part, word, ignored, node, part_of, Leaf, IsLeaf}
+use Rattle.gql_cst.specs.bridge.Leaves.{leaves_of}
+use Rattle.gql_cst.specs.bridge.Nesting.{nesting_of}
 use Rattle.gql_grammar.specs.declared.symbol.Symbol.{Symbol}
 use Rattle.gql_grammar.specs.declared.symbol.Symbol.TheVariants.{Token, One, Optional, Repeated, Eager, Wrap, Close}
-use Rattle.gql_cst.specs.Machine.{State, Turned, closed_in, turned_at, Settles, takes_it, refuses_it, finishes, later, Judges, told, grown}
-use Rattle.gql_cst.specs.Sound.{is_node, IsSound}
+use Rattle.gql_cst.specs.bridge.Machine.{State, Turned, closed_in, turned_at, Settles, takes_it, refuses_it, finishes, later, Judges, told, grown}
+use Rattle.gql_cst.specs.bridge.Sound.{is_node, IsSound}
 use Rattle.gql_cst.specs.Spans.{Spans, AllSpanIn}
 use Rattle.gql_cst.specs.Outcome.{IsWithin}
-use Rattle.gql_cst.specs.Progress.{IsRead, IsUnderway, HasStopped, word_leaf}
+use Rattle.gql_cst.specs.bridge.Progress.{IsRead, IsUnderway, HasStopped, word_leaf}
 use Rattle.gql_cst.proofs.Rows.{nesting_of-append}
 use Rattle.gql_cst.proofs.Spans.{spans-append}
 use Rattle.gql_cst.proofs.Sounds.{Keeps, state_of, along, judges_keep, grown_keeps}

@@ -7,11 +7,11 @@ use Rattle.gql_grammar.specs.declared.symbol.Symbol.{Symbol}
 use Rattle.gql_grammar.specs.declared.symbol.Symbol.TheVariants.{Token, One, Optional, Repeated, Eager, Wrap, Close}
 use Rattle.gql_grammar.specs.declared.syntax_kind.SyntaxKind.{SyntaxKind}
 use Rattle.gql_grammar.specs.Rule.{kind_of}
-use Rattle.gql_grammar.specs.Stands.{way_at}
-use Rattle.gql_grammar.specs.Turns.{rank, turns}
+use Rattle.gql_grammar.specs.bridge.Stands.{way_at}
+use Rattle.gql_grammar.specs.bridge.Turns.{rank, turns}
 use Rattle.gql_grammar.proofs.Ranks.{turns-way}
 use Rattle.gql_cst.specs.Forest.{Plain}
-use Rattle.gql_cst.specs.Machine.{State, Turned, again, taken, refused, finished, entered, closed_in, enter, takes_at, turned_at, turned}
+use Rattle.gql_cst.specs.bridge.Machine.{State, Turned, again, taken, refused, finished, entered, closed_in, enter, takes_at, turned_at, turned}
 
 -- it is a further turn, and fewer than n are left then
 abbrev FewerThan : ℕ → Turned → Type 0

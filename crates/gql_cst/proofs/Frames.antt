@@ -9,15 +9,15 @@ use Rattle.gql_grammar.specs.declared.symbol.Symbol.{Symbol}
 use Rattle.gql_grammar.specs.declared.symbol.Symbol.TheVariants.{Close}
 use Rattle.gql_grammar.specs.declared.syntax_kind.SyntaxKind.{SyntaxKind}
 use Rattle.gql_grammar.specs.Row.{level}
-use Rattle.gql_grammar.specs.Stands.{way_at}
+use Rattle.gql_grammar.specs.bridge.Stands.{way_at}
 use Rattle.gql_cst.specs.declared.begun.Begun.{Begun}
 use Rattle.gql_cst.specs.declared.frame.Frame.{Frame}
 use Rattle.gql_cst.specs.Forest.{Plain}
-use Rattle.gql_cst.specs.Frames.{is_loose, closing, stack_of, beginning, nodes_of, is_first, is_framed, IsSame}
+use Rattle.gql_cst.specs.bridge.Frames.{is_loose, closing, stack_of, beginning, nodes_of, is_first, is_framed, IsSame}
 use Rattle.gql_cst.specs.Late.{is_late}
-use Rattle.gql_cst.specs.Lies.{Lies}
-use Rattle.gql_cst.specs.Machine.{State, again, node_of, pushed, opened, wrapped, closed_in, turned_by, turned_at, turned, ended, all_ended}
-use Rattle.gql_cst.specs.Open.{Node, Open, opens, opened as begins, grown_by, wrapped as wraps}
+use Rattle.gql_cst.specs.bridge.Lies.{Lies}
+use Rattle.gql_cst.specs.bridge.Machine.{State, again, node_of, pushed, opened, wrapped, closed_in, turned_by, turned_at, turned, ended, all_ended}
+use Rattle.gql_cst.specs.bridge.Open.{Node, Open, opens, opened as begins, grown_by, wrapped as wraps}
 use Rattle.gql_cst.proofs.Ways.{both, way_loose}
 use Rattle.gql_cst.proofs.Rows.{ended-loose}
 

@@ -10,7 +10,7 @@ use Rattle.gql_grammar.specs.declared.rule.Rule.TheVariants.{Document}
 use Rattle.gql_grammar.specs.declared.symbol.Symbol.{Symbol}
 use Rattle.gql_grammar.specs.declared.symbol.Symbol.TheVariants.{Token, One, Optional, Repeated, Eager, Wrap, Close}
 use Rattle.gql_grammar.specs.declared.syntax_kind.SyntaxKind.{SyntaxKind}
-use Rattle.gql_grammar.specs.Ends.{Ends, end, symbol, close, closes}
+use Rattle.gql_grammar.specs.bridge.Ends.{Ends, end, symbol, close, closes}
 use Rattle.gql_grammar.specs.Factored.{factored}
 use Rattle.gql_grammar.specs.Reads.{Reads, IsOneOf, here, there, done, token, tree, group, skip, take as take_rule, stop, again, leave, enter, wrap}
 use Rattle.gql_grammar.specs.Row as row
@@ -21,9 +21,10 @@ use Rattle.gql_cst.specs.Forest.{Plain}
 use Rattle.gql_cst.specs.Late.{is_late}
 use Rattle.gql_cst.specs.Leaves.{part_of}
 use Rattle.gql_cst.specs.Levels.{raised, levels, AreLevels}
-use Rattle.gql_cst.specs.Machine.{State, node_of, ended, all_ended}
-use Rattle.gql_cst.specs.Sentences.{shown_of, root_kind, Stood}
-use Rattle.gql_cst.specs.Sound.{is_node, makes_node, IsSound}
+use Rattle.gql_cst.specs.bridge.Machine.{State, node_of, ended, all_ended}
+use Rattle.gql_cst.specs.Sentences.{root_kind}
+use Rattle.gql_cst.specs.bridge.Sentences.{shown_of, Stood}
+use Rattle.gql_cst.specs.bridge.Sound.{is_node, makes_node, IsSound}
 use Rattle.gql_cst.proofs.Deeper.{up, length-map}
 use Rattle.gql_cst.proofs.Levels.{append_none, raised-append, raised-zero, levels-joined, around}
 use Rattle.gql_cst.proofs.Shown.{shown_of-append, shown_of-node}

@@ -1,7 +1,7 @@
 -- A parser goes on by a token, or ends.
 use Rattle.std.proofs.Common.{◌≡◌, ℕ, ◌+◌, ◌<◌, ◌≤◌, Bool, true, false, List, [], ◌∷◌, ◌++◌, length, Option, Some, None, is_some, refl, ◌∙◌, sym, ap, subst, arith}
 use Rattle.std.specs.declared.ops.Range.{Range}
-use Rattle.gql_lexer.specs.Reading.{Reading, ReadsError}
+use Rattle.gql_lexer.specs.bridge.Reading.{Reading, ReadsError}
 use Rattle.gql_lexer.specs.declared.error.CstError.{CstError}
 use Rattle.gql_lexer.specs.declared.error.CstError.TheVariants.{Syntax, RecursionLimit, TokenLimit}
 use Rattle.gql_lexer.specs.declared.error.SyntaxFault.TheVariants.{EndOfText, BadCharacter, OpenString, BadEscape, BadNumber, BadToken}
@@ -14,17 +14,19 @@ use Rattle.gql_cst.specs.declared.parser.Parser.{Parser}
 use Rattle.gql_cst.specs.declared.turn.Turn.{Turn}
 use Rattle.gql_cst.specs.declared.turn.Turn.TheVariants as turn
 use Rattle.gql_cst.specs.Forest.{Plain, row_of}
-use Rattle.gql_cst.specs.Going.{standing, IsGoing, IsCounted, HasEnded, SameText, told_of, IsMade}
-use Rattle.gql_cst.specs.Held.{Holds, Goes}
-use Rattle.gql_cst.specs.Judged.{word_in, IsStood}
+use Rattle.gql_cst.specs.bridge.Going.{standing, IsGoing, IsCounted, HasEnded, SameText, told_of, IsMade}
+use Rattle.gql_cst.specs.bridge.Held.{Holds, Goes}
+use Rattle.gql_cst.specs.Judged.{word_in}
+use Rattle.gql_cst.specs.bridge.Judged.{IsStood}
 use Rattle.gql_cst.specs.Leaves.{Part, ignored, IsLeaf}
-use Rattle.gql_cst.specs.Machine.{State, Judges, told, grown, all_ended}
-use Rattle.gql_cst.specs.Open.{Open, token as token_of, ignored as ignored_of, whole_text}
+use Rattle.gql_cst.specs.bridge.Machine.{State, Judges, told, grown, all_ended}
+use Rattle.gql_cst.specs.bridge.Open.{Open, token as token_of, ignored as ignored_of, whole_text}
 use Rattle.gql_cst.specs.Outcome.{IsWithin, Passes, Stops}
 use Rattle.gql_cst.specs.Parses.{Parses}
-use Rattle.gql_cst.specs.Progress.{IsRead, reached, trees, tokens_of, word_leaf}
-use Rattle.gql_cst.specs.Sentences.{root_kind, empty}
-use Rattle.gql_cst.specs.Standing.{Standing}
+use Rattle.gql_cst.specs.bridge.Progress.{IsRead, reached, trees, tokens_of, word_leaf}
+use Rattle.gql_cst.specs.Sentences.{root_kind}
+use Rattle.gql_cst.specs.bridge.Sentences.{empty}
+use Rattle.gql_cst.specs.bridge.Standing.{Standing}
 use Rattle.gql_cst.proofs.Ending.{limit_stops, limit_ends, bad_stops, takes_word, passes_ignored, moved_underway, moved_end, moved_cut}
 use Rattle.gql_cst.proofs.Held.{depth-held}
 use Rattle.gql_cst.proofs.Judging.{limit_judged, token_limit_judged, fault_judged, bad_judged, took_stands, ignored_stands, cut_judged, whole_judged}

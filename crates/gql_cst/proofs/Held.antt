@@ -1,10 +1,11 @@
 -- The tokens that are held when a reading goes on by a token.
 use Rattle.std.proofs.Common.{◌≡◌, ℕ, List, [], ◌∷◌, ◌++◌, refl, ◌∙◌, sym, ap, subst, append_assoc, arith}
 use Rattle.gql_cst.specs.Forest.{Plain}
-use Rattle.gql_cst.specs.Leaves.{Leaf, leaves_of, IsLeaf, Tiles}
-use Rattle.gql_cst.specs.Nesting.{nesting_of}
-use Rattle.gql_cst.specs.Machine.{State, all_ended, grown}
-use Rattle.gql_cst.specs.Sound.{IsSound}
+use Rattle.gql_cst.specs.Leaves.{Leaf, IsLeaf, Tiles}
+use Rattle.gql_cst.specs.bridge.Leaves.{leaves_of}
+use Rattle.gql_cst.specs.bridge.Nesting.{nesting_of}
+use Rattle.gql_cst.specs.bridge.Machine.{State, all_ended, grown}
+use Rattle.gql_cst.specs.bridge.Sound.{IsSound}
 use Rattle.gql_cst.proofs.Rows.{leaves_of-append, nesting_of-append}
 use Rattle.gql_cst.proofs.Sounds.{Keeps, leaves_of-grown}
 

@@ -5,7 +5,7 @@ use Rattle.std.specs.declared.ops.Range.{Range}
 use Rattle.gql_lexer.specs.declared.error.CstError.{CstError}
 use Rattle.gql_lexer.specs.declared.error.CstError.TheVariants.{Syntax, RecursionLimit, TokenLimit}
 use Rattle.gql_lexer.specs.declared.error.SyntaxFault.TheVariants.{EndOfText, BadCharacter, OpenString, BadEscape, BadNumber, BadToken}
-use Rattle.gql_lexer.specs.Reading.{Reading, ReadsError}
+use Rattle.gql_lexer.specs.bridge.Reading.{Reading, ReadsError}
 use Rattle.gql_grammar.specs.declared.word.Word.{Word}
 use Rattle.gql_grammar.specs.declared.rule.Rule.{Rule}
 use Rattle.gql_grammar.specs.declared.symbol.Symbol.{Symbol}
@@ -15,20 +15,23 @@ use Rattle.gql_grammar.specs.Reads.{Sentence, IsBeginning}
 use Rattle.gql_grammar.specs.Row as row
 use Rattle.gql_grammar.specs.Row.{Row, joined, with_leaf}
 use Rattle.gql_grammar.specs.Rule.{kind_of}
-use Rattle.gql_grammar.specs.Stands.{BetweenIn, way_at}
+use Rattle.gql_grammar.specs.bridge.Stands.{BetweenIn, way_at}
 use Rattle.gql_grammar.proofs.Unique.{Sentence-unique}
 use Rattle.gql_grammar.proofs.Rooted.{none_beginning, look_in, begun_in, accepted_in}
 use Rattle.gql_cst.specs.declared.turn.Turn.{Turn}
 use Rattle.gql_cst.specs.declared.turn.Turn.TheVariants as turn
-use Rattle.gql_cst.specs.Standing.{Standing}
+use Rattle.gql_cst.specs.bridge.Standing.{Standing}
 use Rattle.gql_cst.specs.Cut.{is_filled, IsCut}
 use Rattle.gql_cst.specs.Forest.{Plain, nothing}
-use Rattle.gql_cst.specs.Leaves.{Leaf, leaves_of}
-use Rattle.gql_cst.specs.Judged.{words_of, word_in, IsFilled, IsStood, IsJudged}
-use Rattle.gql_cst.specs.Machine.{State, Turned, again, taken, refused, finished, Settles, takes_it, refuses_it, finishes, later, Begins, Judges, told, ended, all_ended, grown}
-use Rattle.gql_cst.specs.Progress.{trees}
-use Rattle.gql_cst.specs.Sentences.{words, own_word, shown_of, root_kind, Stood}
-use Rattle.gql_cst.specs.Sound.{IsSound}
+use Rattle.gql_cst.specs.Leaves.{Leaf}
+use Rattle.gql_cst.specs.bridge.Leaves.{leaves_of}
+use Rattle.gql_cst.specs.Judged.{word_in}
+use Rattle.gql_cst.specs.bridge.Judged.{words_of, IsFilled, IsStood, IsJudged}
+use Rattle.gql_cst.specs.bridge.Machine.{State, Turned, again, taken, refused, finished, Settles, takes_it, refuses_it, finishes, later, Begins, Judges, told, ended, all_ended, grown}
+use Rattle.gql_cst.specs.bridge.Progress.{trees}
+use Rattle.gql_cst.specs.Sentences.{words, own_word, root_kind}
+use Rattle.gql_cst.specs.bridge.Sentences.{shown_of, Stood}
+use Rattle.gql_cst.specs.bridge.Sound.{IsSound}
 use Rattle.gql_cst.specs.Words.{word_of}
 use Rattle.gql_cst.proofs.Ending.{Moved, keeps_told}
 use Rattle.gql_cst.proofs.Held.{held, held-keeps, held-ignored, held-grown}

@@ -9,9 +9,9 @@ use Rattle.gql_grammar.specs.Row.{Row, level, joined}
 use Rattle.gql_cst.specs.Forest.{Plain}
 use Rattle.gql_cst.specs.Leaves.{part_of}
 use Rattle.gql_cst.specs.Levels.{raised, levels, greatest}
-use Rattle.gql_cst.specs.Machine.{node_of, ended}
-use Rattle.gql_cst.specs.Sentences.{shown_of}
-use Rattle.gql_cst.specs.Sound.{is_node, makes_node, depth}
+use Rattle.gql_cst.specs.bridge.Machine.{node_of, ended}
+use Rattle.gql_cst.specs.bridge.Sentences.{shown_of}
+use Rattle.gql_cst.specs.bridge.Sound.{is_node, makes_node, depth}
 use Rattle.gql_cst.proofs.Shown.{shown_of-append, shown_of-node}
 use Rattle.gql_cst.proofs.Ways.{both}
 

@@ -7,11 +7,11 @@ use Rattle.gql_cst.specs.declared.made.Made.{Made}
 use Rattle.gql_cst.specs.declared.tree.Tree.{Tree}
 use Rattle.gql_cst.specs.declared.trees.Trees.{Trees}
 use Rattle.gql_cst.specs.Forest.{Plain, plain}
-use Rattle.gql_cst.specs.Going.{IsMade}
-use Rattle.gql_cst.specs.Machine.{node_of}
-use Rattle.gql_cst.specs.Open.{whole_text}
+use Rattle.gql_cst.specs.bridge.Going.{IsMade}
+use Rattle.gql_cst.specs.bridge.Machine.{node_of}
+use Rattle.gql_cst.specs.bridge.Open.{whole_text}
 use Rattle.gql_cst.specs.Parses.{Reports}
-use Rattle.gql_cst.specs.Rowed.{Rowed, stand}
+use Rattle.gql_cst.specs.bridge.Rowed.{Rowed, stand}
 use Rattle.gql_cst.specs.Sentences.{root_kind}
 
 -- the row of the whole text is the list

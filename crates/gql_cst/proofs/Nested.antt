@@ -2,7 +2,7 @@
 use Rattle.std.proofs.Common.{◌≡◌, ℕ, ◌+◌, ◌<◌, ◌≤◌, ◌⊎◌, inl, inr, max, Bool, List, [], ◌∷◌, ◌++◌, length, Option, Some, None, refl, ◌∙◌, sym, ap, subst, arith, append_assoc, length-append}
 use Rattle.std.specs.declared.ops.Range.{Range}
 use Rattle.std.proofs.lemmas.Bool.{cases_lt}
-use Rattle.gql_lexer.specs.Reading.{Reading, ReadsError}
+use Rattle.gql_lexer.specs.bridge.Reading.{Reading, ReadsError}
 use Rattle.gql_lexer.specs.declared.error.CstError.{CstError}
 use Rattle.gql_lexer.specs.declared.error.CstError.TheVariants.{Syntax, RecursionLimit, TokenLimit}
 use Rattle.gql_lexer.specs.declared.error.SyntaxFault.TheVariants.{EndOfText, BadCharacter, OpenString, BadEscape, BadNumber, BadToken}
@@ -10,16 +10,18 @@ use Rattle.gql_grammar.specs.declared.word.Word.{Word}
 use Rattle.gql_grammar.specs.declared.syntax_kind.SyntaxKind.TheVariants as kind
 use Rattle.gql_grammar.specs.Row as row
 use Rattle.gql_grammar.specs.Row.{level}
-use Rattle.gql_cst.specs.Standing.{Standing}
+use Rattle.gql_cst.specs.bridge.Standing.{Standing}
 use Rattle.gql_cst.specs.declared.turn.Turn.{Turn}
 use Rattle.gql_cst.specs.declared.turn.Turn.TheVariants as turn
 use Rattle.gql_cst.specs.Forest.{Plain, nothing}
-use Rattle.gql_cst.specs.Judged.{words_of, word_in, IsStood}
+use Rattle.gql_cst.specs.Judged.{word_in}
+use Rattle.gql_cst.specs.bridge.Judged.{words_of, IsStood}
 use Rattle.gql_cst.specs.Levels.{raised, levels, greatest, AreLevels, PassesLast, PassesNoneBeforeLast, NestsTo}
-use Rattle.gql_cst.specs.Machine.{State, taken, Judges, told, ended, all_ended, grown}
-use Rattle.gql_cst.specs.Nested.{levels_of, IsNested, EndsNested}
-use Rattle.gql_cst.specs.Sentences.{words, shown_of, root_kind, empty}
-use Rattle.gql_cst.specs.Sound.{depth, IsSound}
+use Rattle.gql_cst.specs.bridge.Machine.{State, taken, Judges, told, ended, all_ended, grown}
+use Rattle.gql_cst.specs.bridge.Nested.{levels_of, IsNested, EndsNested}
+use Rattle.gql_cst.specs.Sentences.{words, root_kind}
+use Rattle.gql_cst.specs.bridge.Sentences.{shown_of, empty}
+use Rattle.gql_cst.specs.bridge.Sound.{depth, IsSound}
 use Rattle.gql_cst.proofs.Ending.{Moved, keeps_told, state_of-told, still_judges}
 use Rattle.gql_cst.proofs.Fronts.{stood_levels}
 use Rattle.gql_cst.proofs.Held.{held, held-keeps}

@@ -10,12 +10,12 @@ use Rattle.gql_grammar.specs.declared.syntax_kind.SyntaxKind.{SyntaxKind}
 use Rattle.gql_grammar.specs.Word.{takes}
 use Rattle.gql_grammar.specs.Rule.{kind_of}
 use Rattle.gql_grammar.specs.Starts.{starts, begins, chosen_way, way}
-use Rattle.gql_grammar.specs.Stands.{way_at}
+use Rattle.gql_grammar.specs.bridge.Stands.{way_at}
 use Rattle.gql_grammar.proofs.Words.{every, implies}
 use Rattle.gql_grammar.proofs.Ways.{implied}
 use Rattle.gql_grammar.proofs.Ways.{way-some}
 use Rattle.gql_cst.specs.Forest.{Plain}
-use Rattle.gql_cst.specs.Machine.{State, Turned, again, taken, refused, finished, pushed, entered, closed_in, enter, turned_at, Settles, takes_it, refuses_it, finishes, later, Begins, Judges}
+use Rattle.gql_cst.specs.bridge.Machine.{State, Turned, again, taken, refused, finished, pushed, entered, closed_in, enter, turned_at, Settles, takes_it, refuses_it, finishes, later, Begins, Judges}
 
 begins_ok : (r : Rule) → every (λ w. implies (starts r w) (begins (chosen_way r w) w)) ≡ true
 begins_ok Document = refl

@@ -12,11 +12,11 @@ use Rattle.gql_grammar.specs.Factored.{factored}
 use Rattle.gql_grammar.specs.Row.{level}
 use Rattle.gql_grammar.specs.Rule.{kind_of}
 use Rattle.gql_grammar.specs.Starts.{starts, begins, chosen, way}
-use Rattle.gql_grammar.specs.Stands.{way_at}
+use Rattle.gql_grammar.specs.bridge.Stands.{way_at}
 use Rattle.gql_grammar.specs.Word.{takes}
 use Rattle.gql_cst.specs.Forest.{Plain}
-use Rattle.gql_cst.specs.Machine.{State, Turned, again, taken, refused, finished, entered, pushed, closed_in, enter, turned_at, Settles, takes_it, refuses_it, finishes, later, Begins, Judges}
-use Rattle.gql_cst.specs.Sound.{IsSound}
+use Rattle.gql_cst.specs.bridge.Machine.{State, Turned, again, taken, refused, finished, entered, pushed, closed_in, enter, turned_at, Settles, takes_it, refuses_it, finishes, later, Begins, Judges}
+use Rattle.gql_cst.specs.bridge.Sound.{IsSound}
 use Rattle.gql_cst.proofs.Rows.{nesting_of-ended}
 use Rattle.gql_cst.proofs.Ways.{both}
 

@@ -5,9 +5,9 @@ use Rattle.gql_grammar.specs.declared.syntax_kind.SyntaxKind.{SyntaxKind}
 use Rattle.gql_cst.specs.declared.begun.Begun.{Begun}
 use Rattle.gql_cst.specs.declared.tree.Tree.{Tree}
 use Rattle.gql_cst.specs.Forest.{Plain, plain}
-use Rattle.gql_cst.specs.Machine.{node_of}
-use Rattle.gql_cst.specs.Open.{Open, opened, grown_by, wrapped}
-use Rattle.gql_cst.specs.Rowed.{gathered, Rowed}
+use Rattle.gql_cst.specs.bridge.Machine.{node_of}
+use Rattle.gql_cst.specs.bridge.Open.{Open, opened, grown_by, wrapped}
+use Rattle.gql_cst.specs.bridge.Rowed.{gathered, Rowed}
 
 pub gathered-items : (kind : SyntaxKind) (start : ℕ) (old kept new children : List Tree) (t : Tree)
     → new ≡ kept ++ (t ∷ []) → kept ≡ take start old → children ≡ drop start old → plain t ≡ node_of kind (map plain children)

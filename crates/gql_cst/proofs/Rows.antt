@@ -6,11 +6,13 @@ use Rattle.gql_grammar.specs.declared.symbol.Symbol.TheVariants.{Token, One, Opt
 use Rattle.gql_grammar.specs.declared.syntax_kind.SyntaxKind.{SyntaxKind}
 use Rattle.gql_grammar.specs.Row.{level}
 use Rattle.gql_cst.specs.Forest.{Plain}
-use Rattle.gql_cst.specs.Leaves.{Part, word, ignored, node, part_of, Leaf, own_leaf, leaves, leaves_of}
-use Rattle.gql_cst.specs.Nesting.{within_node, nesting_of}
-use Rattle.gql_cst.specs.Machine.{node_of, ended}
-use Rattle.gql_cst.specs.Sound.{is_node, makes_node, depth}
-use Rattle.gql_cst.specs.Frames.{is_loose}
+use Rattle.gql_cst.specs.Leaves.{Part, word, ignored, node, part_of, Leaf, own_leaf, leaves}
+use Rattle.gql_cst.specs.bridge.Leaves.{leaves_of}
+use Rattle.gql_cst.specs.Nesting.{within_node}
+use Rattle.gql_cst.specs.bridge.Nesting.{nesting_of}
+use Rattle.gql_cst.specs.bridge.Machine.{node_of, ended}
+use Rattle.gql_cst.specs.bridge.Sound.{is_node, makes_node, depth}
+use Rattle.gql_cst.specs.bridge.Frames.{is_loose}
 use Rattle.gql_cst.proofs.Ways.{both}
 
 -- ---- rows put together

@@ -7,9 +7,10 @@ use Rattle.gql_grammar.specs.Row as row
 use Rattle.gql_grammar.specs.Row.{Row, joined}
 use Rattle.gql_cst.specs.Forest.{Plain}
 use Rattle.gql_cst.specs.Leaves.{Part, word, ignored, node, part_of}
-use Rattle.gql_cst.specs.Machine.{node_of}
-use Rattle.gql_cst.specs.Sentences.{row_then, shown, shown_of}
-use Rattle.gql_cst.specs.Sound.{is_node}
+use Rattle.gql_cst.specs.bridge.Machine.{node_of}
+use Rattle.gql_cst.specs.Sentences.{row_then, shown}
+use Rattle.gql_cst.specs.bridge.Sentences.{shown_of}
+use Rattle.gql_cst.specs.bridge.Sound.{is_node}
 use Rattle.gql_cst.specs.Words.{word_of}
 
 then-joined : (p : Part) (kind : SyntaxKind) (w : Word) (x y z : Row) → row_then p kind w x (joined y z) ≡ joined (row_then p kind w x y) z

@@ -10,15 +10,16 @@ use Rattle.gql_grammar.specs.declared.syntax_kind.SyntaxKind.{SyntaxKind}
 use Rattle.gql_grammar.specs.Row.{level}
 use Rattle.gql_grammar.specs.Rule.{kind_of}
 use Rattle.gql_grammar.specs.Starts.{way}
-use Rattle.gql_grammar.specs.Stands.{way_at}
+use Rattle.gql_grammar.specs.bridge.Stands.{way_at}
 use Rattle.std.proofs.lemmas.Bool.{eqb-true}
 use Rattle.gql_cst.specs.Forest.{Plain}
-use Rattle.gql_cst.specs.Leaves.{part_of, leaves_of}
-use Rattle.gql_cst.specs.Nesting.{nesting_of}
-use Rattle.gql_cst.specs.Machine.{State, Turned, again, taken, refused, finished, node_of, opened, pushed, entered, wrapped, closed_in, enter, takes_at, turned_at, turned, Settles, takes_it, refuses_it, finishes, later, Begins, Judges, ended, all_ended, grown}
-use Rattle.gql_cst.specs.Sound.{is_node, depth, IsSound}
+use Rattle.gql_cst.specs.Leaves.{part_of}
+use Rattle.gql_cst.specs.bridge.Leaves.{leaves_of}
+use Rattle.gql_cst.specs.bridge.Nesting.{nesting_of}
+use Rattle.gql_cst.specs.bridge.Machine.{State, Turned, again, taken, refused, finished, node_of, opened, pushed, entered, wrapped, closed_in, enter, takes_at, turned_at, turned, Settles, takes_it, refuses_it, finishes, later, Begins, Judges, ended, all_ended, grown}
+use Rattle.gql_cst.specs.bridge.Sound.{is_node, depth, IsSound}
 use Rattle.gql_cst.proofs.Levels.{around, around-alike, around-opened, around-wrapped}
-use Rattle.gql_cst.specs.Frames.{is_loose}
+use Rattle.gql_cst.specs.bridge.Frames.{is_loose}
 use Rattle.gql_cst.specs.Spans.{AllSpanIn}
 use Rattle.gql_cst.proofs.Ways.{both, makes, kind_node, way_loose}
 use Rattle.gql_cst.proofs.Rows.{leaves_of-append, nesting_of-append, leaves_of-node, nesting_of-node, ended-loose, leaves_of-ended, nesting_of-ended, depth-loose, makes_node-loose, join, append_nil}

@@ -9,9 +9,9 @@ use Rattle.gql_grammar.specs.declared.syntax_kind.SyntaxKind.{SyntaxKind}
 use Rattle.gql_grammar.specs.Rule.{kind_of}
 use Rattle.gql_cst.specs.Forest.{Plain, row_of}
 use Rattle.gql_cst.specs.Leaves.{Part, word, ignored, node, part_of}
-use Rattle.gql_cst.specs.Machine.{node_of, ended}
+use Rattle.gql_cst.specs.bridge.Machine.{node_of, ended}
 use Rattle.gql_cst.specs.Sentences.{kind_or, root_kind}
-use Rattle.gql_cst.specs.Sound.{is_node, makes_node, EachSpan}
+use Rattle.gql_cst.specs.bridge.Sound.{is_node, makes_node, EachSpan}
 use Rattle.gql_cst.specs.Spans.{first_start, last_end_or, Spans, AllSpanIn}
 use Rattle.gql_cst.proofs.Ways.{both, makes, kind_node}
 

@@ -14,13 +14,14 @@ use Rattle.gql_grammar.specs.Row as row
 use Rattle.gql_grammar.specs.Row.{Row, with_leaf, with_node, joined}
 use Rattle.gql_grammar.specs.Reads.{Sentence, IsBeginning}
 use Rattle.gql_grammar.specs.Starts.{way}
-use Rattle.gql_grammar.specs.Stands.{way_at, BetweenIn, StandsIn}
+use Rattle.gql_grammar.specs.bridge.Stands.{way_at, BetweenIn, StandsIn}
 use Rattle.gql_grammar.proofs.Rooted.{none_sentence, first_refused, first_stands, look_in, taken_in, past_optional_in, past_repeated_in, past_eager_in, past_wrap_in, past_close_in, close_has_row_in, enter_tree_in, enter_group_in, into_optional_in, into_repeated_in, into_eager_in, ended_token_in, ended_rule_in, refused_token_in, refused_rule_in, refused_rest_in}
 use Rattle.gql_cst.specs.Forest.{Plain}
 use Rattle.gql_cst.specs.Leaves.{part_of}
-use Rattle.gql_cst.specs.Machine.{State, Turned, again, taken, refused, finished, node_of, pushed, closed_in, enter, turned_at, Settles, takes_it, refuses_it, finishes, later, Begins, Judges}
-use Rattle.gql_cst.specs.Sentences.{shown_of, root_kind, kind_or, empty, Stood}
-use Rattle.gql_cst.specs.Sound.{is_node, makes_node, IsSound}
+use Rattle.gql_cst.specs.bridge.Machine.{State, Turned, again, taken, refused, finished, node_of, pushed, closed_in, enter, turned_at, Settles, takes_it, refuses_it, finishes, later, Begins, Judges}
+use Rattle.gql_cst.specs.Sentences.{root_kind, kind_or}
+use Rattle.gql_cst.specs.bridge.Sentences.{shown_of, empty, Stood}
+use Rattle.gql_cst.specs.bridge.Sound.{is_node, makes_node, IsSound}
 use Rattle.gql_cst.proofs.Shown.{shown_of-append, shown_of-node}
 use Rattle.gql_cst.proofs.Ways.{both}
 use Rattle.gql_cst.proofs.Sounds.{made, state_of, turn_keeps, pushed_keeps, along, way_at_loose, AllLoose}

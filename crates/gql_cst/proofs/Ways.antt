@@ -11,8 +11,8 @@ use Rattle.gql_grammar.specs.Factored.{factored}
 use Rattle.gql_grammar.specs.Starts.{begins, starts, chosen, way}
 use Rattle.gql_grammar.specs.Rule.{kind_of}
 use Rattle.gql_cst.specs.Leaves.{part_of}
-use Rattle.gql_cst.specs.Frames.{is_loose}
-use Rattle.gql_cst.specs.Sound.{is_node}
+use Rattle.gql_cst.specs.bridge.Frames.{is_loose}
+use Rattle.gql_cst.specs.bridge.Sound.{is_node}
 
 ways_loose : (r : Rule) → list_all (list_all is_loose) (factored r) ≡ true
 ways_loose Document = refl

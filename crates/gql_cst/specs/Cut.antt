@@ -6,8 +6,7 @@ use Rattle.gql_grammar.specs.declared.syntax_kind.SyntaxKind.{SyntaxKind}
 use Rattle.gql_grammar.specs.Reads.{Sentence}
 use Rattle.gql_grammar.specs.Row as row
 use Rattle.gql_grammar.specs.Row.{Row}
-use Rattle.gql_cst.specs.declared.limits.Parsed.{Parsed}
-use Rattle.gql_cst.specs.Forest.{Plain, plain}
+use Rattle.gql_cst.specs.Forest.{Plain}
 use Rattle.gql_cst.specs.Late.{is_late}
 use Rattle.gql_cst.specs.Leaves.{leaves}
 use Rattle.gql_cst.specs.Sentences.{root_kind, words, shown}
@@ -41,7 +40,3 @@ pub record IsCut (start : Rule) (words : List Word) (x : Row) : Type 0 where
 -- so is what a tree holds
 abbrev pub IsCutIn : Rule → List ℕ → Plain → Type 0
 IsCutIn start text tree = IsCut start (words text (leaves tree.children)) (shown text tree.children)
-
--- so are the trees of a parse, whatever ended it
-abbrev pub IsCutTree : Rule → List ℕ → Parsed → Type 0
-IsCutTree start text parsed = IsCutIn start text (plain parsed.tree)

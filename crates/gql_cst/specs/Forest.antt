@@ -1,5 +1,5 @@
 -- Trees as contracts see them. A row of trees is its first tree's kind, start, end and children, and the trees behind it.
-use Rattle.std.specs.Prelude.{ℕ, List, [], ◌∷◌, map}
+use Rattle.std.specs.Prelude.{ℕ, List, [], ◌∷◌}
 use Rattle.gql_grammar.specs.declared.syntax_kind.SyntaxKind.{SyntaxKind}
 use Rattle.gql_cst.specs.declared.tree.Tree.{Tree, fold-Tree}
 use Rattle.gql_cst.specs.declared.tree.Tree.TheOpen.{Tree-F}
@@ -24,7 +24,3 @@ plain_step t = record { kind = t.kind; start = t.start; end = t.end; children = 
 
 abbrev pub plain : Tree → Plain
 plain = fold-Tree Plain plain_step
-
--- a row of trees
-abbrev pub forest : List Tree → Forest
-forest trees = row_of (map plain trees)

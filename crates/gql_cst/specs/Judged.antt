@@ -1,5 +1,5 @@
 -- What an error, or none, tells of the sentences of the grammar.
-use Rattle.std.specs.Prelude.{◌≡◌, ℕ, ◌<◌, Bool, true, false, List, [], ◌∷◌, ◌++◌, slice_range, Option, Some, None, is_some}
+use Rattle.std.specs.Prelude.{◌≡◌, ℕ, ◌<◌, List, [], ◌∷◌, ◌++◌, slice_range, Option, Some, None}
 use Rattle.std.specs.declared.ops.Range.{Range}
 use Rattle.gql_lexer.specs.declared.error.CstError.{CstError}
 use Rattle.gql_lexer.specs.declared.error.CstError.TheVariants.{Syntax, RecursionLimit, TokenLimit}
@@ -10,12 +10,7 @@ use Rattle.gql_grammar.specs.declared.rule.Rule.{Rule}
 use Rattle.gql_grammar.specs.Reads.{Sentence, IsBeginning}
 use Rattle.gql_grammar.specs.Row as row
 use Rattle.gql_grammar.specs.Row.{Row}
-use Rattle.gql_grammar.specs.Rule.{kind_of}
-use Rattle.gql_cst.specs.Standing.{Standing}
-use Rattle.gql_cst.specs.Cut.{is_filled, IsCut}
-use Rattle.gql_cst.specs.Machine.{State}
-use Rattle.gql_cst.specs.Progress.{trees, tokens_of}
-use Rattle.gql_cst.specs.Sentences.{words, shown_of, root_kind, Stood}
+use Rattle.gql_cst.specs.Sentences.{words}
 use Rattle.gql_cst.specs.Words.{word_of}
 
 -- A text was read as far as these words, and the tree of them is this row. So many levels of nesting are allowed.
@@ -45,33 +40,3 @@ Judged s None = Sentence s.start s.words s.row × ((other : Row) → Sentence s.
 Judged s (Some (Syntax fault range)) = Tells fault s range
 Judged s (Some (RecursionLimit range)) = (more : List Word) (other : Row) → Sentence s.start (s.words ++ more) other → s.recursion < row.nesting other
 Judged s (Some (TokenLimit range)) = Unit {0}
-
--- ---- the same of a parser
-
-abbrev pub words_of : Standing → List Word
-words_of p = words p.text (tokens_of p)
-
-abbrev pub spoken : Standing → Spoken
-spoken p = record {
-  start = p.start;
-  text = p.text;
-  words = words_of p;
-  row = row.node (root_kind p.start) (shown_of p.text (trees p)) row.nothing;
-  recursion = p.limits.recursion;
-}
-
--- once the rule of the whole text has begun, the innermost open node holds something
-abbrev pub IsFilled : Bool → List ℕ → State → Type 0
-IsFilled true text s = is_filled (shown_of text s.row) ≡ true
-IsFilled false text s = Unit {0}
-
-pub record IsStood (p : Standing) : Type 0 where
-  pub starts : is_some (kind_of p.start) ≡ true
-  pub hidden : shown_of p.text p.ignored ≡ row.nothing
-  pub stood : Stood p.start p.text p.begun p.state (words_of p)
-  pub filled : IsFilled p.begun p.text p.state
-
-pub record IsJudged (p : Standing) (error : Option CstError) : Type 0 where
-  pub begins : IsBeginning p.start (words_of p)
-  pub cut : IsCut p.start (words_of p) (shown_of p.text (trees p))
-  pub judged : Judged (spoken p) error

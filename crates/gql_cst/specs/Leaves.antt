@@ -6,7 +6,7 @@ use Rattle.gql_lexer.specs.declared.token.TokenKind.{TokenKind}
 use Rattle.gql_lexer.specs.declared.token.TokenKind.TheVariants as token
 use Rattle.gql_grammar.specs.declared.syntax_kind.SyntaxKind.{SyntaxKind}
 use Rattle.gql_grammar.specs.declared.syntax_kind.SyntaxKind.TheVariants as kind
-use Rattle.gql_cst.specs.Forest.{Forest, nothing, tree_then, Plain, row_of}
+use Rattle.gql_cst.specs.Forest.{Forest, nothing, tree_then}
 
 -- what a tree of a kind is: a token, a token that the grammar ignores, or a node
 pub data Part : Type 0 where
@@ -34,9 +34,6 @@ own_leaf node start end = []
 abbrev pub leaves : Forest → List Leaf
 leaves nothing = []
 leaves (tree_then kind start end children behind) = own_leaf (part_of kind) start end ++ leaves children ++ leaves behind
-
-abbrev pub leaves_of : List Plain → List Leaf
-leaves_of trees = leaves (row_of trees)
 
 abbrev pub part_of_token : TokenKind → Part
 part_of_token token.Ignored = ignored

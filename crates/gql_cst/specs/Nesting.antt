@@ -1,8 +1,8 @@
 -- How deep selection sets, object values, list values and list types are nested.
-use Rattle.std.specs.Prelude.{ℕ, ◌+◌, max, List}
+use Rattle.std.specs.Prelude.{ℕ, ◌+◌, max}
 use Rattle.gql_cst.specs.Leaves.{Part, word, ignored, node, part_of}
 use Rattle.gql_grammar.specs.Row.{level}
-use Rattle.gql_cst.specs.Forest.{Forest, nothing, tree_then, Plain, row_of}
+use Rattle.gql_cst.specs.Forest.{Forest, nothing, tree_then}
 
 -- a token opens no level
 abbrev pub within_node : Part → ℕ → ℕ
@@ -14,6 +14,3 @@ within_node ignored levels = 0
 abbrev pub nesting : Forest → ℕ
 nesting nothing = 0
 nesting (tree_then kind start end children behind) = max (within_node (part_of kind) (level kind + nesting children)) (nesting behind)
-
-abbrev pub nesting_of : List Plain → ℕ
-nesting_of trees = nesting (row_of trees)

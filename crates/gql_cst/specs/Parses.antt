@@ -71,6 +71,3 @@ pub record Reports (start : Rule) (text : List ℕ) (limits : Limits) (report : 
 
 abbrev pub IsParse : Rule → List ℕ → Limits → Parsed → Type 0
 IsParse start text limits parsed = IsReport start text limits (report_of parsed)
-
-abbrev pub Accepts : Rule → List ℕ → Limits → Parsed → Type 0
-Accepts start text limits parsed = Admits start text limits parsed.error

@@ -1,5 +1,5 @@
 -- The words and the row that trees stand for, ignored tokens left out, and where the reading of a sentence stands.
-use Rattle.std.specs.Prelude.{◌≡◌, ℕ, Bool, true, false, List, [], ◌∷◌, ◌++◌, map, slice_range, Option, Some, None}
+use Rattle.std.specs.Prelude.{ℕ, List, [], ◌∷◌, ◌++◌, slice_range, Option, Some, None}
 use Rattle.gql_grammar.specs.declared.word.Word.{Word}
 use Rattle.gql_grammar.specs.declared.rule.Rule.{Rule}
 use Rattle.gql_grammar.specs.declared.syntax_kind.SyntaxKind.{SyntaxKind}
@@ -7,10 +7,8 @@ use Rattle.gql_grammar.specs.declared.syntax_kind.SyntaxKind.TheVariants.{Docume
 use Rattle.gql_grammar.specs.Row as row
 use Rattle.gql_grammar.specs.Row.{Row}
 use Rattle.gql_grammar.specs.Rule.{kind_of}
-use Rattle.gql_grammar.specs.Stands.{BetweenIn}
-use Rattle.gql_cst.specs.Forest.{Forest, nothing, tree_then, Plain, row_of}
+use Rattle.gql_cst.specs.Forest.{Forest, nothing, tree_then}
 use Rattle.gql_cst.specs.Leaves.{Part, word, ignored, node, part_of, Leaf}
-use Rattle.gql_cst.specs.Machine.{State}
 use Rattle.gql_cst.specs.Words.{word_of}
 
 abbrev pub own_word : Part → Word → List Word
@@ -34,9 +32,6 @@ shown text nothing = row.nothing
 shown text (tree_then kind start end children behind) =
     row_then (part_of kind) kind (word_of (slice_range text start end)) (shown text children) (shown text behind)
 
-abbrev pub shown_of : List ℕ → List Plain → Row
-shown_of text trees = shown text (row_of trees)
-
 -- the kind of the node of a whole text
 abbrev pub kind_or : Option SyntaxKind → SyntaxKind
 kind_or (Some kind) = kind
@@ -44,11 +39,3 @@ kind_or None = Document
 
 abbrev pub root_kind : Rule → SyntaxKind
 root_kind start = kind_or (kind_of start)
-
-abbrev pub empty : State
-empty = record { stack = []; row = []; rows = []; level = 0; deepest = 0 }
-
--- the reading of a sentence stands behind these words
-abbrev pub Stood : Rule → List ℕ → Bool → State → List Word → Type 0
-Stood start text true s before = BetweenIn start (root_kind start) before s.stack (shown_of text s.row) (map (shown_of text) s.rows)
-Stood start text false s before = (s ≡ empty) × (before ≡ [])

@@ -1,7 +1,6 @@
 -- Which bytes of a text trees reach over.
-use Rattle.std.specs.Prelude.{◌≡◌, ℕ, List, [], ◌∷◌}
-use Rattle.gql_cst.specs.declared.limits.Parsed.{Parsed}
-use Rattle.gql_cst.specs.Forest.{Forest, nothing, tree_then, Plain, plain, row_of}
+use Rattle.std.specs.Prelude.{◌≡◌, ℕ, List}
+use Rattle.gql_cst.specs.Forest.{Forest, nothing, tree_then, Plain, row_of}
 use Rattle.gql_cst.specs.Leaves.{Part, word, ignored, node, part_of}
 
 -- where the first tree of a row starts. Where there is none: 0
@@ -28,7 +27,3 @@ AllSpan (tree_then kind start end children behind) = Spans (part_of kind) start 
 
 abbrev pub AllSpanIn : List Plain → Type 0
 AllSpanIn trees = AllSpan (row_of trees)
-
--- so does the tree of a parse
-abbrev pub IsSpanned : Parsed → Type 0
-IsSpanned parsed = AllSpanIn (plain parsed.tree ∷ [])

@@ -1,8 +1,8 @@
 //! Drives an output over a whole text.
 
 ghost use Rattle.std.specs.Prelude.{◌≡◌, ℕ, [], ◌∷◌, true, IfOk, OnOk, is_some};
-ghost use Rattle.gql_cst.specs.Going.{IsGoing, HasEnded, SameText, IsMade};
-ghost use Rattle.gql_cst.specs.Open.{whole_text};
+ghost use Rattle.gql_cst.specs.bridge.Going.{IsGoing, HasEnded, SameText, IsMade};
+ghost use Rattle.gql_cst.specs.bridge.Open.{whole_text};
 ghost use Rattle.gql_cst.specs.Sentences.{root_kind};
 ghost use Rattle.gql_grammar.specs.Row as rows;
 ghost use Rattle.gql_grammar.specs.Rule.{kind_of};

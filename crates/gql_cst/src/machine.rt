@@ -6,15 +6,15 @@ ghost use Rattle.gql_cst.specs.Forest.{Plain};
 ghost use Rattle.gql_cst.specs.declared.frame.Frame.{Frame};
 ghost use Rattle.gql_cst.specs.Late.{is_late};
 ghost use Rattle.gql_cst.specs.Leaves.{part_of};
-ghost use Rattle.gql_cst.specs.Lies.{Lies};
-ghost use Rattle.gql_cst.specs.Frames.{is_framed, is_loose, Stays, IsSame};
+ghost use Rattle.gql_cst.specs.bridge.Lies.{Lies};
+ghost use Rattle.gql_cst.specs.bridge.Frames.{is_framed, is_loose, Stays, IsSame};
 ghost use Rattle.gql_grammar.specs.declared.symbol.Symbol.TheVariants.{Repeated};
 ghost use Rattle.gql_grammar.specs.Rule.{kind_of};
 ghost use Rattle.gql_grammar.specs.Row as rows;
-ghost use Rattle.gql_grammar.specs.Stands as stands;
-ghost use Rattle.gql_cst.specs.Machine as spec;
-ghost use Rattle.gql_cst.specs.Sound.{is_node};
-ghost use Rattle.gql_cst.specs.Open.{token as token_of, ignored as ignored_of, whole_text};
+ghost use Rattle.gql_grammar.specs.bridge.Stands as stands;
+ghost use Rattle.gql_cst.specs.bridge.Machine as spec;
+ghost use Rattle.gql_cst.specs.bridge.Sound.{is_node};
+ghost use Rattle.gql_cst.specs.bridge.Open.{token as token_of, ignored as ignored_of, whole_text};
 
 use crate::begun::Begun;
 use crate::count::raised;
@@ -113,7 +113,7 @@ fn level_of(kind: SyntaxKind) -> usize
 }
 
 impl<O: Output> Machine<O> {
-    ghost use Rattle.gql_cst.specs.Held.{Becomes, Goes, Holds, IsHeld};
+    ghost use Rattle.gql_cst.specs.bridge.Held.{Becomes, Goes, Holds, IsHeld};
 
     /// Nothing is to come, and nothing came.
     pub(crate) fn new(alloc: Global, out: O) -> Machine<O>

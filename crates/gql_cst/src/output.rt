@@ -4,9 +4,9 @@ ghost use Rattle.std.specs.Prelude.{◌≡◌, ℕ, List, [], ◌∷◌, ◌++�
 ghost use Rattle.gql_cst.specs.Forest.{Plain};
 ghost use Rattle.gql_cst.specs.Late.{is_late};
 ghost use Rattle.gql_cst.specs.Leaves.{part_of};
-ghost use Rattle.gql_cst.specs.Open.{Open, opened, grown_by, wrapped, token as token_of, ignored as ignored_of};
-ghost use Rattle.gql_cst.specs.Machine.{node_of};
-ghost use Rattle.gql_cst.specs.Sound.{is_node};
+ghost use Rattle.gql_cst.specs.bridge.Open.{Open, opened, grown_by, wrapped, token as token_of, ignored as ignored_of};
+ghost use Rattle.gql_cst.specs.bridge.Machine.{node_of};
+ghost use Rattle.gql_cst.specs.bridge.Sound.{is_node};
 
 use crate::begun::Begun;
 use crate::{Memory, SyntaxKind};

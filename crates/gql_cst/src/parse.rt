@@ -1,10 +1,11 @@
 //! Reads a whole text: a document, a selection set, a reference to a type, or a constant value.
 
 ghost use Rattle.std.specs.Prelude.{◌≡◌, true, IfOk, is_some};
-ghost use Rattle.gql_cst.specs.Cut.{IsCutTree};
-ghost use Rattle.gql_cst.specs.Parses.{Accepts, IsParse};
+ghost use Rattle.gql_cst.specs.bridge.Cut.{IsCutTree};
+ghost use Rattle.gql_cst.specs.Parses.{IsParse};
+ghost use Rattle.gql_cst.specs.bridge.Parses.{Accepts};
 ghost use Rattle.gql_cst.specs.Sentences.{root_kind};
-ghost use Rattle.gql_cst.specs.Spans.{IsSpanned};
+ghost use Rattle.gql_cst.specs.bridge.Spans.{IsSpanned};
 ghost use Rattle.gql_grammar.specs.Row as rows;
 ghost use Rattle.gql_grammar.specs.Rule.{kind_of};
 

@@ -3,8 +3,8 @@
 ghost use Rattle.std.specs.Prelude.{◌≡◌, ◌≢◌, ◌<◌, ℕ, [], ◌∷◌, true, length, MatchBool, IfOk, OnOk, IfNone, IfSome, Some, None, is_some};
 ghost use Rattle.gql_lexer.specs.declared.token.TokenKind.{TokenKind};
 ghost use Rattle.gql_cst.specs.Leaves.{IsLeaf};
-ghost use Rattle.gql_cst.specs.Machine as machine;
-ghost use Rattle.gql_cst.specs.Open.{whole_text};
+ghost use Rattle.gql_cst.specs.bridge.Machine as machine;
+ghost use Rattle.gql_cst.specs.bridge.Open.{whole_text};
 ghost use Rattle.gql_cst.specs.Sentences.{root_kind};
 ghost use Rattle.gql_grammar.specs.Row as rows;
 ghost use Rattle.gql_grammar.specs.Rule.{kind_of};
@@ -45,9 +45,9 @@ fn is_past(count: usize, limit: Option<usize>) -> bool
 }
 
 impl<'a, O: Output> Parser<'a, O> {
-    ghost use Rattle.gql_cst.specs.Going.{IsGoing, IsCounted, HasEnded, SameText, IsMade};
-    ghost use Rattle.gql_cst.specs.Held.{Goes, IsHeld};
-    ghost use Rattle.gql_cst.specs.Progress.{leaf_of, word_leaf};
+    ghost use Rattle.gql_cst.specs.bridge.Going.{IsGoing, IsCounted, HasEnded, SameText, IsMade};
+    ghost use Rattle.gql_cst.specs.bridge.Held.{Goes, IsHeld};
+    ghost use Rattle.gql_cst.specs.bridge.Progress.{leaf_of, word_leaf};
 
     /// At the beginning of the text, which is read by the rule.
     pub(crate) fn new(

@@ -32,7 +32,8 @@ impl Drop for Tree {
 }
 
 impl Tree {
-    ghost use Rattle.gql_cst.specs.Forest.{plain, forest};
+    ghost use Rattle.gql_cst.specs.Forest.{plain};
+    ghost use Rattle.gql_cst.specs.bridge.Forest.{forest};
 
     pub(crate) fn new(kind: SyntaxKind, range: Range<usize>, children: Nodes) -> Tree
         ensures { plain result ≡ record { kind = kind; start = range.start; end = range.end; children = forest children.items } }

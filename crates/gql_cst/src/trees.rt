@@ -3,8 +3,8 @@
 ghost use Rattle.std.specs.Prelude.{◌≡◌, ℕ, ◌≤◌, ◌∷◌, ◌++◌, [], map, length, IfOk, OnOk};
 ghost use Rattle.gql_cst.specs.Forest;
 ghost use Rattle.gql_cst.specs.Forest.{plain};
-ghost use Rattle.gql_cst.specs.Machine as spec;
-ghost use Rattle.gql_cst.specs.Rowed.{gathered};
+ghost use Rattle.gql_cst.specs.bridge.Machine as spec;
+ghost use Rattle.gql_cst.specs.bridge.Rowed.{gathered};
 
 use crate::begun::Begun;
 use crate::output::Output;
@@ -42,8 +42,8 @@ fn gather(trees: &mut Nodes, kind: SyntaxKind, start: usize) -> Result<(), Memor
 }
 
 impl Trees {
-    ghost use Rattle.gql_cst.specs.Open.{whole_text};
-    ghost use Rattle.gql_cst.specs.Rowed.{stand};
+    ghost use Rattle.gql_cst.specs.bridge.Open.{whole_text};
+    ghost use Rattle.gql_cst.specs.bridge.Rowed.{stand};
 
     /// No tree.
     #[tactic(auto, using(crate::proofs::Making::nothing_stands))]
@@ -79,7 +79,7 @@ impl Trees {
 }
 
 impl Output for Trees {
-    ghost use Rattle.gql_cst.specs.Rowed.{stand};
+    ghost use Rattle.gql_cst.specs.bridge.Rowed.{stand};
 
     ghost stands = { stand };
 

@@ -2,8 +2,8 @@
 
 ghost use Rattle.std.specs.Prelude.{◌≡◌, if◌then◌else◌};
 ghost use Rattle.std.specs.Option.{option_map};
-ghost use Rattle.gql_grammar.specs.Stands as stands;
-ghost use Rattle.gql_cst.specs.Machine as spec;
+ghost use Rattle.gql_grammar.specs.bridge.Stands as stands;
+ghost use Rattle.gql_cst.specs.bridge.Machine as spec;
 
 use gql_grammar::{Rule, Symbol, Terminal, Word};
 

@@ -4,10 +4,11 @@ use Rattle.std.proofs.lemmas.List.{append-nil}
 use Rattle.jb_tree.specs.declared.value.Value.{Value, the_lemmas}
 use Rattle.jb_tree.specs.declared.value.Value.TheVariants as json
 use Rattle.jb_print.specs.Compact.{compact}
-use Rattle.jb_print.specs.Pieces.{member_piece, pieces_text}
+use Rattle.jb_print.specs.bridge.Pieces.{member_piece, pieces_text}
 use Rattle.jb_print.specs.Quoted.{quoted, escaped}
 use Rattle.jb_print.proofs.Compacts.{compact-Array, compact-Object}
-use Rattle.gql_diag.specs.Refusal.{error_marked, extensions_marked, message_error, refusal_value}
+use Rattle.gql_diag.specs.Refusal.{message_error, refusal_value}
+use Rattle.gql_diag.specs.bridge.Refusal.{error_marked, extensions_marked}
 use Rattle.gql_response.proofs.Texts.{compact-String as string_text, later_members, list_text, member_text}
 use Rattle.gql_response.specs.Response.{Member, error_members, error_value, list_member, location_value, object_member}
 use Rattle.gql_response.specs.declared.graphql_error.GraphQLError.{GraphQLError}

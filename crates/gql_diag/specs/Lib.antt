@@ -1,7 +1,5 @@
 pub mod Depth
-pub mod DepthGuarding
 pub mod Stack
-pub mod StackGuarding
 pub mod Report
 pub mod Order
 pub mod List
@@ -10,3 +8,4 @@ pub mod Reported
 pub mod Walk
 pub mod Refusal
 pub mod Taken
+pub mod bridge

@@ -1,11 +1,9 @@
 -- The errors of refusals, which are those of responses (GraphQL October 2021, section 7.1.2).
-use Rattle.std.specs.Prelude.{ℕ, Bool, if◌then◌else◌, List, [], map}
+use Rattle.std.specs.Prelude.{ℕ, List, [], map}
 use Rattle.gql_diag.specs.List.{Diagnostics}
-use Rattle.gql_response.specs.RequestFault.{suspected_bug}
 use Rattle.gql_diag_messages.specs.Details.{message_of}
 use Rattle.gql_diag_messages.specs.declared.diagnostic_data.DiagnosticData.{DiagnosticData}
 use Rattle.gql_response.specs.ErrorAt.{error_at}
-use Rattle.gql_response.specs.Response.{Member}
 pub use Rattle.gql_response.specs.Response.{refusal_value}
 use Rattle.gql_response.specs.declared.graphql_error.GraphQLError.{GraphQLError}
 use Rattle.gql_source.specs.File.{Files}
@@ -14,13 +12,6 @@ use Rattle.gql_source.specs.declared.line_column.LineColumn.{LineColumn}
 -- an error with a message and places, without a path and extensions
 abbrev pub error_with : List ℕ → List LineColumn → GraphQLError
 error_with message places = record { message = message; locations = places; path = []; extensions = [] }
-
--- one that may be marked as a fault of validation
-abbrev pub extensions_marked : Bool → List Member
-extensions_marked marked = if marked then suspected_bug else []
-
-abbrev pub error_marked : List ℕ → List LineColumn → Bool → GraphQLError
-error_marked message places marked = record (error_with message places) { extensions = extensions_marked marked }
 
 -- one that is a message alone
 abbrev pub message_error : List ℕ → GraphQLError

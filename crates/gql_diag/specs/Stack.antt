@@ -1,23 +1,8 @@
 -- A stack of names.
-use Rattle.std.specs.Prelude.{ℕ, Bool, nat_eq, List, [], ◌∷◌, ◌++◌, take, Option, Some, None}
-use Rattle.std.specs.List.{list_any}
-use Rattle.std.specs.Cmp.Lexicographic.{pointwise}
+use Rattle.std.specs.Prelude.{ℕ, List}
 use Rattle.gql_ast_base.specs.Names.{Named}
 
 -- the names that are open, the first one first, and at how many no other opens
 pub record Stack : Type 0 where
   pub names : List Named
   pub limit : ℕ
-
--- one name more
-abbrev pub with_name : Named → Stack → Stack
-with_name name stack = record stack { names = stack.names ++ name ∷ [] }
-
--- names are told apart by their texts
-abbrev pub has_name : Named → Stack → Bool
-has_name name stack = list_any (λ other. pointwise nat_eq name.text other.text) stack.names
-
--- what dropping a guard leaves: the names that were open before the step that gave it, or all as it is
-abbrev pub popped : Option ℕ → Stack → Stack
-popped None stack = stack
-popped (Some count) stack = record stack { names = take count stack.names }

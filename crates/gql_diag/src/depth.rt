@@ -1,7 +1,7 @@
 //! A count of levels with a limit.
 
 ghost use Rattle.std.specs.Prelude.{◌≡◌, ◌≤◌, ◌<◌, ◌↔◌, None, IfOk, OnErr, IsErr};
-ghost use Rattle.gql_diag.specs.Depth.{undone};
+ghost use Rattle.gql_diag.specs.bridge.Depth.{undone};
 
 use std::marker::Model;
 
@@ -60,7 +60,7 @@ impl DepthCounter {
 }
 
 impl DepthCounter {
-    ghost use Rattle.gql_diag.specs.Depth.{deeper};
+    ghost use Rattle.gql_diag.specs.bridge.Depth.{deeper};
 
     /// Opens a level, and gives how many were open before.
     fn open_level(&mut self) -> Result<usize, RecursionLimitError>
@@ -85,7 +85,7 @@ pub struct DepthGuard<'a> {
 
 impl DepthCounter {
     ghost use Rattle.std.specs.Borrow.{sem};
-    ghost use Rattle.gql_diag.specs.DepthGuarding.{counted, undoes, IsStep, LeavesCount};
+    ghost use Rattle.gql_diag.specs.bridge.DepthGuarding.{counted, undoes, IsStep, LeavesCount};
 
     /// Opens a level, and gives the guard that undoes that.
     pub(crate) fn step(&mut self) -> Result<DepthGuard<'_>, RecursionLimitError>
@@ -115,7 +115,7 @@ impl DepthCounter {
 }
 
 impl<'a> DepthGuard<'a> {
-    ghost use Rattle.gql_diag.specs.DepthGuarding.{counted, IsStep};
+    ghost use Rattle.gql_diag.specs.bridge.DepthGuarding.{counted, IsStep};
 
     /// Opens a level. `Err` exactly where the counter stands at its limit or past it, which is left so.
     pub fn increment(&mut self) -> Result<DepthGuard<'_>, RecursionLimitError>

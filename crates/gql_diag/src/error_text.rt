@@ -3,11 +3,12 @@
 ghost use Rattle.std.specs.Prelude.{◌≡◌, ◌++◌, [], ◌∷◌, true, pos, map, option_to_list, codes, OnOk, string_bytes};
 ghost use Rattle.jb_tree.specs.declared.value.Value.TheVariants as json;
 ghost use Rattle.jb_print.specs.Compact.{compact};
-ghost use Rattle.jb_print.specs.Pieces.{member_piece, pieces_text};
+ghost use Rattle.jb_print.specs.bridge.Pieces.{member_piece, pieces_text};
 ghost use Rattle.gql_response.specs.RequestFault.{request_error, suspected_bug};
 ghost use Rattle.gql_response.specs.ErrorAt.{place_in};
 ghost use Rattle.gql_response.specs.Response.{error_value, list_member, location_value, object_member};
-ghost use Rattle.gql_diag.specs.Refusal.{error_marked, error_of, extensions_marked};
+ghost use Rattle.gql_diag.specs.Refusal.{error_of};
+ghost use Rattle.gql_diag.specs.bridge.Refusal.{error_marked, extensions_marked};
 
 use gql_diag_messages::DiagnosticData;
 use gql_response::RequestError;

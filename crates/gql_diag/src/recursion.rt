@@ -2,7 +2,7 @@
 
 ghost use Rattle.std.specs.Prelude.{◌≡◌, ◌≤◌, ◌<◌, ◌↔◌, [], ◌∷◌, None, Some, Err, length, slice_get, IfOk, OnOk, OnErr};
 ghost use Rattle.std.specs.Option.{option_copied};
-ghost use Rattle.gql_diag.specs.Stack.{popped, with_name};
+ghost use Rattle.gql_diag.specs.bridge.Stack.{popped, with_name};
 
 use crate::depth::{DEFAULT_LIMIT, RecursionLimitError};
 use gql_ast_base::{Copying, Name};
@@ -35,8 +35,8 @@ pub struct RecursionGuard<'a> {
 
 impl RecursionStack {
     ghost use Rattle.std.specs.Borrow.{sem};
-    ghost use Rattle.gql_diag.specs.StackGuarding.{stacked, pops, IsLimited, IsPushed, LeavesStack};
-    ghost use Rattle.gql_diag.specs.Stack.{has_name};
+    ghost use Rattle.gql_diag.specs.bridge.StackGuarding.{stacked, pops, IsLimited, IsPushed, LeavesStack};
+    ghost use Rattle.gql_diag.specs.bridge.Stack.{has_name};
 
     /// No names, and a limit of 32.
     #[must_use]
@@ -136,8 +136,8 @@ impl RecursionStack {
 }
 
 impl<'a> RecursionGuard<'a> {
-    ghost use Rattle.gql_diag.specs.StackGuarding.{stacked, IsPushed, IsLimited};
-    ghost use Rattle.gql_diag.specs.Stack.{has_name};
+    ghost use Rattle.gql_diag.specs.bridge.StackGuarding.{stacked, IsPushed, IsLimited};
+    ghost use Rattle.gql_diag.specs.bridge.Stack.{has_name};
 
     /// Enters a name.
     ///

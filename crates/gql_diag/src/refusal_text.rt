@@ -3,7 +3,7 @@
 ghost use Rattle.std.specs.Prelude.{◌≡◌, ◌++◌, [], ◌∷◌, map, IfOk, OnOk, string_bytes};
 ghost use Rattle.jb_tree.specs.declared.value.Value.TheVariants as json;
 ghost use Rattle.jb_print.specs.Compact.{compact};
-ghost use Rattle.jb_print.specs.Pieces.{comma_after};
+ghost use Rattle.jb_print.specs.bridge.Pieces.{comma_after};
 ghost use Rattle.gql_response.specs.RequestFault.{request_error};
 ghost use Rattle.gql_response.specs.Response.{error_value};
 ghost use Rattle.gql_diag.specs.Refusal.{error_of, errors_of, message_error, refusal_value};

@@ -3,3 +3,4 @@ pub mod RuleText
 pub mod NamedType
 pub mod Details
 pub mod Family
+pub mod bridge

@@ -3,9 +3,7 @@
 use Rattle.std.specs.Prelude.{ℕ, ◌++◌, List, Option, Some, None, codes, if◌then◌else◌}
 use Rattle.gql_diag_messages.specs.declared.rule.Rule.{Rule}
 use Rattle.gql_diag_messages.specs.declared.rule.Rule.TheVariants as rule
-use Rattle.gql_diag_messages.specs.declared.rule_text.Compat.{Compat as CompatWords}
 use Rattle.gql_diag_messages.specs.declared.rule_text.Compat.TheVariants as compat
-use Rattle.gql_diag_messages.specs.declared.rule_text.RuleText.{RuleText as Text}
 use Rattle.gql_diag_messages.specs.Filled.{is_lacking, is_directive}
 
 -- the words of the reference implementation: none, always the same, others where the name of this number is lacking,
@@ -290,14 +288,3 @@ chosen_words (argument_words directive field) names = Some (if is_directive name
 
 abbrev pub compat_pattern : Rule → List (List ℕ) → Option (List ℕ)
 compat_pattern rule names = chosen_words (rule_text rule).compat names
-
--- ---- what the code holds, as these
-
-abbrev pub compat_shown : CompatWords → Compat
-compat_shown compat.NoWords = no_words
-compat_shown (compat.Words text) = words text.now
-compat_shown (compat.Lacking number unnamed named) = lacking_words number unnamed.now named.now
-compat_shown (compat.OfArgument directive field) = argument_words directive.now field.now
-
-abbrev pub shown : Text → RuleText
-shown text = says text.row text.name.now text.message.now (compat_shown text.compat)

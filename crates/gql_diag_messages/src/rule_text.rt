@@ -2,7 +2,8 @@
 
 ghost use Rattle.std.specs.Prelude.{◌≡◌};
 ghost use Rattle.std.specs.Option.{option_copied};
-ghost use Rattle.gql_diag_messages.specs.RuleText.{chosen_words, compat_pattern, compat_shown, message_pattern, row, rule_name, rule_text, shown};
+ghost use Rattle.gql_diag_messages.specs.RuleText.{chosen_words, compat_pattern, message_pattern, row, rule_name, rule_text};
+ghost use Rattle.gql_diag_messages.specs.bridge.RuleText.{compat_shown, shown};
 
 use crate::filled::{is_directive, is_lacking};
 use crate::rule::Rule;

@@ -3,7 +3,7 @@ use Rattle.std.proofs.Common.{◌≡◌, ℕ, ◌||◌, not, List, [], ◌∷◌
 use Rattle.std.specs.Borrow.{Bor}
 use Rattle.std.specs.List.{list_any}
 use Rattle.std.specs.Str.{bytes_eq}
-use Rattle.gql_document.specs.SubscriptionUsesMultipleFields.{texts_of}
+use Rattle.gql_document.specs.bridge.SubscriptionUsesMultipleFields.{texts_of}
 
 pub any_texts : (key : List ℕ) (others : List (Bor (List ℕ)))
     → list_any (λ (other : Bor (List ℕ)). not (bytes_eq key other.now)) others ≡ list_any (λ other. not (bytes_eq key other)) (texts_of others)

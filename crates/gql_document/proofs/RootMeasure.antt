@@ -15,9 +15,10 @@ use Rattle.gql_schema_types.specs.declared.schema.Schema.{Schema}
 use Rattle.gql_document_types.proofs.Measure.{still_found, now_found}
 use Rattle.gql_document.specs.FragmentNameCollision.{fragment_name}
 use Rattle.gql_document.specs.Nodes.{is_defined, is_open}
-use Rattle.gql_document.specs.OperationNameCollision.{itself, added}
+use Rattle.gql_document.specs.OperationNameCollision.{itself}
+use Rattle.gql_document.specs.bridge.OperationNameCollision.{added}
 use Rattle.gql_document.specs.RootSelections.{own, total, total_inside, is_entered, body, body_of, inside_step, entered_step}
-use Rattle.gql_document.specs.RootWalk.{Walk, inside, entered_behind, with_first}
+use Rattle.gql_document.specs.bridge.RootWalk.{Walk, inside, entered_behind, with_first}
 use Rattle.gql_ast.proofs.Variants.{out-field, out-spread, out-inline, each}
 
 own-field : (f : Field) → own (selection.Field f) ≡ 1

@@ -7,7 +7,7 @@ use Rattle.gql_ast.specs.declared.operation.FragmentDefinition.{FragmentDefiniti
 use Rattle.gql_ast.specs.declared.selection.Selection.{Selection}
 use Rattle.gql_schema_types.specs.declared.schema.Schema.{Schema}
 use Rattle.gql_document.specs.RootSelections.{own, total, total_inside, first_roots, root_selections}
-use Rattle.gql_document.specs.RootWalk.{Walk, lists_of, selections_of, walk_of, inside, entered_behind, with_first}
+use Rattle.gql_document.specs.bridge.RootWalk.{Walk, lists_of, selections_of, walk_of, inside, entered_behind, with_first}
 use Rattle.gql_document.proofs.RootMeasure.{unentered, all_waiting, inside_less, first_less, weight}
 
 abbrev all_of : List (List Selection) → List Selection

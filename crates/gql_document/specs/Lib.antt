@@ -5,15 +5,11 @@ pub mod BuiltSelections
 pub mod Definitions
 pub mod DistinctDefinitions
 pub mod Faults
-pub mod FaultsBelow
 pub mod FieldSets
 pub mod FragmentNameCollision
-pub mod Leaves
-pub mod Made
 pub mod Nodes
 pub mod OperationNameCollision
 pub mod RootSelections
-pub mod RootWalk
 pub mod SelectionFaults
 pub mod SubscriptionUsesConditionalSelection
 pub mod SubscriptionUsesIntrospection
@@ -25,3 +21,4 @@ pub mod UndefinedField
 pub mod UndefinedRootOperation
 pub mod UndefinedTypeInInlineFragmentTypeCondition
 pub mod UndefinedTypeInNamedFragmentTypeCondition
+pub mod bridge

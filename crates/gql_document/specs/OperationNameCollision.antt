@@ -1,5 +1,5 @@
 -- Operations have distinct names: section 5.2.1.1 of GraphQL October 2021.
-use Rattle.std.specs.Prelude.{◌≡◌, Bool, true, List, [], ◌∷◌, ◌++◌, Option, None, is_none, if◌then◌else◌}
+use Rattle.std.specs.Prelude.{Bool, true, List, [], ◌∷◌, ◌++◌, Option, is_none, if◌then◌else◌}
 use Rattle.std.specs.Option.{option_map_or}
 use Rattle.gql_ast_base.specs.Names.{Named}
 use Rattle.gql_ast.specs.declared.operation.OperationDefinition.{OperationDefinition}
@@ -10,12 +10,6 @@ use Rattle.gql_document.specs.Faults.{name_fault}
 
 abbrev pub itself : Named → Named
 itself name = name
-
-abbrev pub is_new : List Named → Named → Type 0
-is_new names name = entry itself name.text names ≡ None
-
-abbrev pub added : List Named → Named → List Named
-added names name = names ++ name ∷ []
 
 -- ---- behind these names comes a name
 

@@ -1,6 +1,5 @@
 -- A subscription has one root field: section 5.2.3.1 of GraphQL October 2021.
-use Rattle.std.specs.Prelude.{ℕ, Bool, false, not, List, [], ◌∷◌, map, None, if◌then◌else◌}
-use Rattle.std.specs.Borrow.{Bor}
+use Rattle.std.specs.Prelude.{ℕ, Bool, false, not, List, [], ◌∷◌, None, if◌then◌else◌}
 use Rattle.std.specs.List.{flat_map, list_any}
 use Rattle.std.specs.Option.{option_map_or}
 use Rattle.std.specs.Str.{bytes_eq}
@@ -29,9 +28,6 @@ key_of selection = key_step (out-Selection selection)
 -- the response keys of the fields among selections
 abbrev pub response_keys : List Selection → List (List ℕ)
 response_keys roots = flat_map key_of roots
-
-abbrev pub texts_of : List (Bor (List ℕ)) → List (List ℕ)
-texts_of texts = map (λ (text : Bor (List ℕ)). text.now) texts
 
 abbrev pub are_different : List (List ℕ) → Bool
 are_different [] = false

@@ -2,7 +2,7 @@
 
 ghost use Rattle.std.specs.Prelude.{◌≡◌, ◌++◌, IfOk, OnOk};
 ghost use Rattle.gql_document.specs.BuiltSelections as spec;
-ghost use Rattle.gql_document.specs.Made as made_by;
+ghost use Rattle.gql_document.specs.bridge.Made as made_by;
 
 use crate::type_kind::{Leaf, is_open, leaf_of, type_inside};
 use gql_ast as ast;

@@ -4,7 +4,7 @@ ghost use Rattle.std.specs.Prelude.{◌≡◌, ◌++◌, OnOk};
 ghost use Rattle.std.specs.List.{flat_map};
 ghost use Rattle.gql_document.specs.AmbiguousAnonymousOperation.{are_several as are_several_of};
 ghost use Rattle.gql_document.specs.Build as spec;
-ghost use Rattle.gql_document.specs.RootWalk.{selections_of};
+ghost use Rattle.gql_document.specs.bridge.RootWalk.{selections_of};
 
 use crate::ambiguous_anonymous_operation::{are_several, list_ambiguous_anonymous_operation};
 use crate::fragment_tree::FragmentTree;

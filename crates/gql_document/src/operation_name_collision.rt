@@ -2,6 +2,7 @@
 
 ghost use Rattle.std.specs.Prelude.{◌≡◌, ◌++◌, IfOk, OnOk};
 ghost use Rattle.gql_document.specs.OperationNameCollision as spec;
+ghost use Rattle.gql_document.specs.bridge.OperationNameCollision as spec_bridge;
 
 use crate::fault::list_name;
 use gql_ast::OperationDefinition;
@@ -95,8 +96,8 @@ fn note_some(
 
 /// Adds a name that is not there.
 fn add_name(names: &mut Table<Name>, name: Name) -> Result<(), Memory>
-    requires { spec.is_new names.old name }
-    ensures { OnOk result (names.new ≡ spec.added names.old name) }
+    requires { spec_bridge.is_new names.old name }
+    ensures { OnOk result (names.new ≡ spec_bridge.added names.old name) }
 {
     match names.insert_new(name) {
         Ok(()) => Ok(()),

@@ -1,9 +1,9 @@
 //! The selections at the root of a subscription.
 
 ghost use Rattle.std.specs.Prelude.{◌≡◌, IfOk, OnOk};
-ghost use Rattle.gql_document.specs.OperationNameCollision as names;
+ghost use Rattle.gql_document.specs.bridge.OperationNameCollision as names;
 ghost use Rattle.gql_document.specs.RootSelections as spec;
-ghost use Rattle.gql_document.specs.RootWalk as walk;
+ghost use Rattle.gql_document.specs.bridge.RootWalk as walk;
 
 use crate::fragment_tree::FragmentTree;
 use crate::type_kind::{is_defined, is_open};

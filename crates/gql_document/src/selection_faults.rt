@@ -1,7 +1,7 @@
 //! The faults of selections, by one walk.
 
 ghost use Rattle.std.specs.Prelude.{◌≡◌, ◌++◌, OnOk};
-ghost use Rattle.gql_document.specs.FaultsBelow as below;
+ghost use Rattle.gql_document.specs.bridge.FaultsBelow as below;
 ghost use Rattle.gql_document.specs.SelectionFaults as spec;
 
 use crate::subselection_on_enum_type::list_subselection_on_enum_type;

@@ -3,7 +3,7 @@
 
 ghost use Rattle.std.specs.Prelude.{◌≡◌, ◌++◌, OnOk};
 ghost use Rattle.std.specs.List.{list_any};
-ghost use Rattle.gql_document.specs.RootWalk.{selections_of};
+ghost use Rattle.gql_document.specs.bridge.RootWalk.{selections_of};
 ghost use Rattle.gql_document.specs.SubscriptionUsesConditionalSelection as spec;
 
 use crate::fault::{list_word, operation_text};

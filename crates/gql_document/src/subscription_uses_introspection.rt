@@ -1,7 +1,7 @@
 //! The root field of a subscription is no field of introspection (GraphQL October 2021, section 5.2.3.1).
 
 ghost use Rattle.std.specs.Prelude.{◌≡◌, ◌++◌, OnOk};
-ghost use Rattle.gql_document.specs.RootWalk.{selections_of};
+ghost use Rattle.gql_document.specs.bridge.RootWalk.{selections_of};
 ghost use Rattle.gql_document.specs.SubscriptionUsesIntrospection as spec;
 
 use crate::fault::{list_word, operation_text};

@@ -4,8 +4,9 @@ ghost use Rattle.std.specs.Prelude.{◌≡◌, ◌++◌, ℕ, List, not, IfOk, O
 ghost use Rattle.std.specs.Borrow.{Bor};
 ghost use Rattle.std.specs.List.{list_any};
 ghost use Rattle.std.specs.Str.{bytes_eq};
-ghost use Rattle.gql_document.specs.RootWalk.{selections_of};
+ghost use Rattle.gql_document.specs.bridge.RootWalk.{selections_of};
 ghost use Rattle.gql_document.specs.SubscriptionUsesMultipleFields as spec;
+ghost use Rattle.gql_document.specs.bridge.SubscriptionUsesMultipleFields as spec_bridge;
 
 use crate::fault::{list_word, operation_text};
 use gql_ast::{Field, OperationDefinition, Selection};
@@ -42,7 +43,7 @@ fn response_keys<'d>(
     alloc: Global,
     roots: &Listed<&'d Selection>,
 ) -> Result<Listed<&'d str>, Memory>
-    ensures { IfOk result (λ keys. spec.texts_of keys ≡ spec.response_keys (selections_of roots.now)) }
+    ensures { IfOk result (λ keys. spec_bridge.texts_of keys ≡ spec.response_keys (selections_of roots.now)) }
 {
     let mut keys = Listed::new(alloc);
     for root in roots.as_slice() {
@@ -53,7 +54,7 @@ fn response_keys<'d>(
 
 /// Adds the response key of a selection, if it is a field.
 fn add_key<'d>(selection: &'d Selection, keys: &mut Listed<&'d str>) -> Result<(), Memory>
-    ensures { OnOk result (spec.texts_of keys.new ≡ spec.texts_of keys.old ++ spec.key_of selection.now) }
+    ensures { OnOk result (spec_bridge.texts_of keys.new ≡ spec_bridge.texts_of keys.old ++ spec.key_of selection.now) }
 {
     match selection {
         Selection::Field(field) => keys.push(response_key(field)),
@@ -73,7 +74,7 @@ fn response_key(field: &Field) -> &str
 
 /// Whether the keys are not all the same.
 fn are_different(keys: &[&str]) -> bool
-    ensures { result ≡ spec.are_different (spec.texts_of keys.now) }
+    ensures { result ≡ spec.are_different (spec_bridge.texts_of keys.now) }
 {
     match keys.split_first() {
         Some((first, others)) => has_another(first, others),

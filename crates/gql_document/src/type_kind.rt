@@ -1,7 +1,7 @@
 //! What a schema says of the types that selections are on.
 
 ghost use Rattle.std.specs.Prelude.{◌≡◌};
-ghost use Rattle.gql_document.specs.Leaves as leaves;
+ghost use Rattle.gql_document.specs.bridge.Leaves as leaves;
 ghost use Rattle.gql_document.specs.Nodes as spec;
 
 use gql_ast_base::{Name, TypeRef};

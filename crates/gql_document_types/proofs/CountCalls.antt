@@ -8,7 +8,7 @@ use Rattle.gql_document_types.specs.declared.fragment.Fragment.{Fragment}
 use Rattle.gql_document_types.specs.declared.selection.Selection.{Selection}
 use Rattle.gql_document_types.specs.Contents.{HaveContents}
 use Rattle.gql_document_types.specs.Count.{count}
-use Rattle.gql_document_types.specs.Counted.{IsCounted, AreRight, one_count, count_at}
+use Rattle.gql_document_types.specs.bridge.Counted.{IsCounted, AreRight, one_count, count_at}
 use Rattle.gql_document_types.specs.Expanded.{expanded}
 use Rattle.gql_document_types.proofs.Counts.{count-inside, count-item}
 

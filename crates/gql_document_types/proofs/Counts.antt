@@ -13,8 +13,9 @@ use Rattle.gql_schema_types.specs.Entries.{is_called}
 use Rattle.gql_schema_types.proofs.Lookups.{found, missing}
 use Rattle.gql_document_types.specs.Contents.{HaveContents}
 use Rattle.gql_document_types.specs.Count.{count}
-use Rattle.gql_document_types.specs.Counted.{one_count, spread_count, count_at}
-use Rattle.gql_document_types.specs.Expanded.{in_place, contents, expanded, expanded_one, expanded_field, expanded_inline, expanded_spread}
+use Rattle.gql_document_types.specs.bridge.Counted.{one_count, spread_count, count_at}
+use Rattle.gql_document_types.specs.Expanded.{in_place, contents, expanded}
+use Rattle.gql_document_types.specs.bridge.Expanded.{expanded_one, expanded_field, expanded_inline, expanded_spread}
 use Rattle.gql_document_types.proofs.Views.{expand-field, expand-spread, expand-inline, count-inline}
 
 count-append : (xs ys : List Selection) → count (xs ++ ys) ≡ count xs + count ys

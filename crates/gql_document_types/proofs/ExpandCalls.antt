@@ -9,7 +9,8 @@ use Rattle.gql_document_types.specs.declared.selection.Selection.TheVariants as 
 use Rattle.gql_document_types.specs.declared.selection.SelectionSet.{SelectionSet}
 use Rattle.gql_schema_types.specs.Entries.{is_called}
 use Rattle.gql_document_types.specs.Contents.{HaveContents}
-use Rattle.gql_document_types.specs.Expanded.{contents, expanded, expanded_set, expanded_spread, IsInPlace}
+use Rattle.gql_document_types.specs.Expanded.{contents, expanded, expanded_set}
+use Rattle.gql_document_types.specs.bridge.Expanded.{expanded_spread, IsInPlace}
 use Rattle.gql_document_types.proofs.Counts.{entry-there, spread-defined, spread-undefined}
 
 some-same : {A : Type 0} (x y : A) → Some x ≡ Some y → x ≡ y

@@ -7,7 +7,7 @@ use Rattle.std.proofs.lemmas.Slice.Eq.{bytes_eq-Decides}
 use Rattle.gql_ast_base.specs.Names.{Named}
 use Rattle.gql_schema_types.specs.Entries.{entry}
 use Rattle.gql_document_types.specs.RootFields.{fragment_name, is_entered, itself}
-use Rattle.gql_document_types.specs.RootWalk.{Walk, noted, with_list, with_body, with_spread, met, with_selection, with_first}
+use Rattle.gql_document_types.specs.bridge.RootWalk.{Walk, noted, with_list, with_body, with_spread, met, with_selection, with_first}
 use Rattle.gql_document_types.specs.declared.fragment.Fragment.{Fragment}
 use Rattle.gql_document_types.specs.declared.selection.Field.{Field}
 use Rattle.gql_document_types.specs.declared.selection.FragmentSpread.{FragmentSpread}

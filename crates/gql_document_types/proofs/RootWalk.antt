@@ -6,7 +6,7 @@ use Rattle.std.proofs.lemmas.List.{reverse-append, append-nil}
 use Rattle.gql_ast_base.specs.Names.{Named}
 use Rattle.gql_schema_types.specs.Entries.{entry}
 use Rattle.gql_document_types.specs.RootFields.{AreRootFields, none_left, a_field, an_inline_fragment, a_first_spread, a_further_spread, fragment_name, is_entered, fields_of}
-use Rattle.gql_document_types.specs.RootWalk.{Walk, lists_of, walk_of, noted, with_list, with_body, with_spread, met, with_selection, with_first}
+use Rattle.gql_document_types.specs.bridge.RootWalk.{Walk, lists_of, walk_of, noted, with_list, with_body, with_spread, met, with_selection, with_first}
 use Rattle.gql_document_types.specs.declared.fragment.Fragment.{Fragment}
 use Rattle.gql_document_types.specs.declared.selection.Field.{Field}
 use Rattle.gql_document_types.specs.declared.selection.FragmentSpread.{FragmentSpread}

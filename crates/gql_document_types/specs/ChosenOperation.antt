@@ -40,10 +40,6 @@ why_none None operations = no_name (length operations)
 abbrev pub refusal : List ℕ → RequestError
 refusal message = record { message = message; location = None; is_suspected_validation_bug = false }
 
-abbrev pub IsRefusal : {E : Type 0} → Result (List ℕ) E → Refused RequestError → Type 0
-IsRefusal (Ok message) answer = answer ≡ Fault (refusal message)
-IsRefusal (Err _) answer = answer ≡ Memory
-
 abbrev pub text_of : Option (Bor (List ℕ)) → Option (List ℕ)
 text_of name = option_map (λ (text : Bor (List ℕ)). text.now) name
 

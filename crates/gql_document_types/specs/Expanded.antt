@@ -1,6 +1,6 @@
 -- Selections without spreads: each spread is replaced by an inline fragment that selects what its fragment selects.
 -- Sections 2.8 and 2.8.2 of GraphQL October 2021.
-use Rattle.std.specs.Prelude.{◌≡◌, ℕ, zero, suc, List, [], ◌∷◌, ◌++◌, length, map, slice_get, Some}
+use Rattle.std.specs.Prelude.{ℕ, zero, suc, List, [], ◌∷◌, ◌++◌, length, map, Some}
 use Rattle.std.specs.Option.{option_map_or}
 use Rattle.gql_document_types.specs.RootFields.{fragment_name}
 use Rattle.gql_document_types.specs.declared.fragment.Fragment.{Fragment}
@@ -84,24 +84,6 @@ module _ (fragments : List Fragment) where
 
   abbrev pub expanded_set : SelectionSet → SelectionSet
   expanded_set set = record set { selections = expanded set.selections }
-
-  -- what stands in the place of one selection
-  abbrev pub expanded_one : Selection → List Selection
-  expanded_one = expand_one contents
-
-  abbrev pub expanded_field : Field → Field
-  expanded_field field = record field { selection_set = expanded_set field.selection_set }
-
-  abbrev pub expanded_inline : InlineFragment → InlineFragment
-  expanded_inline fragment = record fragment { selection_set = expanded_set fragment.selection_set }
-
-  abbrev pub expanded_spread : FragmentSpread → List Selection
-  expanded_spread = spread_step contents
-
-  -- the inline fragment for a spread of the fragment of a number
-  abbrev pub IsInPlace : FragmentSpread → ℕ → InlineFragment → Type 0
-  IsInPlace spread number made =
-      (fragment : Fragment) → slice_get fragments number ≡ Some fragment → made ≡ in_place spread fragment (contents fragment)
 
   abbrev pub expanded_operation : Operation → Operation
   expanded_operation operation = record operation { selection_set = expanded_set operation.selection_set }

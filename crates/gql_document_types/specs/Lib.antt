@@ -1,13 +1,12 @@
 pub mod Contents
 pub mod Count
-pub mod Counted
 pub mod Expanded
 pub mod Spreadless
 pub mod OneSpread
 pub mod Refusal
 pub mod ChosenOperation
 pub mod RootFields
-pub mod RootWalk
 pub mod Spreads
 pub mod Typed
 pub mod Ranks
+pub mod bridge

@@ -3,7 +3,7 @@
 ghost use Rattle.std.specs.Prelude.{◌≡◌, ◌+◌, ◌<◌, length, leb, IfOk};
 ghost use Rattle.gql_document_types.specs.Contents.{HaveContents};
 ghost use Rattle.gql_document_types.specs.Count.{count};
-ghost use Rattle.gql_document_types.specs.Counted.{AreRight, IsCounted, count_at, field_count, inline_count, one_count, spread_count};
+ghost use Rattle.gql_document_types.specs.bridge.Counted.{AreRight, IsCounted, count_at, field_count, inline_count, one_count, spread_count};
 ghost use Rattle.gql_document_types.specs.Expanded.{expanded};
 
 use crate::fragment::Fragment;

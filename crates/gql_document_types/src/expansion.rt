@@ -3,6 +3,7 @@
 ghost use Rattle.std.specs.Prelude.{◌≡◌, ◌++◌, ◌<◌, length, IfOk, OnOk};
 ghost use Rattle.gql_document_types.specs.Contents.{HaveContents};
 ghost use Rattle.gql_document_types.specs.Expanded as spec;
+ghost use Rattle.gql_document_types.specs.bridge.Expanded as spec_bridge;
 
 use crate::fragment::Fragment;
 use crate::selection::{Field, FragmentSpread, InlineFragment, Selection, SelectionSet};
@@ -46,7 +47,7 @@ impl<'a> Expansion<'a> {
     #[cycle(expanding)]
     fn add(&self, selection: &Selection, made: &mut Listed<Selection>) -> Result<(), Memory>
         requires contents { HaveContents self.now.fragments.now }
-        ensures { OnOk result (made.new ≡ made.old ++ spec.expanded_one self.now.fragments.now selection.now) }
+        ensures { OnOk result (made.new ≡ made.old ++ spec_bridge.expanded_one self.now.fragments.now selection.now) }
     {
         match selection {
             Selection::Field(field) => made.push(Selection::Field(self.field(field)?)),
@@ -61,7 +62,7 @@ impl<'a> Expansion<'a> {
     #[cycle(expanding)]
     fn field(&self, field: &Field) -> Result<Field, Memory>
         requires contents { HaveContents self.now.fragments.now }
-        ensures { IfOk result (λ made. made ≡ spec.expanded_field self.now.fragments.now field.now) }
+        ensures { IfOk result (λ made. made ≡ spec_bridge.expanded_field self.now.fragments.now field.now) }
     {
         let (selection_set, definition) = both(
             self.selection_set(&field.selection_set),
@@ -88,7 +89,7 @@ impl<'a> Expansion<'a> {
     #[cycle(expanding)]
     fn inline(&self, fragment: &InlineFragment) -> Result<InlineFragment, Memory>
         requires contents { HaveContents self.now.fragments.now }
-        ensures { IfOk result (λ made. made ≡ spec.expanded_inline self.now.fragments.now fragment.now) }
+        ensures { IfOk result (λ made. made ≡ spec_bridge.expanded_inline self.now.fragments.now fragment.now) }
     {
         let (type_condition, directives, selection_set) = all_three(
             fragment.type_condition.copy(self.alloc),
@@ -111,7 +112,7 @@ impl<'a> Expansion<'a> {
         made: &mut Listed<Selection>,
     ) -> Result<(), Memory>
         requires contents { HaveContents self.now.fragments.now }
-        ensures { OnOk result (made.new ≡ made.old ++ spec.expanded_spread self.now.fragments.now spread.now) }
+        ensures { OnOk result (made.new ≡ made.old ++ spec_bridge.expanded_spread self.now.fragments.now spread.now) }
     {
         match self.fragments.find(spread.fragment_name.as_str()) {
             Some(number) => made.push(Selection::InlineFragment(self.in_place(spread, number)?)),
@@ -124,7 +125,7 @@ impl<'a> Expansion<'a> {
     fn in_place(&self, spread: &FragmentSpread, number: usize) -> Result<InlineFragment, Memory>
         requires contents { HaveContents self.now.fragments.now }
         requires within { number < length self.now.fragments.now }
-        ensures { IfOk result (λ made. spec.IsInPlace self.now.fragments.now spread.now number made) }
+        ensures { IfOk result (λ made. spec_bridge.IsInPlace self.now.fragments.now spread.now number made) }
     {
         let body = &self.fragments.as_slice()[number].selection_set;
         let (condition, directives, selection_set) = all_three(

@@ -3,6 +3,7 @@
 ghost use Rattle.std.specs.Prelude.{◌≡◌, IfOk};
 ghost use Rattle.std.specs.Option.{option_copied};
 ghost use Rattle.gql_document_types.specs.ChosenOperation as spec;
+ghost use Rattle.gql_document_types.specs.bridge.ChosenOperation as spec_bridge;
 
 use crate::document::ExecutableDocument;
 use crate::operation::Operation;
@@ -70,7 +71,7 @@ fn only_operation(operations: &Listed<Operation>) -> Option<&Operation>
 
 /// The refusal that says this, which is told without a place.
 fn refusal(message: Result<Text, Memory>) -> Refused<RequestError>
-    ensures { spec.IsRefusal message result }
+    ensures { spec_bridge.IsRefusal message result }
 {
     match message {
         Ok(message) => Refused::Fault(RequestError {

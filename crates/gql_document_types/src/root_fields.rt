@@ -3,7 +3,7 @@
 ghost use Rattle.std.specs.Prelude.{◌≡◌, List, [], IfOk, OnOk};
 ghost use Rattle.std.specs.Borrow.{Bor};
 ghost use Rattle.gql_document_types.specs.RootFields.{AreRootFields, fields_of};
-ghost use Rattle.gql_document_types.specs.RootWalk as walk;
+ghost use Rattle.gql_document_types.specs.bridge.RootWalk as walk;
 ghost use Rattle.gql_document_types.specs.declared.selection.Field.{Field};
 
 use crate::document::ExecutableDocument;

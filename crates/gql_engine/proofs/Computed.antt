@@ -15,7 +15,8 @@ use Rattle.gql_ast.specs.Operations.{operation_of, fragment_of, variables, varia
 use Rattle.gql_ast.specs.Selections.{type_condition, spread_of, field_step, inline_step, choice_step, selection_step}
 use Rattle.gql_ast_base.specs.Directives.{argument_of, arguments, directive_of, directives}
 use Rattle.gql_ast_base.specs.Types.{form_step, type_step}
-use Rattle.gql_lexer.specs.Lex.{lex, run_len, blank_len, string_len, string, quoted}
+use Rattle.gql_lexer.specs.Lex.{run_len, blank_len, string_len}
+use Rattle.gql_lexer.specs.bridge.Lex.{lex, string, quoted}
 
 unfoldable pub tokens_computed : ⊤
 unfolding lex run_len blank_len string_len string quoted

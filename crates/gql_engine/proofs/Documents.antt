@@ -14,7 +14,7 @@ use Rattle.gql_document.specs.Build as build
 use Rattle.gql_document.specs.BuiltSelections.{makes_of}
 use Rattle.gql_document.specs.Builders.{Taken, built}
 use Rattle.gql_document.specs.Definitions.{with_definitions, no_definitions}
-use Rattle.gql_document.specs.Made as made
+use Rattle.gql_document.specs.bridge.Made as made
 use Rattle.gql_document.specs.Nodes.{is_leaf}
 use Rattle.gql_parser.specs.DocumentText.{DocumentText}
 use Rattle.gql_parser.proofs.Made.{made_field}

@@ -13,7 +13,8 @@ use Rattle.gql_resolvers.specs.Data.{Data}
 use Rattle.gql_resolvers.specs.DataMeaning.{data_meaning}
 use Rattle.gql_response.specs.declared.graphql_error.GraphQLError.{GraphQLError}
 use Rattle.gql_engine.specs.Meant.{AreFaults, no_schema, no_document}
-use Rattle.gql_engine.specs.Reply.{RespondsTo, WishAnswers, WishRefuses, root_of, wanted_of}
+use Rattle.gql_engine.specs.Reply.{root_of, wanted_of}
+use Rattle.gql_engine.specs.bridge.Reply.{RespondsTo, WishAnswers, WishRefuses}
 use Rattle.gql_engine.specs.Reports.{reports_of}
 use Rattle.gql_engine.specs.Responding.{HasCauseOf, OrCause, Responds}
 use Rattle.gql_engine.specs.Serving.{IsDoneOutput, IsOutput, IsRefusedOutput, line}

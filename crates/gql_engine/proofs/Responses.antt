@@ -38,12 +38,15 @@ use Rattle.gql_engine.specs.declared.ready.ReadyOperation.{ReadyOperation}
 use Rattle.gql_engine.specs.declared.response_bytes.Written.{Written}
 use Rattle.gql_engine.specs.AnswerError.{Call, ComesFor, HasCause, IsObjectText, IsValid, wanted_with}
 use Rattle.gql_parser.specs.Selecting.{SelectsSomething}
-use Rattle.gql_engine.specs.Answered.{Answered, ExecutionLooks, IsFullyExplainedBy, IsPrint, IsResponseBy, IsResponseOver, IsResultOf, IsRoot}
+use Rattle.gql_engine.specs.Answered.{Answered, ExecutionLooks, IsFullyExplainedBy, IsResponseBy, IsResponseOver, IsResultOf, IsRoot}
+use Rattle.gql_engine.specs.bridge.Answered.{IsPrint}
 use Rattle.gql_engine.specs.Answering.{Answers, AnswersWithin}
 use Rattle.gql_engine.specs.Depths.{IsShallow, all_selections, depth_looks}
 use Rattle.gql_engine.specs.Ready.{IsChosen, MeantBy}
-use Rattle.gql_engine.specs.Phases.{IsReady, ready_as}
-use Rattle.gql_engine.specs.Responding.{AnsweredWithin, HasCauseOf, IsOfStep, IsRefusedAt, OrCause, Responds}
+use Rattle.gql_engine.specs.Phases.{IsReady}
+use Rattle.gql_engine.specs.bridge.Phases.{ready_as}
+use Rattle.gql_engine.specs.Responding.{AnsweredWithin, HasCauseOf, IsRefusedAt, OrCause, Responds}
+use Rattle.gql_engine.specs.bridge.Responding.{IsOfStep}
 use Rattle.gql_engine.specs.Unanswered.{IsTooDeep, IsUnchosen, IsUncoerced}
 use Rattle.gql_source.specs.File.{Files}
 use Rattle.gql_engine.specs.Wanted.{Members, Wanted, wanted_over}

@@ -4,7 +4,8 @@ use Rattle.jb_io.specs.Sink.{Told}
 use Rattle.jb_io.specs.Stream.{HasFailed}
 use Rattle.jb_io.specs.declared.serving.TheConstants.{ANSWERED, NO_MEMORY, SINK_FAILED, SOURCE_FAILED, TOO_LONG}
 use Rattle.gql_engine.specs.Output.{IsDone, IsRefused}
-use Rattle.gql_engine.specs.Program.{BreaksOff, IsTested, Writes}
+use Rattle.gql_engine.specs.Program.{BreaksOff, Writes}
+use Rattle.gql_engine.specs.bridge.Program.{IsTested}
 use Rattle.gql_engine.specs.Task.{Asks}
 use Rattle.gql_engine.specs.declared.task.Task.{Task}
 use Rattle.gql_engine.specs.declared.task.Task.TheVariants.{SelfTest}

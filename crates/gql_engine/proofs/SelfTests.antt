@@ -22,8 +22,10 @@ use Rattle.gql_schema_types.specs.declared.types.ObjectType.{ObjectType}
 use Rattle.gql_engine.specs.Meaning.{IsSelfTest}
 use Rattle.gql_engine.specs.Texts.{query_text, schema_text}
 use Rattle.gql_engine.proofs.Ways.{few_looks, few_selections}
-use Rattle.gql_engine.specs.Output.{IsMeasured, Line, Measures, summary}
-use Rattle.gql_engine.specs.Reply.{Answers, RespondsTo, root_of}
+use Rattle.gql_engine.specs.Output.{Line, Measures, summary}
+use Rattle.gql_engine.specs.bridge.Output.{IsMeasured}
+use Rattle.gql_engine.specs.Reply.{Answers, root_of}
+use Rattle.gql_engine.specs.bridge.Reply.{RespondsTo}
 use Rattle.gql_engine.specs.declared.response_bytes.Written.{Written}
 use Rattle.gql_resolvers.proofs.DataSkips.{data-whole}
 

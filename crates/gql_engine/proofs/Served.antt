@@ -8,7 +8,8 @@ use Rattle.gql_engine.specs.declared.request_form.RequestForm.{RequestForm}
 use Rattle.gql_engine.specs.declared.request_form.RequestForm.TheVariants.{Plain}
 use Rattle.gql_engine.specs.Output.{IsDone, IsRefused}
 use Rattle.gql_engine.specs.Program.{BreaksOff, Writes}
-use Rattle.gql_engine.specs.Reply.{MustDo, MustRefuse, WishAnswers, WishMust, WishMustNot, WishRefuses, faulty, no_answer, no_request as refused_request}
+use Rattle.gql_engine.specs.Reply.{MustDo, MustRefuse, faulty, no_answer, no_request as refused_request}
+use Rattle.gql_engine.specs.bridge.Reply.{WishAnswers, WishMust, WishMustNot, WishRefuses}
 use Rattle.gql_engine.specs.Reply.{not_asked as cause_not_asked, unanswered as cause_unanswered}
 use Rattle.gql_engine.specs.Serving.{AnswersBytes, BreaksOff as BreaksOffHere, IsInput, MustAnswerBytes, MustRefuseBytes, RefusesBytes, Serves, no_request, not_asked, refusable, unanswered}
 use Rattle.gql_engine.specs.Task.{Asks}

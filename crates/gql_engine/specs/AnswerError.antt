@@ -16,7 +16,6 @@ use Rattle.gql_engine.specs.declared.answer_error.RequestKind.TheVariants.{Opera
 use Rattle.gql_engine.specs.declared.answer_error.VariablesFault.TheVariants.{Read, NotObject}
 use Rattle.gql_engine.specs.declared.answer_error.AnswerError.{AnswerError}
 use Rattle.gql_engine.specs.declared.answer_error.AnswerError.TheVariants.{Variables, Schema, Document, Request, Memory}
-use Rattle.gql_engine.specs.declared.call.Call.{Call as CallHere}
 
 -- what a call is given: two texts, the name of an operation, the text of the variables, and whether introspection is on
 pub record Call : Type 0 where
@@ -34,10 +33,6 @@ call_of schema query operation_name variables introspection = record {
   variables = variables;
   introspection = introspection;
 }
-
--- the call over these texts
-abbrev pub call_over : (schema query : List ℕ) → CallHere → Call
-call_over schema query call = call_of schema query call.operation_name call.variables.now call.introspection
 
 -- what it wants with these members of the variables' object
 abbrev pub wanted_with : Call → Members → Wanted

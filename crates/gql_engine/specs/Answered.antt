@@ -104,11 +104,6 @@ errors_in answered = length answered.executed.response.errors
 
 -- ---- with the number of errors
 
--- a response as it is written
-pub record IsPrint (response : ExecutionResponse) (written : Written) : Type 0 where
-  pub bytes : written.bytes ≡ compact (response_value response)
-  pub errors : written.errors ≡ length response.errors
-
 pub record IsResultOf {X : Type 0} (introspection : Bool) (type_of : X → List ℕ) (resolves : Resolving X) (root : X) (schema : Schema)
     (document : ExecutableDocument) (operation : Operation) (variables : Members) (before after : ℕ) (written : Written) : Type 0 where
   pub is : IsExecutionOf introspection type_of resolves root schema document operation variables written.bytes

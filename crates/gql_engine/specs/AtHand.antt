@@ -7,8 +7,6 @@ use Rattle.gql_source.specs.declared.file_id.FileId.{FileId}
 use Rattle.gql_document_types.specs.declared.document.ExecutableDocument.{ExecutableDocument}
 use Rattle.gql_parser.specs.DocumentText.{DocumentText}
 use Rattle.gql_parser.specs.SchemaText.{SchemaText}
-use Rattle.gql_rules_nodes.specs.PossibleTable.{ArePossibleIn}
-use Rattle.gql_rules_nodes.specs.declared.possible_types.PossibleTypes.{PossibleTypes}
 use Rattle.gql_schema_types.specs.declared.schema.Schema.{Schema}
 
 -- the texts of a schema and of a query
@@ -26,11 +24,6 @@ schema_text_in schema = text_in (record { number = 3 }) schema.sources
 
 abbrev pub query_text_in : ExecutableDocument → List ℕ
 query_text_in document = text_in (record { number = 4 }) document.sources
-
--- the text means this schema, and these types are possible in it
-pub record IsAtHand (text : List ℕ) (schema : Schema) (possible : PossibleTypes) : Type 0 where
-  pub means : SchemaText text schema
-  pub are_possible : ArePossibleIn schema.types possible
 
 -- against the schema that the one text means, the other means this document
 abbrev pub IsDocumentOver : (schema_text query_text : List ℕ) → ExecutableDocument → Type 0

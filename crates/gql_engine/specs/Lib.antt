@@ -1,4 +1,3 @@
--- What the request of the self-test means.
 pub mod Texts
 pub mod Meaning
 pub mod Request
@@ -13,7 +12,6 @@ pub mod Answered
 pub mod Unanswered
 pub mod Responding
 pub mod Phases
-pub mod Made
 pub mod AnswerError
 pub mod Told
 pub mod Answering
@@ -27,6 +25,6 @@ pub mod Reports
 pub mod Output
 pub mod Program
 pub mod Resolving
-pub mod Executing
 pub mod Passed
 pub use Rattle.gql_parser.specs.DocumentText
+pub mod bridge

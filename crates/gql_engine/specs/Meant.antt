@@ -1,6 +1,6 @@
 -- What the texts of a schema and of a query mean, or what is wrong with the first of them that means nothing: sections 2, 3 and 5 of
 -- GraphQL October 2021.
-use Rattle.std.specs.Prelude.{ℕ, List, Option, Some, None}
+use Rattle.std.specs.Prelude.{ℕ, List}
 use Rattle.gql_diag.specs.List.{Diagnostics}
 use Rattle.gql_parser.specs.DocumentFaults.{DocumentFaults}
 use Rattle.gql_parser.specs.DocumentText.{DocumentText}
@@ -30,8 +30,3 @@ pub record IsNoDocument (schema_text query_text : List ℕ) (list : Diagnostics)
 pub data AreFaults (schema_text query_text : List ℕ) : Diagnostics → Type 0 where
   no_schema : (list : Diagnostics) → SchemaFaults schema_text list → AreFaults schema_text query_text list
   no_document : (list : Diagnostics) → IsNoDocument schema_text query_text list → AreFaults schema_text query_text list
-
--- what is wrong with the first text that means nothing, or nothing where both mean something
-abbrev pub AreTextsChecked : List ℕ → List ℕ → Option Diagnostics → Type 0
-AreTextsChecked schema query None = Meant schema query
-AreTextsChecked schema query (Some list) = AreFaults schema query list

@@ -2,7 +2,6 @@
 use Rattle.std.specs.Prelude.{◌≡◌, ◌≤◌, ◌+◌, ℕ, List, ◌++◌, length, ◌⊎◌, codes}
 use Rattle.std.specs.Fmt.{decimal}
 use Rattle.gql_engine.specs.Answered.{errors_in}
-use Rattle.gql_engine.specs.declared.response_bytes.Written.{Written}
 use Rattle.gql_engine.specs.SelfTest.{self_test}
 use Rattle.gql_engine.specs.Reply.{Answers, AreReports, Passes, Refuses, SaysNotAsked}
 use Rattle.gql_engine.specs.Serving.{line}
@@ -39,9 +38,3 @@ abbrev pub IsRefused : Task → List ℕ → List ℕ → Type 0
 IsRefused (Request Answer) bytes text = Line (Refuses bytes) text
 IsRefused (Request Check) bytes text = Line (SaysNotAsked bytes) text ⊎ AreReports bytes text
 IsRefused (SelfTest items) bytes text = ⊥
-
--- ---- on the way
-
--- the text of a self-test with this response
-abbrev pub IsMeasured : ℕ → Written → List ℕ → Type 0
-IsMeasured items written text = text ≡ line (summary items (length written.bytes) written.errors)

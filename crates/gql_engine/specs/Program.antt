@@ -2,13 +2,10 @@
 use Rattle.std.specs.Prelude.{◌≡◌, ℕ, ◌<◌, List, [], Option, ◌⊎◌, IsSomeAnd, length, codes}
 use Rattle.jb_io.specs.Sink.{Takes, TakesFront, Told}
 use Rattle.jb_io.specs.Source.{ReadsWhole}
-use Rattle.jb_io.specs.Stream.{HasFailed}
 use Rattle.jb_io.specs.declared.stream.TheConstants.{INPUT_LIMIT}
-use Rattle.gql_engine.specs.Output.{Line, Measures}
 use Rattle.gql_engine.specs.Serving.{line}
 pub use Rattle.gql_engine.specs.Serving.{IsInput}
 use Rattle.gql_engine.specs.Task.{Asks}
-use Rattle.jb_io.specs.declared.serving.TheConstants.{ANSWERED, NO_MEMORY, SINK_FAILED}
 use Rattle.gql_engine.specs.declared.task.Task.{Task}
 use Rattle.gql_engine.specs.declared.task.Task.TheVariants.{Request, SelfTest}
 pub use Rattle.gql_engine.specs.Reply.{MustDo, MustRefuse}
@@ -47,14 +44,3 @@ pub record BreaksOff (Done Refused : Task → List ℕ → List ℕ → Type 0) 
   pub read : ReadsFor task left left' bytes
   pub means : Done task bytes text ⊎ Refused task bytes text
   pub wrote : TakesFront taken taken' text
-
--- ---- on the way
-
--- What became of a self-test, by the status: its text was written whole, or in part, since the sink failed; or memory ran out, and then
--- nothing was written.
-abbrev pub IsTested : (items before after : ℕ) → (taken taken' : Option Told) → (faults faults' : ℕ) → (Untouched : Type 0) → ℕ → Type 0
-IsTested items before after taken taken' faults faults' Untouched status =
-    ((status ≡ ANSWERED) × ((text : List ℕ) × Line (Measures before after items) text × Takes taken taken' text))
-    ⊎ (((status ≡ SINK_FAILED)
-    × ((text : List ℕ) × Line (Measures before after items) text × TakesFront taken taken' text × HasFailed faults faults'))
-    ⊎ ((status ≡ NO_MEMORY) × Untouched))

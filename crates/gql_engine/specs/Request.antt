@@ -1,7 +1,6 @@
 -- What a JSON value asks, where it is a request, and else why it is none.
 use Rattle.std.specs.Prelude.{◌≡◌, ℕ, Bool, false, if◌then◌else◌, List, ◌++◌, Option, Some, IsSome}
 use Rattle.std.specs.Prelude.{None, unwrap_or, Result, Ok, Err, codes}
-use Rattle.std.specs.Borrow.{Bor}
 use Rattle.std.specs.Option.{option_map, option_copied}
 use Rattle.std.specs.Str.{bytes_eq}
 use Rattle.std.specs.Map.{lookup}
@@ -116,15 +115,6 @@ asked_in request = record {
 abbrev pub IsAsked : Result Request RequestFault → Result Asked RequestFault → Type 0
 IsAsked (Ok request) read = read ≡ Ok (asked_in request)
 IsAsked (Err fault) read = read ≡ Err fault
-
--- what was found, behind the reference to it
-abbrev pub IsFound : {A : Type 0} → Result (Bor A) RequestFault → Result A RequestFault → Type 0
-IsFound (Ok found) read = read ≡ Ok found.now
-IsFound (Err fault) read = read ≡ Err fault
-
-abbrev pub IsFoundSome : {A : Type 0} → Result (Option (Bor A)) RequestFault → Result (Option A) RequestFault → Type 0
-IsFoundSome (Ok found) read = read ≡ Ok (option_copied found)
-IsFoundSome (Err fault) read = read ≡ Err fault
 
 -- the text of a refusal
 abbrev pub fault_message : RequestFault → List ℕ

@@ -1,8 +1,8 @@
 -- Words that a resolver says what it gives with, most of them passed on.
-use Rattle.std.specs.Prelude.{ℕ, ℤ, pos, negsuc, Bool, List, Option, Some, None, option_and_then}
+use Rattle.std.specs.Prelude.{ℕ, ℤ, pos, negsuc, List, Option, Some, None, option_and_then}
 use Rattle.std.specs.Map.{lookup}
 use Rattle.std.specs.Str.{bytes_eq}
-use Rattle.jb_tree.specs.Value.{string_text, truth_value, whole_number}
+use Rattle.jb_tree.specs.Value.{string_text, whole_number}
 use Rattle.gql_resolvers.specs.Meaning.{Members}
 pub use Rattle.gql_resolvers.specs.Resolved.{Meaning, Meanings, gives_leaf, gives_object, gives_list, gives_skip, fails_with, no_answer, answer_then}
 pub use Rattle.gql_resolvers.specs.Meaning.{Members, itself, meaning_by}
@@ -18,10 +18,6 @@ text_argument name arguments = option_and_then string_text (lookup (bytes_eq nam
 -- where it is a whole number
 abbrev pub number_argument : List ℕ → Members → Option ℤ
 number_argument name arguments = option_and_then whole_number (lookup (bytes_eq name) arguments)
-
--- where it is true or false
-abbrev pub truth_argument : List ℕ → Members → Option Bool
-truth_argument name arguments = option_and_then truth_value (lookup (bytes_eq name) arguments)
 
 -- a whole number from zero up
 abbrev pub natural : ℤ → Option ℕ

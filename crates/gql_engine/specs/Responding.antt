@@ -1,13 +1,8 @@
 -- What is answered to what is wanted. Want of memory alone is free.
-use Rattle.std.specs.Prelude.{◌≡◌, ℕ, List, Result, Ok, Err, ◌⊎◌}
-use Rattle.jb_text.specs.declared.refused.Refused.{Refused}
-use Rattle.jb_text.specs.declared.refused.Refused.TheVariants.{Fault, Memory}
-use Rattle.gql_response.specs.RequestFault.{request_error}
-use Rattle.gql_response.specs.declared.request_error.RequestError.{RequestError}
+use Rattle.std.specs.Prelude.{◌≡◌, ℕ, List, Result, Ok, Err}
 use Rattle.gql_exec.specs.ThingMeaning.{Resolving}
 use Rattle.gql_response.specs.declared.graphql_error.GraphQLError.{GraphQLError}
 use Rattle.gql_parser.specs.SchemaFaults.{SchemaFaults}
-use Rattle.gql_source.specs.File.{Files}
 use Rattle.gql_engine.specs.Meant.{IsNoDocument}
 use Rattle.gql_engine.specs.declared.answer_error.AnswerError.{AnswerError}
 use Rattle.gql_engine.specs.declared.answer_error.AnswerError.TheVariants as error
@@ -49,10 +44,3 @@ pub record AnsweredWithin {X : Type 0} (type_of : X → List ℕ) (resolves : Re
     (bytes : List ℕ) : Type 0 where
   pub answered : Answered type_of resolves root wanted bytes
   pub looks : AnswerLooks answered before after
-
--- ---- on the way
-
--- the refusal of a step, unless memory ran out
-abbrev pub IsOfStep : RequestKind → Files → Refused RequestError → AnswerError → Type 0
-IsOfStep step sources (Fault why) told = (told ≡ error.Request step (request_error why sources)) ⊎ (told ≡ error.Memory)
-IsOfStep step sources Memory told = told ≡ error.Memory

@@ -11,9 +11,6 @@ use Rattle.gql_engine.specs.declared.task.Wish.TheVariants.{Answer, Check}
 abbrev pub IsCount : List ℕ → ℕ → Type 0
 IsCount word n = (word ≡ decimal n) × (n ≤ MOST_ITEMS)
 
-abbrev pub IsNoCount : List ℕ → Type 0
-IsNoCount word = (n : ℕ) → IsCount word n → ⊥
-
 abbrev pub name_of : Wish → List ℕ
 name_of Answer = codes "answer"
 name_of Check = codes "check"

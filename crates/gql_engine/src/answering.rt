@@ -3,9 +3,10 @@
 ghost use Rattle.std.specs.Prelude.{◌≡◌, ◌≢◌, ℕ, List, IfOk, IfErr, IsErrAnd};
 ghost use Rattle.gql_engine.specs.declared.answer_error.AnswerError.{AnswerError as Refusal};
 ghost use Rattle.gql_engine.specs.declared.answer_error.AnswerError.TheVariants as refusal;
-ghost use Rattle.gql_engine.specs.AnswerError.{ComesFor, HasCause, IsValid, call_of, call_over, wanted_with};
+ghost use Rattle.gql_engine.specs.AnswerError.{ComesFor, HasCause, IsValid, call_of, wanted_with};
+ghost use Rattle.gql_engine.specs.bridge.AnswerError.{call_over};
 ghost use Rattle.gql_engine.specs.Answering.{AnswersWithin, GivesAnswer};
-ghost use Rattle.gql_engine.specs.Made.{IsMadeOf, IsMadeOfSome};
+ghost use Rattle.gql_engine.specs.bridge.Made.{IsMadeOf, IsMadeOfSome};
 ghost use Rattle.gql_engine.specs.Responding.{AnsweredWithin, OrCause};
 
 use crate::answer_error::AnswerError;

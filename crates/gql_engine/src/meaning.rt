@@ -1,7 +1,7 @@
 //! What two texts mean.
 
 ghost use Rattle.std.specs.Prelude.{◌≡◌, IfErr, IfOk};
-ghost use Rattle.gql_engine.specs.Meant.{AreTextsChecked};
+ghost use Rattle.gql_engine.specs.bridge.Meant.{AreTextsChecked};
 ghost use Rattle.gql_engine.specs.Responding.{HasCauseOf};
 ghost use Rattle.gql_engine.specs.Service.{IsOfText, IsOfTexts};
 ghost use Rattle.gql_engine.specs.Wanted.{Wanted as WantedOf};

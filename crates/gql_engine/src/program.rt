@@ -1,7 +1,8 @@
 //! The program: its words, its input and its output.
 
 ghost use Rattle.std.specs.Prelude.{◌≡◌, ◌≢◌, ◌≤◌, ◌⊎◌, ℕ, map, string_bytes};
-ghost use Rattle.gql_engine.specs.Program.{BreaksOff, IsInput, IsLong, IsTested, MustDo, MustRefuse, Writes, usage};
+ghost use Rattle.gql_engine.specs.Program.{BreaksOff, IsInput, IsLong, MustDo, MustRefuse, Writes, usage};
+ghost use Rattle.gql_engine.specs.bridge.Program.{IsTested};
 ghost use Rattle.gql_engine.specs.Output.{IsDone, IsRefused};
 ghost use Rattle.gql_engine.specs.Task.{Asks, IsNoCommand, ReadsInput};
 ghost use Rattle.gql_engine.specs.declared.task.Wish.{Wish as WishAsked};

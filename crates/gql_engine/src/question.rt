@@ -1,7 +1,7 @@
 //! What a service is asked.
 
 ghost use Rattle.std.specs.Prelude.{◌≡◌, ℕ, List};
-ghost use Rattle.gql_engine.specs.AnswerError.{call_over};
+ghost use Rattle.gql_engine.specs.bridge.AnswerError.{call_over};
 ghost use Rattle.gql_engine.specs.Service.{asked_of};
 
 use crate::call::Call;

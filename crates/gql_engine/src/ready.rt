@@ -2,7 +2,8 @@
 
 ghost use Rattle.std.specs.Prelude.{ℕ, List, IfErr, IfOk};
 ghost use Rattle.gql_engine.specs.Answered.{Answered, IsResultOf};
-ghost use Rattle.gql_engine.specs.Phases.{AreOfTexts, IsReady, IsReadyForSome, Mean};
+ghost use Rattle.gql_engine.specs.Phases.{IsReady, IsReadyForSome};
+ghost use Rattle.gql_engine.specs.bridge.Phases.{AreOfTexts, Mean};
 ghost use Rattle.gql_engine.specs.Responding.{HasCauseOf, OrCause, Responds};
 ghost use Rattle.gql_engine.specs.Wanted.{Wanted as WantedOf, wanted_over};
 

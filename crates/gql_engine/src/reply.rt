@@ -3,7 +3,8 @@
 ghost use Rattle.std.specs.Prelude.{◌≡◌, ℕ, IfOk};
 ghost use Rattle.gql_engine.specs.Request.{asked_in};
 ghost use Rattle.gql_engine.specs.declared.task.Wish.TheVariants as wished;
-ghost use Rattle.gql_engine.specs.Reply.{RespondsTo, WishAnswers, WishMust, WishMustNot, WishRefuses, wanted_of};
+ghost use Rattle.gql_engine.specs.Reply.{wanted_of};
+ghost use Rattle.gql_engine.specs.bridge.Reply.{RespondsTo, WishAnswers, WishMust, WishMustNot, WishRefuses};
 ghost use Rattle.gql_engine.specs.Reports.{reports_of};
 ghost use Rattle.gql_engine.specs.Responding.{OrCause};
 ghost use Rattle.gql_engine.specs.declared.output.Output.TheVariants as outputs;
@@ -30,7 +31,7 @@ use std::sync::ledger::Ledger;
 
 impl RequestCommand for Wish {
     ghost use Rattle.gql_engine.specs.declared.request_form.RequestForm.TheVariants.{Plain};
-    ghost use Rattle.gql_engine.specs.Reply.{WishAnswers, WishMust, WishMustNot, WishRefuses};
+    ghost use Rattle.gql_engine.specs.bridge.Reply.{WishAnswers, WishMust, WishMustNot, WishRefuses};
 
     ghost form_of = { λ _. Plain };
 

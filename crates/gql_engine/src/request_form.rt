@@ -4,7 +4,8 @@ ghost use Rattle.std.specs.Prelude.{◌≡◌, Some, None, IfOk, MatchResult};
 ghost use Rattle.jb_tree.specs.Value.{object_members, string_text, truth_value};
 ghost use Rattle.std.specs.Option.{option_copied};
 ghost use Rattle.gql_engine.specs.declared.request_form.RequestFault.TheVariants.{WrongKind};
-ghost use Rattle.gql_engine.specs.Request.{asked, asked_by_members, asked_in, member_name, required, optional, member_given as given_member, response_in, fault_message, HasForm, IsAsked, IsFound, IsFoundSome, IsResponseOf};
+ghost use Rattle.gql_engine.specs.Request.{asked, asked_by_members, asked_in, member_name, required, optional, member_given as given_member, response_in, fault_message, HasForm, IsAsked, IsResponseOf};
+ghost use Rattle.gql_engine.specs.bridge.Request.{IsFound, IsFoundSome};
 
 use jb_tree::{Map, Memory, Text, Value};
 use std::alloc::Global;

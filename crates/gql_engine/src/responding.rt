@@ -1,8 +1,8 @@
 //! The response to what is wanted, step by step: what the texts mean, the operation, its depth, its variables, the execution.
 
 ghost use Rattle.std.specs.Prelude.{ℕ, List};
-ghost use Rattle.gql_engine.specs.Made.{IsMadeOf, IsMadeOfSome};
-ghost use Rattle.gql_engine.specs.Phases.{AreOfTexts, Mean};
+ghost use Rattle.gql_engine.specs.bridge.Made.{IsMadeOf, IsMadeOfSome};
+ghost use Rattle.gql_engine.specs.bridge.Phases.{AreOfTexts, Mean};
 ghost use Rattle.gql_engine.specs.Responding.{OrCause, Responds};
 ghost use Rattle.gql_engine.specs.Wanted.{wanted_over};
 

@@ -1,7 +1,7 @@
 //! Responses as bytes.
 
 ghost use Rattle.std.specs.Prelude.{IfOk};
-ghost use Rattle.gql_engine.specs.Answered.{IsPrint};
+ghost use Rattle.gql_engine.specs.bridge.Answered.{IsPrint};
 ghost use Rattle.gql_exec.specs.Running.{IsPrintedIn};
 ghost use Rattle.gql_response.specs.declared.execution_response.ExecutionResponse.{ExecutionResponse as Response};
 

@@ -1,7 +1,8 @@
 //! The self-test: a request of its own, and how large the response to it is.
 
 ghost use Rattle.std.specs.Prelude.{◌≡◌, length, IfOk};
-ghost use Rattle.gql_engine.specs.Output.{IsMeasured, Line, Measures, summary as summary_of};
+ghost use Rattle.gql_engine.specs.Output.{Line, Measures, summary as summary_of};
+ghost use Rattle.gql_engine.specs.bridge.Output.{IsMeasured};
 
 use crate::output::line;
 use crate::reply::respond_to_request;

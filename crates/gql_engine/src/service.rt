@@ -51,7 +51,8 @@ impl Drop for Service {
 
 impl Model for Service {
     ghost use Rattle.std.specs.Prelude.{List, ℕ};
-    ghost use Rattle.gql_engine.specs.AtHand.{IsAtHand, schema_text_in};
+    ghost use Rattle.gql_engine.specs.AtHand.{schema_text_in};
+    ghost use Rattle.gql_engine.specs.bridge.AtHand.{IsAtHand};
 
     ghost Value = { List ℕ };
 

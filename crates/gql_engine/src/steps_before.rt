@@ -4,8 +4,8 @@ ghost use Rattle.std.specs.Prelude.{◌≡◌, ◌≤◌, ◌+◌, true, Ok, Som
 ghost use Rattle.gql_coerce.specs.Variables.{coerced_variables};
 ghost use Rattle.gql_document_types.specs.ChosenOperation.{chosen, text_of};
 ghost use Rattle.gql_engine.specs.Depths.{IsShallow, all_selections, depth_looks};
-ghost use Rattle.gql_engine.specs.Phases.{AreOfTexts, OrCauseOver};
-ghost use Rattle.gql_engine.specs.Responding.{IsOfStep};
+ghost use Rattle.gql_engine.specs.bridge.Phases.{AreOfTexts, OrCauseOver};
+ghost use Rattle.gql_engine.specs.bridge.Responding.{IsOfStep};
 
 use crate::answer_error::{AnswerError, RequestKind};
 use crate::meaning::Texts;

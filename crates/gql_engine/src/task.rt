@@ -1,7 +1,8 @@
 //! What the words of the program ask for.
 
 ghost use Rattle.std.specs.Prelude.{MatchOption, map, string_bytes};
-ghost use Rattle.gql_engine.specs.Task.{Asks, IsCount, IsNoCommand, IsNoCount};
+ghost use Rattle.gql_engine.specs.Task.{Asks, IsCount, IsNoCommand};
+ghost use Rattle.gql_engine.specs.bridge.Task.{IsNoCount};
 
 use crate::decimal_word::decimal_word;
 

@@ -1,9 +1,10 @@
 //! Answering for callers who count no steps.
 
 ghost use Rattle.std.specs.Prelude.{◌≡◌, ◌<◌, ℕ, List};
-ghost use Rattle.gql_engine.specs.AnswerError.{call_of, call_over};
+ghost use Rattle.gql_engine.specs.AnswerError.{call_of};
+ghost use Rattle.gql_engine.specs.bridge.AnswerError.{call_over};
 ghost use Rattle.gql_engine.specs.Answering.{GivesAnswer};
-ghost use Rattle.gql_engine.specs.Made.{IsMadeOf, IsMadeOfSome};
+ghost use Rattle.gql_engine.specs.bridge.Made.{IsMadeOf, IsMadeOfSome};
 
 use crate::answer_error::AnswerError;
 use crate::answering::answer_call;

@@ -6,15 +6,17 @@ use Rattle.gql_schema_types.specs.declared.types.ObjectType.{ObjectType}
 use Rattle.gql_exec.specs.ThingMeaning.{Resolving}
 use Rattle.gql_resolvers.specs.World.{key_of, DistinctKeys}
 use Rattle.gql_collect.specs.Lists.{IsOneOf, AreApart}
-use Rattle.gql_collect.specs.Plan.{AreCollected, AreNodes, HaveNodes, group_in, groups_in, nodes_in, parts_in, sets_below, type_in}
-use Rattle.gql_collect.specs.Ways.{Way, Turn, key_in, part_ways, node_turns, turns_to, ways_to}
+use Rattle.gql_collect.specs.Plan.{group_in, groups_in}
+use Rattle.gql_collect.specs.bridge.Plan.{AreCollected, AreNodes, HaveNodes, nodes_in, parts_in, sets_below, type_in}
+use Rattle.gql_collect.specs.Ways.{Way}
+use Rattle.gql_collect.specs.bridge.Ways.{Turn, key_in, part_ways, node_turns, turns_to, ways_to}
 use Rattle.gql_collect.specs.declared.plan.Node.{Node}
 use Rattle.gql_collect.specs.declared.plan.Part.{Part}
 use Rattle.gql_collect.proofs.Joined.{all-of, map-one, one-joined, apart-map, apart-joined}
 use Rattle.gql_collect.proofs.Nodes.{IsNodeTo, HasNodesTo}
 use Rattle.gql_exec.specs.RequestWorld.{plain_world}
-use Rattle.gql_exec.specs.Executing.{request_of}
-use Rattle.gql_exec.specs.Planning.{ground_in}
+use Rattle.gql_exec.specs.bridge.Executing.{request_of}
+use Rattle.gql_exec.specs.bridge.Planning.{ground_in}
 use Rattle.gql_exec.specs.declared.executing.Executing.{Executing}
 use Rattle.gql_exec.proofs.Collecting.{views-apart}
 use Rattle.gql_exec.proofs.Views.{views}

@@ -14,7 +14,7 @@ use Rattle.gql_resolvers.specs.Spot.{Spot, trail, field_spot}
 use Rattle.gql_resolvers.specs.Trail.{Trail}
 use Rattle.gql_ast_base.specs.TypeParts.{is_non_null}
 use Rattle.gql_resolvers.specs.World.{World}
-use Rattle.gql_exec.specs.Executed.{IsMade}
+use Rattle.gql_exec.specs.bridge.Executed.{IsMade}
 
 pub made-as : {A : Type 0} (found other : Option (List A)) (before after : List GraphQLError) (made whole : Made A) → found ≡ other → made ≡ whole
     → IsMade found before after made → IsMade other before after whole

@@ -13,9 +13,9 @@ use Rattle.gql_resolvers.specs.Spot.{Spot, trail, field_spot}
 use Rattle.gql_resolvers.specs.Trail.{Trail}
 use Rattle.gql_resolvers.specs.World.{World}
 use Rattle.gql_exec.specs.Group.{Group}
-use Rattle.gql_exec.specs.Executed.{IsMade, Makes, MakesBelow}
-use Rattle.gql_exec.specs.Output.{Finds, IsWritten}
-use Rattle.gql_exec.specs.Trails.{null_at}
+use Rattle.gql_exec.specs.bridge.Executed.{IsMade, Makes, MakesBelow}
+use Rattle.gql_exec.specs.bridge.Output.{Finds, IsWritten}
+use Rattle.gql_exec.specs.bridge.Trails.{null_at}
 use Rattle.gql_exec.specs.declared.completed.Completed.{Completed}
 use Rattle.gql_exec.proofs.Outputs.{finds-as}
 use Rattle.gql_exec.proofs.Completing.{made-as, completed-fits}

@@ -18,7 +18,7 @@ use Rattle.gql_exec.specs.Asks as asks
 use Rattle.gql_exec.specs.Group.{Group}
 use Rattle.gql_exec.specs.Request.{Request}
 use Rattle.gql_exec.specs.RequestWorld.{plain_world}
-use Rattle.gql_exec.specs.Asking.{outcome_of}
+use Rattle.gql_exec.specs.bridge.Asking.{outcome_of}
 use Rattle.gql_exec.specs.declared.asking.Asked.{Asked}
 use Rattle.gql_exec.specs.declared.asking.Asked.TheVariants.{Gave, Failed, Refused}
 use Rattle.gql_exec.proofs.Completing.{at_field, field-spot}

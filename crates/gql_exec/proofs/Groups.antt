@@ -12,7 +12,8 @@ use Rattle.gql_resolvers.specs.Trail.{Trail}
 use Rattle.gql_resolvers.specs.World.{World, key_of, DistinctKeys}
 use Rattle.gql_exec.specs.Group.{Group}
 use Rattle.gql_exec.specs.Runs.{RunsAs}
-use Rattle.gql_exec.specs.Executed.{IsMade, IsEnough, MakesBelow, Executes, ExecutesGroups}
+use Rattle.gql_exec.specs.Executed.{IsEnough}
+use Rattle.gql_exec.specs.bridge.Executed.{IsMade, MakesBelow, Executes, ExecutesGroups}
 use Rattle.gql_exec.proofs.Completing.{made-as}
 use Rattle.gql_exec.proofs.Keys.{AreNew, new-begun, new-more, new-less}
 use Rattle.gql_exec.proofs.Steps.{IsOnWay, begun, goes_on, stops, ends}

@@ -9,8 +9,10 @@ use Rattle.gql_resolvers.specs.Resolved.{Meaning, Meanings, gives_object, gives_
 use Rattle.gql_resolvers.specs.Spot.{Spot}
 use Rattle.gql_resolvers.specs.Types.{item_type}
 use Rattle.gql_resolvers.specs.World.{World, key_of}
-use Rattle.gql_collect.specs.Plan.{Ground, group_in, groups_in, most_looks, nodes_in, parts_in, type_in}
-use Rattle.gql_collect.specs.Ways.{Turn, Way, Grows, TurnsTo, key_in, turns_to, ways_to}
+use Rattle.gql_collect.specs.Plan.{group_in, groups_in}
+use Rattle.gql_collect.specs.bridge.Plan.{Ground, most_looks, nodes_in, parts_in, type_in}
+use Rattle.gql_collect.specs.Ways.{Way}
+use Rattle.gql_collect.specs.bridge.Ways.{Turn, Grows, TurnsTo, key_in, turns_to, ways_to}
 use Rattle.gql_collect.specs.declared.plan.Node.{Node}
 use Rattle.gql_collect.specs.declared.plan.Part.{Part}
 use Rattle.gql_collect.proofs.Changes.{with_nodes, with_parts}
@@ -19,9 +21,10 @@ use Rattle.gql_collect.proofs.Ways.{GoesBy, grows-nodes, grows-parts}
 use Rattle.gql_exec.specs.Group.{Group}
 use Rattle.gql_exec.specs.Request.{Request}
 use Rattle.gql_exec.specs.RequestWorld.{plain_world, setting_on}
-use Rattle.gql_exec.specs.Looks.{NodesGrow, PartsGrow}
-use Rattle.gql_exec.specs.Opened.{AnyGroup, Gives, AnyGives, Brings, Opens, OpensBy, Turns, MakesTurn}
-use Rattle.gql_exec.specs.Planning.{ground_in}
+use Rattle.gql_exec.specs.bridge.Looks.{NodesGrow, PartsGrow}
+use Rattle.gql_exec.specs.Opened.{AnyGroup, Gives, AnyGives, Brings, Opens}
+use Rattle.gql_exec.specs.bridge.Opened.{OpensBy, Turns, MakesTurn}
+use Rattle.gql_exec.specs.bridge.Planning.{ground_in}
 use Rattle.gql_exec.specs.Trails.{group_of}
 use Rattle.gql_exec.specs.declared.executing.Executing.{Executing}
 use Rattle.gql_exec.proofs.Opening.{any-drop, opens-collected}

@@ -7,9 +7,10 @@ use Rattle.gql_response.specs.declared.execution_response.ExecutionResponse.{Exe
 use Rattle.gql_resolvers.specs.Execute.{Member}
 use Rattle.gql_exec.specs.Thing.{of_user, type_of_thing}
 use Rattle.gql_exec.specs.ThingMeaning.{Resolving, thing_meaning}
-use Rattle.gql_exec.specs.Execution.{Prepared, prepared, AnswersBy, Answers, IsAnswer, Looks, CountsBy, Counts, IsCounted}
-use Rattle.gql_exec.specs.Output.{AreWritten, Finds}
-use Rattle.gql_exec.specs.Running.{Runs, RunsBy, RunsOver, response_of}
+use Rattle.gql_exec.specs.Execution.{Prepared, prepared, AnswersBy, Answers, IsAnswer, Looks, CountsBy, Counts}
+use Rattle.gql_exec.specs.bridge.Execution.{IsCounted}
+use Rattle.gql_exec.specs.bridge.Output.{AreWritten, Finds}
+use Rattle.gql_exec.specs.bridge.Running.{Runs, RunsBy, RunsOver, response_of}
 use Rattle.gql_exec.specs.declared.executed.Executed.{Executed}
 use Rattle.gql_exec.specs.declared.execution.Execution.{Execution}
 use Rattle.gql_exec.proofs.Outputs.{finds-as}

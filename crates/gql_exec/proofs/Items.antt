@@ -11,7 +11,8 @@ use Rattle.gql_resolvers.specs.Spot.{Spot, item_spot}
 use Rattle.gql_ast_base.specs.TypeParts.{is_non_null}
 use Rattle.gql_resolvers.specs.World.{World}
 use Rattle.gql_exec.specs.Group.{Group}
-use Rattle.gql_exec.specs.Executed.{IsEnough, MakesBelow}
+use Rattle.gql_exec.specs.Executed.{IsEnough}
+use Rattle.gql_exec.specs.bridge.Executed.{MakesBelow}
 use Rattle.gql_exec.proofs.Completing.{made-as, array-some, array-none}
 use Rattle.gql_exec.proofs.Steps.{IsOnWay, begun, goes_on, stops, ends}
 

@@ -6,20 +6,24 @@ use Rattle.gql_schema_types.specs.declared.types.ObjectType.{ObjectType}
 use Rattle.gql_collect.specs.Sizes.{outer_size}
 use Rattle.gql_exec.specs.ThingMeaning.{Resolving}
 use Rattle.gql_resolvers.specs.World.{World}
-use Rattle.gql_collect.specs.Growth.{AreFresh}
+use Rattle.gql_collect.specs.bridge.Growth.{AreFresh}
 use Rattle.gql_collect.specs.Lists.{IsOneOf}
-use Rattle.gql_collect.specs.Plan.{ArePartsOf, HaveNodes, fields_in, groups_in, most_looks}
-use Rattle.gql_collect.specs.Ways.{Way, ways_to}
+use Rattle.gql_collect.specs.Plan.{fields_in, groups_in}
+use Rattle.gql_collect.specs.bridge.Plan.{ArePartsOf, HaveNodes, most_looks}
+use Rattle.gql_collect.specs.Ways.{Way}
+use Rattle.gql_collect.specs.bridge.Ways.{ways_to}
 use Rattle.gql_collect.specs.declared.plan.Part.{Part}
 use Rattle.gql_collect.proofs.Joined.{all-of}
 use Rattle.gql_collect.proofs.Nodes.{same-collected}
 use Rattle.gql_collect.proofs.Ways.{fresh-ways}
 use Rattle.gql_exec.specs.Group.{Group}
 use Rattle.gql_exec.specs.RequestWorld.{plain_world}
-use Rattle.gql_exec.specs.Executing.{request_of}
-use Rattle.gql_exec.specs.Looks.{AreLooks, PartsGrow}
-use Rattle.gql_exec.specs.Opened.{Opens, OpensBy}
-use Rattle.gql_exec.specs.Planning.{ground_in}
+use Rattle.gql_exec.specs.bridge.Executing.{request_of}
+use Rattle.gql_exec.specs.Looks.{AreLooks}
+use Rattle.gql_exec.specs.bridge.Looks.{PartsGrow}
+use Rattle.gql_exec.specs.Opened.{Opens}
+use Rattle.gql_exec.specs.bridge.Opened.{OpensBy}
+use Rattle.gql_exec.specs.bridge.Planning.{ground_in}
 use Rattle.gql_exec.specs.declared.executing.Executing.{Executing}
 use Rattle.gql_exec.proofs.Apart.{all-apart}
 use Rattle.gql_exec.proofs.Opening.{opens-collected}

@@ -12,7 +12,7 @@ use Rattle.gql_schema_types.specs.Schemas.{type_named}
 use Rattle.gql_ast_base.specs.TypeParts.{item_level}
 use Rattle.gql_resolvers.specs.Lists.{is_list}
 use Rattle.gql_resolvers.specs.Types as places
-use Rattle.gql_exec.specs.Trails.{IsNamed}
+use Rattle.gql_exec.specs.bridge.Trails.{IsNamed}
 use Rattle.gql_exec.specs.declared.place.Place.{Place}
 
 -- a list names the same type as its items

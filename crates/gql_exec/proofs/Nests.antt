@@ -16,7 +16,8 @@ use Rattle.gql_document_types.specs.declared.selection.Selection.TheVariants as 
 use Rattle.gql_schema_types.specs.Schemas.{field_of as field_of_type}
 use Rattle.gql_schema_types.specs.declared.types.ObjectType.{ObjectType}
 use Rattle.gql_collect.specs.Expanded.{most}
-use Rattle.gql_collect.specs.Nested.{Nested, nothing, field_then, spread_then, inline_then, Fragments, Place, body_in, body_of, IsBelow as IsRankedBelow, AreRanked as AreNestedRanked}
+use Rattle.gql_collect.specs.Nested.{Nested, nothing, field_then, spread_then, inline_then, Fragments, Place, body_in, body_of}
+use Rattle.gql_collect.specs.bridge.Nested.{IsBelow as IsRankedBelow, AreRanked as AreNestedRanked}
 use Rattle.gql_collect.specs.View.{One, one_field, one_spread, one_inline, then_more, spread_of, number_of, one_of, nested, body_nested, fragments_nested}
 use Rattle.gql_collect.proofs.Ranked.{fragments-ranked}
 use Rattle.gql_collect.proofs.Views.{view-field, view-spread, view-inline, view-inside, view-node}

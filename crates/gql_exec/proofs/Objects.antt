@@ -8,21 +8,25 @@ use Rattle.gql_schema_types.specs.declared.types.ObjectType.{ObjectType}
 use Rattle.gql_document_types.specs.Ranks.{AreRanked}
 use Rattle.gql_resolvers.specs.Execute.{Member, one_object, settled}
 use Rattle.gql_resolvers.specs.Spot.{trail}
-use Rattle.gql_collect.specs.Plan.{Ground, AreNodes, ArePartsOf, HaveNodes, IsNodeOf, fields_in, groups_in, most_looks, parts_in, sets_below}
-use Rattle.gql_collect.specs.Ways.{Grows, TurnsTo, turns_to}
+use Rattle.gql_collect.specs.Plan.{fields_in, groups_in}
+use Rattle.gql_collect.specs.bridge.Plan.{Ground, AreNodes, ArePartsOf, HaveNodes, IsNodeOf, most_looks, parts_in, sets_below}
+use Rattle.gql_collect.specs.bridge.Ways.{Grows, TurnsTo, turns_to}
 use Rattle.gql_collect.specs.declared.plan.Node.{Node}
 use Rattle.gql_collect.specs.declared.plan.Part.{Part}
 use Rattle.gql_collect.proofs.Changes.{with_parts}
 use Rattle.gql_collect.proofs.Nodes.{node-with}
-use Rattle.gql_exec.specs.Executed.{Executes, ExecutesGroups, MakesBelow}
+use Rattle.gql_exec.specs.bridge.Executed.{Executes, ExecutesGroups, MakesBelow}
 use Rattle.gql_exec.specs.declared.executing.Executing.{Executing}
 use Rattle.gql_exec.specs.declared.path.Path.TheVariants.{Below}
 use Rattle.gql_exec.specs.declared.place.Place.{Place}
-use Rattle.gql_exec.specs.Executing.{Resolving, request_of, world_of}
-use Rattle.gql_exec.specs.Looks.{NodesGrow, PartsGrow}
-use Rattle.gql_exec.specs.Opened.{Opens, OpensBy}
-use Rattle.gql_exec.specs.Planning.{ground_in}
-use Rattle.gql_exec.specs.Trails.{group_of, null_at, spot_of, trail_of}
+use Rattle.gql_exec.specs.Executing.{Resolving}
+use Rattle.gql_exec.specs.bridge.Executing.{request_of, world_of}
+use Rattle.gql_exec.specs.bridge.Looks.{NodesGrow, PartsGrow}
+use Rattle.gql_exec.specs.Opened.{Opens}
+use Rattle.gql_exec.specs.bridge.Opened.{OpensBy}
+use Rattle.gql_exec.specs.bridge.Planning.{ground_in}
+use Rattle.gql_exec.specs.Trails.{group_of}
+use Rattle.gql_exec.specs.bridge.Trails.{null_at, spot_of, trail_of}
 use Rattle.gql_exec.proofs.Grown.{grown-node}
 use Rattle.gql_exec.proofs.Measures.{fragments_in, room, measure, deepest}
 use Rattle.gql_exec.proofs.Places.{made-members, made-null}

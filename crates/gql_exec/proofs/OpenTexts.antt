@@ -4,11 +4,11 @@ use Rattle.std.proofs.Math.Seq.{take-append_seam, get_or-append_seam}
 use Rattle.std.proofs.lemmas.List.{append-nil, length-append}
 use Rattle.jb_tree.specs.declared.value.Value.{Value, Array, Object}
 use Rattle.jb_print.specs.Compact.{compact}
-use Rattle.jb_print.specs.Pieces.{comma_after, pieces_text, member_piece}
+use Rattle.jb_print.specs.bridge.Pieces.{comma_after, pieces_text, member_piece}
 use Rattle.jb_print.specs.Quoted.{quoted}
 use Rattle.jb_print.proofs.Compacts.{compact-Array, compact-Object}
 use Rattle.gql_resolvers.specs.Execute.{Member}
-use Rattle.gql_exec.specs.Written.{with_commas, list_text, object_text, has_some, IsOpenList, IsOpenObject, IsKeyed}
+use Rattle.gql_exec.specs.bridge.Written.{with_commas, list_text, object_text, has_some, IsOpenList, IsOpenObject, IsKeyed}
 use Rattle.gql_exec.specs.declared.text_output.OpenList.{OpenList}
 use Rattle.gql_exec.specs.declared.text_output.OpenObject.{OpenObject}
 

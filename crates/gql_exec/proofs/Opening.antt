@@ -15,7 +15,8 @@ use Rattle.gql_exec.specs.Group.{Group}
 use Rattle.gql_exec.specs.Request.{Request}
 use Rattle.gql_exec.specs.RequestWorld.{plain_world, setting_on}
 use Rattle.gql_exec.proofs.Alike.{IsAlike, AreAlike, groups-alike, sets-alike}
-use Rattle.gql_exec.specs.Opened.{Way, AnyGroup, Gives, AnyGives, Brings, Opens, OpensBy}
+use Rattle.gql_exec.specs.Opened.{Way, AnyGroup, Gives, AnyGives, Brings, Opens}
+use Rattle.gql_exec.specs.bridge.Opened.{OpensBy}
 use Rattle.gql_exec.proofs.Views.{views, views-from}
 
 module _ {X T G S : Type 0} (w : World X T G S) (P Q : X → Type 0) (more : (y : X) → P y → Q y) where

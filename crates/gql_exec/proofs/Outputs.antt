@@ -2,7 +2,7 @@
 use Rattle.std.proofs.Common.{◌≡◌, ℕ, if◌then◌else◌, List, [], ◌∷◌, Option, Some, None, Result, Ok, Err, is_ok, IfOk, OnOk, subst}
 use Rattle.jb_tree.specs.declared.value.Value.{Value}
 use Rattle.gql_resolvers.specs.Execute.{Member}
-use Rattle.gql_exec.specs.Output.{AreWritten, Finds, IsWritten}
+use Rattle.gql_exec.specs.bridge.Output.{AreWritten, Finds, IsWritten}
 use Rattle.gql_exec.specs.declared.completed.Completed.{Completed}
 use Rattle.gql_exec.specs.declared.completed.Completed.TheVariants as completed
 

@@ -13,7 +13,7 @@ use Rattle.gql_resolvers.specs.Trail.{Trail}
 use Rattle.gql_ast_base.specs.TypeParts.{is_non_null}
 use Rattle.gql_resolvers.specs.World.{World}
 use Rattle.gql_exec.specs.Group.{Group}
-use Rattle.gql_exec.specs.Executed.{IsMade, MakesBelow, Executes}
+use Rattle.gql_exec.specs.bridge.Executed.{IsMade, MakesBelow, Executes}
 use Rattle.gql_exec.proofs.Completing.{made-as, completed-misfit, completed-object, object-some, object-none}
 
 module _ {X : Type 0} (w : World X ObjectType Group (List (List Selection))) (spot : Spot Group) (before after : List GraphQLError) where

@@ -18,7 +18,8 @@ use Rattle.gql_document_types.specs.Ranks.{AreRanked}
 use Rattle.gql_collect.specs.declared.group.Group.{Group as FieldsOfKey}
 use Rattle.gql_resolvers.specs.Execute.{Member}
 use Rattle.gql_resolvers.specs.Trail.{Trail}
-use Rattle.gql_collect.specs.Plan.{Ground, AreNodes, ArePartsOf, HaveNodes, IsNodeOf, IsPlanned, IsTyped, field_in, fields_in, group_in, groups_from, groups_in, nodes_in, parts_in, sets_below, type_in}
+use Rattle.gql_collect.specs.Plan.{field_in, fields_in, group_in, groups_from, groups_in}
+use Rattle.gql_collect.specs.bridge.Plan.{Ground, AreNodes, ArePartsOf, HaveNodes, IsNodeOf, IsPlanned, IsTyped, nodes_in, parts_in, sets_below, type_in}
 use Rattle.gql_collect.specs.declared.plan.Node.{Node}
 use Rattle.gql_collect.specs.declared.plan.Part.{Part}
 use Rattle.gql_collect.proofs.Fields.{field-at}
@@ -27,9 +28,10 @@ use Rattle.gql_exec.specs.Nesting.{nesting}
 use Rattle.gql_exec.specs.Request.{Members}
 use Rattle.gql_exec.specs.RequestWorld.{plain_world, setting_on}
 use Rattle.gql_exec.proofs.Nests.{groups-below}
-use Rattle.gql_exec.specs.Executed.{Executes, ExecutesGroups}
-use Rattle.gql_exec.specs.Executing.{Resolving, request_of}
-use Rattle.gql_exec.specs.Planning.{ground_in}
+use Rattle.gql_exec.specs.bridge.Executed.{Executes, ExecutesGroups}
+use Rattle.gql_exec.specs.Executing.{Resolving}
+use Rattle.gql_exec.specs.bridge.Executing.{request_of}
+use Rattle.gql_exec.specs.bridge.Planning.{ground_in}
 use Rattle.gql_exec.specs.Trails.{group_of}
 use Rattle.gql_exec.specs.declared.executing.Executing.{Executing}
 use Rattle.gql_exec.proofs.Collecting.{views-run, view-below, views-step}

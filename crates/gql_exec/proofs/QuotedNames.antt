@@ -3,13 +3,13 @@ use Rattle.std.proofs.Common.{◌≡◌, ℕ, Bool, true, false, ◌&&◌, ◌||
 use Rattle.std.specs.List.{flat_map, list_all}
 use Rattle.std.proofs.lemmas.Bool.Decides.{nat_tests}
 use Rattle.jb_text.specs.Plain.{is_plain}
-use Rattle.jb_print.specs.Pieces.{comma_after}
+use Rattle.jb_print.specs.bridge.Pieces.{comma_after}
 use Rattle.jb_print.specs.Quoted.{escaped, quoted}
 use Rattle.jb_print.proofs.Escapes.{escaped-plain}
 use Rattle.gql_ast_base.specs.Names.{is_name}
 use Rattle.gql_lexer.specs.Class.{is_digit, is_name_start, is_name_continue}
 use Rattle.gql_exec.specs.declared.text_output.OpenObject.{OpenObject}
-use Rattle.gql_exec.specs.Written.{has_some, IsOpenObject, IsKeyed}
+use Rattle.gql_exec.specs.bridge.Written.{has_some, IsOpenObject, IsKeyed}
 use Rattle.gql_resolvers.specs.Execute.{Member}
 
 never-special : (byte : ℕ) → is_name_continue byte ≡ true → is_plain byte ≡ false → ⊥

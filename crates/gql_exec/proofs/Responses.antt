@@ -19,7 +19,7 @@ use Rattle.gql_exec.specs.RequestWorld.{plain_world}
 use Rattle.gql_exec.specs.Response.{response_at, IsExecuted, IsExplained}
 use Rattle.gql_exec.proofs.Lawful.{lawful}
 use Rattle.gql_exec.proofs.Nests.{suffices}
-use Rattle.gql_exec.specs.Executed.{Executes}
+use Rattle.gql_exec.specs.bridge.Executed.{Executes}
 
 module _ {X : Type 0} (r : Request X) (rank : ℕ → ℕ) (ranked : AreRanked r.fragments rank) (root : ObjectType) (x : X) (selections : List Selection) where
   explained-at : (depth : ℕ) → Suffices (plain_world r) depth root (selections ∷ []) → IsExplained r root x selections (response_at r root x selections depth)

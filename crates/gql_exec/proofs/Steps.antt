@@ -3,7 +3,7 @@ use Rattle.std.proofs.Common.{◌≡◌, List, [], ◌++◌, Option, Some, None,
 use Rattle.std.proofs.lemmas.List.{append-nil}
 use Rattle.gql_response.specs.declared.graphql_error.GraphQLError.{GraphQLError}
 use Rattle.gql_resolvers.specs.Execute.{Made, front_of, then_rest_of, then_rest}
-use Rattle.gql_exec.specs.Executed.{IsMade}
+use Rattle.gql_exec.specs.bridge.Executed.{IsMade}
 
 -- what is found so far and the errors that are listed, with what is left to make, are all that is made
 pub record IsOnWay {A : Type 0} (found : List A) (errors before : List GraphQLError) (left all : Made A) : Type 0 where

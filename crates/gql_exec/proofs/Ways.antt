@@ -6,7 +6,8 @@ use Rattle.gql_resolvers.specs.Spot.{Spot, item_spot, trail}
 use Rattle.gql_resolvers.specs.Trail.{Trail}
 use Rattle.gql_resolvers.specs.Types.{item_type}
 use Rattle.gql_exec.specs.Group.{Group}
-use Rattle.gql_exec.specs.Trails.{segment_of, trail_step, trail_of, spot_of, group_of}
+use Rattle.gql_exec.specs.Trails.{group_of}
+use Rattle.gql_exec.specs.bridge.Trails.{segment_of, trail_step, trail_of, spot_of}
 use Rattle.gql_exec.specs.declared.path.Path.{Path, fold-roll-Path}
 use Rattle.gql_exec.specs.declared.path.Path.TheOpen as layer
 use Rattle.gql_exec.specs.declared.path.Path.TheVariants.{Root, Below, rolls-Root, rolls-Below}

@@ -1,16 +1,11 @@
 -- What stays the same throughout an execution, as the world that it goes by.
 use Rattle.std.specs.Prelude.{ℕ, Bool, not, ◌&&◌, if◌then◌else◌, List, codes}
 use Rattle.gql_document_types.specs.declared.document.ExecutableDocument.{ExecutableDocument}
-use Rattle.gql_document_types.specs.declared.selection.Selection.{Selection}
 use Rattle.gql_schema_types.specs.declared.schema.Schema.{Schema}
 use Rattle.gql_schema_types.specs.declared.types.ObjectType.{ObjectType}
 use Rattle.gql_resolvers.specs.Resolved.{Meaning, fails_with}
-use Rattle.gql_resolvers.specs.World.{World}
 use Rattle.gql_exec.specs.Asks.{is_introspection}
-use Rattle.gql_exec.specs.Group.{Group}
 use Rattle.gql_exec.specs.Request.{Members, Request}
-use Rattle.gql_exec.specs.RequestWorld.{plain_world}
-use Rattle.gql_exec.specs.declared.executing.Executing.{Executing}
 
 -- what resolvers answer: a matter of schema, object type, object, name and arguments
 abbrev pub Resolving : Type 0 → Type 0
@@ -34,10 +29,3 @@ request_by introspection schema document variables types resolves = record {
   type_of = types;
   answers = answers_by introspection resolves schema;
 }
-
-abbrev pub request_of : {X : Type 0} → Executing → (X → List ℕ) → Resolving X → Request X
-request_of executing types resolves =
-    request_by executing.introspection executing.request.schema.now executing.request.document.now executing.variables.now types resolves
-
-abbrev pub world_of : {X : Type 0} → Executing → (X → List ℕ) → Resolving X → World X ObjectType Group (List (List Selection))
-world_of executing types resolves = plain_world (request_of executing types resolves)

@@ -79,10 +79,6 @@ variables_of schema operation (Raw values) = told_as request_error (coerced_vari
 abbrev pub undefined_root : RequestError
 undefined_root = record { message = codes "Undefined root operation type"; location = None; is_suspected_validation_bug = true }
 
-abbrev pub IsUndefinedRoot : Refused RequestError → Type 0
-IsUndefinedRoot (Fault fault) = fault ≡ undefined_root
-IsUndefinedRoot Memory = Unit {0}
-
 -- what is executed
 pub record Prepared : Type 0 where
   pub operation : Operation
@@ -159,14 +155,3 @@ CountsBy false execution types resolves x before after answer = Looks execution 
 abbrev pub Counts : {X : Type 0} → Execution → (X → List ℕ) → Resolving X → X → (before after : ℕ)
     → Result ExecutionResponse (Refused RequestError) → Type 0
 Counts execution types resolves x before after answer = CountsBy execution.introspection execution types resolves x before after answer
-
--- the answer, and the looks for it
-abbrev pub IsCounted : {X : Type 0} → Execution → (X → List ℕ) → Resolving X → X → (before after : ℕ) → Result Prepared RequestError
-    → Result ExecutionResponse (Refused RequestError) → Type 0
-IsCounted execution types resolves x before after wanted (Ok response) =
-    (p : Prepared) × (wanted ≡ Ok p)
-    × IsExecuted (request_in execution p.variables types resolves) p.root x p.operation.selection_set.selections response
-    × IsExplained (request_in execution p.variables types resolves) p.root x p.operation.selection_set.selections response
-    × AreLooks (request_in execution p.variables types resolves) p.root x p.operation.selection_set.selections before after
-IsCounted execution types resolves x before after wanted (Err (Fault fault)) = wanted ≡ Err fault
-IsCounted execution types resolves x before after wanted (Err Memory) = Unit {0}

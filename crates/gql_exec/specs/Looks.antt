@@ -4,16 +4,11 @@ use Rattle.std.specs.List.{AllByRecursion}
 use Rattle.gql_document_types.specs.declared.selection.Selection.{Selection}
 use Rattle.gql_schema_types.specs.declared.types.ObjectType.{ObjectType}
 use Rattle.gql_collect.specs.Lists.{AreApart}
-use Rattle.gql_collect.specs.Plan.{most_looks}
 use Rattle.gql_collect.specs.Room.{all_selections}
-use Rattle.gql_collect.specs.Ways.{Turn, Way, Grows, turns_to, ways_to}
-use Rattle.gql_collect.specs.declared.plan.Node.{Node}
-use Rattle.gql_collect.specs.declared.plan.Part.{Part}
+use Rattle.gql_collect.specs.Ways.{Way}
 use Rattle.gql_exec.specs.Request.{Request}
 use Rattle.gql_exec.specs.RequestWorld.{plain_world}
 use Rattle.gql_exec.specs.Opened.{Opens}
-use Rattle.gql_exec.specs.Planning.{ground_in}
-use Rattle.gql_exec.specs.declared.executing.Executing.{Executing}
 
 -- At least those of the operation's own set. At most all selections of the operation and the fragments, at every depth, once for
 -- each of some ways from the root: all of them are opened, and no two are alike.
@@ -23,10 +18,3 @@ pub record AreLooks {X : Type 0} (r : Request X) (root : ObjectType) (initial : 
   pub apart : AreApart ways
   pub opened : AllByRecursion (λ way. Opens (plain_world r) way root initial (selections ∷ [])) ways
   pub most : after ≤ before + length ways * all_selections r.fragments selections
-
--- nodes and parts of a plan have grown while looks were counted, by turns and by ways of which this holds
-abbrev pub NodesGrow : Executing → (before after : ℕ) → (old new : List Node) → (Turn → Type 0) → Type 0
-NodesGrow executing before after old new Holds = Grows (most_looks (ground_in executing)) before after (λ n. turns_to n old) (λ n. turns_to n new) Holds
-
-abbrev pub PartsGrow : Executing → (before after : ℕ) → (old new : List Part) → (Way → Type 0) → Type 0
-PartsGrow executing before after old new Holds = Grows (most_looks (ground_in executing)) before after (λ n. ways_to n old) (λ n. ways_to n new) Holds

@@ -4,7 +4,6 @@ use Rattle.std.specs.Prelude.{◌≡◌, ◌⊎◌, ℕ, List, [], ◌∷◌, No
 use Rattle.gql_ast_base.specs.declared.type_ref.TypeRef.{TypeRef}
 use Rattle.gql_resolvers.specs.Resolved.{Meaning, Meanings, gives_leaf, gives_object, gives_list, gives_skip, fails_with, no_answer, answer_then}
 use Rattle.gql_resolvers.specs.Resolved.{Outcome, answered, refused}
-use Rattle.gql_resolvers.specs.Spot.{Spot}
 use Rattle.gql_resolvers.specs.Types.{item_type}
 use Rattle.gql_resolvers.specs.World.{World, key_of}
 
@@ -41,17 +40,3 @@ module _ {X T G S : Type 0} (w : World X T G S) where
       AnyGroup (λ g.
       (key_of w g ≡ step.0) × Brings (λ y. (w.type_of y ≡ Some step.1) × Opens way step.1 y (w.below g)) (w.type_at U g) (w.asks U x g)
       ) (w.groups U s)
-
-  -- the object is of the type of a turn, and the way on is opened from it
-  abbrev pub Turns : S → T × Way T → X → Type 0
-  Turns s turn y = (w.type_of y ≡ Some turn.0) × Opens turn.1 turn.0 y s
-
-  -- the same as `Opens` by these groups
-  abbrev pub OpensBy : List G → T → X → Way T → Type 0
-  OpensBy gs U x [] = Unit {0}
-  OpensBy gs U x (step ∷ way) =
-      AnyGroup (λ g. (key_of w g ≡ step.0) × Brings (Turns (w.below g) (step.1, way)) (w.type_at U g) (w.asks U x g)) gs
-
-  -- what is given at a place makes the turn
-  abbrev pub MakesTurn : Spot G → Meaning X → T × Way T → Type 0
-  MakesTurn spot m turn = Gives (Turns (w.below spot.group) turn) spot.type m

@@ -4,12 +4,12 @@ ghost use Rattle.std.specs.Prelude.{◌≡◌, true, is_some, IfOk};
 ghost use Rattle.gql_schema_types.specs.Schemas.{field_of};
 ghost use Rattle.gql_resolvers.specs.Meaning.{Answers};
 ghost use Rattle.gql_resolvers.specs.Resolved.{answered, Meaning};
-ghost use Rattle.gql_collect.specs.Plan.{IsPlanned, arguments_by, definition_on};
+ghost use Rattle.gql_collect.specs.bridge.Plan.{IsPlanned, arguments_by, definition_on};
 ghost use Rattle.gql_exec.specs.Asks as spec;
-ghost use Rattle.gql_exec.specs.Asking.{IsDefined, outcome_of};
+ghost use Rattle.gql_exec.specs.bridge.Asking.{IsDefined, outcome_of};
 ghost use Rattle.gql_exec.specs.Executing as executing;
-ghost use Rattle.gql_exec.specs.Executing.{request_of};
-ghost use Rattle.gql_exec.specs.Planning.{ground_in};
+ghost use Rattle.gql_exec.specs.bridge.Executing.{request_of};
+ghost use Rattle.gql_exec.specs.bridge.Planning.{ground_in};
 
 use crate::executing::Executing;
 use gql_coerce::ArgumentFault;

@@ -7,17 +7,20 @@ ghost use Rattle.gql_resolvers.specs.Execute.{completed, field_made, items_made,
 ghost use Rattle.gql_resolvers.specs.Resolved.{gives_list, gives_object};
 ghost use Rattle.gql_resolvers.specs.Spot.{field_spot, item_spot, trail};
 ghost use Rattle.gql_resolvers.specs.Types as places;
-ghost use Rattle.gql_collect.specs.Ways.{TurnsTo};
-ghost use Rattle.gql_collect.specs.Plan.{AreNodes, ArePartsOf, HaveNodes, IsPlanned, IsTyped, fields_in, groups_in, sets_below};
+ghost use Rattle.gql_collect.specs.bridge.Ways.{TurnsTo};
+ghost use Rattle.gql_collect.specs.Plan.{fields_in, groups_in};
+ghost use Rattle.gql_collect.specs.bridge.Plan.{AreNodes, ArePartsOf, HaveNodes, IsPlanned, IsTyped, sets_below};
 ghost use Rattle.gql_document_types.specs.declared.selection.Selection.{Selection};
 ghost use Rattle.gql_resolvers.specs.Meaning.{item_by, meaning_by, meanings_by};
-ghost use Rattle.gql_exec.specs.Executed.{ExecutesGroups, Makes};
-ghost use Rattle.gql_exec.specs.Executing.{world_of};
-ghost use Rattle.gql_exec.specs.Looks.{NodesGrow, PartsGrow};
+ghost use Rattle.gql_exec.specs.bridge.Executed.{ExecutesGroups, Makes};
+ghost use Rattle.gql_exec.specs.bridge.Executing.{world_of};
+ghost use Rattle.gql_exec.specs.bridge.Looks.{NodesGrow, PartsGrow};
 ghost use Rattle.gql_exec.specs.Opened as opened;
-ghost use Rattle.gql_exec.specs.Output.{AreWritten, Finds, IsWritten};
-ghost use Rattle.gql_exec.specs.Planning.{ground_in};
-ghost use Rattle.gql_exec.specs.Trails.{IsNamed, group_of, spot_of, trail_of};
+ghost use Rattle.gql_exec.specs.bridge.Opened as opened_bridge;
+ghost use Rattle.gql_exec.specs.bridge.Output.{AreWritten, Finds, IsWritten};
+ghost use Rattle.gql_exec.specs.bridge.Planning.{ground_in};
+ghost use Rattle.gql_exec.specs.Trails.{group_of};
+ghost use Rattle.gql_exec.specs.bridge.Trails.{IsNamed, spot_of, trail_of};
 ghost use Rattle.gql_schema_types.specs.Schemas.{field_of};
 
 use crate::asking::Asked;
@@ -68,7 +71,7 @@ impl<'s> Executing<'s> {
         ensures same { OnOk result (fields_in parts.new ≡ fields_in parts.old) }
         ensures planned { OnOk result (HaveNodes (ground_in self.now) parts.new) }
         ensures grows { OnOk result (PartsGrow self.now steps.old steps.new parts.old parts.new
-            (opened.OpensBy (world_of self.now O.type_of O.resolves) (map group_of (groups_in parts.old)) object_type.now (O.seen object.now))) }
+            (opened_bridge.OpensBy (world_of self.now O.type_of O.resolves) (map group_of (groups_in parts.old)) object_type.now (O.seen object.now))) }
     {
         let mut members = out.begin_object(parts.len())?;
         for number in 0..parts.len() {
@@ -125,7 +128,7 @@ impl<'s> Executing<'s> {
         ensures grows { OnOk result (NodesGrow self.now steps.old steps.new nodes.old nodes.new (λ turn.
             let w = world_of self.now O.type_of O.resolves in
             let group = group_of field.now.group in
-            opened.Brings w (opened.Turns w (w.below group) turn) (w.type_at object_type.now group) (w.asks object_type.now (O.seen object.now) group))) }
+            opened.Brings w (opened_bridge.Turns w (w.below group) turn) (w.type_at object_type.now group) (w.asks object_type.now (O.seen object.now) group))) }
     {
         // The way is lent again, for as long as the group.
         let place = Place {
@@ -164,7 +167,7 @@ impl<'s> Executing<'s> {
             (λ run. completed w run (spot_of place.now) (meaning_by O.seen resolved))) }
         ensures planned { OnOk result (AreNodes (ground_in self.now) (sets_below place.now.group.now) nodes.new) }
         ensures grows { OnOk result (NodesGrow self.now steps.old steps.new nodes.old nodes.new
-            (opened.MakesTurn (world_of self.now O.type_of O.resolves) (spot_of place.now) (meaning_by O.seen resolved))) }
+            (opened_bridge.MakesTurn (world_of self.now O.type_of O.resolves) (spot_of place.now) (meaning_by O.seen resolved))) }
     {
         match resolved {
             ResolvedValue::Leaf(value) => self.complete_leaf::<O, M>(place, value, errors, out),
@@ -198,7 +201,7 @@ impl<'s> Executing<'s> {
             (λ run. completed w run (spot_of place.now) (gives_object (O.seen object.now)))) }
         ensures planned { OnOk result (AreNodes (ground_in self.now) (sets_below place.now.group.now) nodes.new) }
         ensures grows { OnOk result (NodesGrow self.now steps.old steps.new nodes.old nodes.new
-            (opened.MakesTurn (world_of self.now O.type_of O.resolves) (spot_of place.now) (gives_object (O.seen object.now)))) }
+            (opened_bridge.MakesTurn (world_of self.now O.type_of O.resolves) (spot_of place.now) (gives_object (O.seen object.now)))) }
     {
         match fitting_object(
             self.alloc,
@@ -287,7 +290,7 @@ impl<'s> Executing<'s> {
             (λ run. completed w run (spot_of place.now) (gives_list (meanings_by O.seen items)))) }
         ensures planned { OnOk result (AreNodes (ground_in self.now) (sets_below place.now.group.now) nodes.new) }
         ensures grows { OnOk result (NodesGrow self.now steps.old steps.new nodes.old nodes.new
-            (opened.MakesTurn (world_of self.now O.type_of O.resolves) (spot_of place.now) (gives_list (meanings_by O.seen items)))) }
+            (opened_bridge.MakesTurn (world_of self.now O.type_of O.resolves) (spot_of place.now) (gives_list (meanings_by O.seen items)))) }
     {
         match list_misfit(self.alloc, place.ty)? {
             Some(misfit) => self.refuse::<O, M>(place, misfit, errors, out),
@@ -317,7 +320,7 @@ impl<'s> Executing<'s> {
         ensures planned { OnOk result (AreNodes (ground_in self.now) (sets_below place.now.group.now) nodes.new) }
         ensures grows { OnOk result (NodesGrow self.now steps.old steps.new nodes.old nodes.new (λ turn.
             let w = world_of self.now O.type_of O.resolves in
-            opened.AnyGives w (opened.Turns w (sets_below place.now.group.now) turn) (places.item_type place.now.ty.now) (meanings_by O.seen items))) }
+            opened.AnyGives w (opened_bridge.Turns w (sets_below place.now.group.now) turn) (places.item_type place.now.ty.now) (meanings_by O.seen items))) }
     {
         let count = items.len();
         let mut index = 0;
@@ -359,7 +362,7 @@ impl<'s> Executing<'s> {
             (λ run. completed w run (item_spot (spot_of list.now) index) (item_by O.seen item))) }
         ensures planned { OnOk result (AreNodes (ground_in self.now) (sets_below list.now.group.now) nodes.new) }
         ensures grows { OnOk result (NodesGrow self.now steps.old steps.new nodes.old nodes.new
-            (opened.MakesTurn (world_of self.now O.type_of O.resolves) (item_spot (spot_of list.now) index) (item_by O.seen item))) }
+            (opened_bridge.MakesTurn (world_of self.now O.type_of O.resolves) (item_spot (spot_of list.now) index) (item_by O.seen item))) }
     {
         let around = Path::Below(list.around, list.step, list.ty);
         let place = Place {

@@ -1,15 +1,16 @@
 //! Errors that are listed at places, and leaves.
 
 ghost use Rattle.std.specs.Prelude.{◌∷◌, [], None, IfOk};
-ghost use Rattle.gql_resolvers.specs.Seen.{seen};
+ghost use Rattle.gql_resolvers.specs.bridge.Seen.{seen};
 ghost use Rattle.gql_resolvers.specs.Execute.{completed, settled};
 ghost use Rattle.gql_resolvers.specs.Fault.{fault_error, told_at};
 ghost use Rattle.gql_resolvers.specs.Resolved.{fails_with, gives_leaf};
 ghost use Rattle.gql_exec.specs.Asks.{fault_of};
-ghost use Rattle.gql_exec.specs.Executed.{IsMade, Makes};
-ghost use Rattle.gql_exec.specs.Executing.{world_of};
-ghost use Rattle.gql_exec.specs.Output.{Finds, IsWritten};
-ghost use Rattle.gql_exec.specs.Trails.{IsNamed, group_of, spot_of};
+ghost use Rattle.gql_exec.specs.bridge.Executed.{IsMade, Makes};
+ghost use Rattle.gql_exec.specs.bridge.Executing.{world_of};
+ghost use Rattle.gql_exec.specs.bridge.Output.{Finds, IsWritten};
+ghost use Rattle.gql_exec.specs.Trails.{group_of};
+ghost use Rattle.gql_exec.specs.bridge.Trails.{IsNamed, spot_of};
 
 use crate::completed::Completed;
 use crate::executing::Executing;

@@ -1,8 +1,8 @@
 //! What an execution lends to its steps: the schema, the document, and what plans are made from.
 
 ghost use Rattle.std.specs.Prelude.{◌≡◌};
-ghost use Rattle.gql_collect.specs.Plan.{ground_of};
-ghost use Rattle.gql_exec.specs.Planning.{ground_in};
+ghost use Rattle.gql_collect.specs.bridge.Plan.{ground_of};
+ghost use Rattle.gql_exec.specs.bridge.Planning.{ground_in};
 
 use crate::executing::Executing;
 use gql_collect::Planner;

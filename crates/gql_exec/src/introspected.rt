@@ -5,7 +5,7 @@ ghost use Rattle.gql_introspection.specs.Seen.{stands_for};
 ghost use Rattle.gql_resolvers.specs.Meaning.{Answers};
 ghost use Rattle.gql_resolvers.specs.ResolveInfo.{arguments_of, field_name_of, object_type_of, schema_of};
 ghost use Rattle.gql_exec.specs.Mapped.{mapped};
-ghost use Rattle.gql_exec.specs.Seen.{thing_by};
+ghost use Rattle.gql_exec.specs.bridge.Seen.{thing_by};
 ghost use Rattle.gql_exec.specs.Thing.{of_library, of_user};
 ghost use Rattle.gql_exec.specs.ThingMeaning.{own_meaning, root_meaning};
 
@@ -100,7 +100,7 @@ impl<'x, 'a, O: ObjectValue> Introspected<'x, 'a, O> {
 }
 
 impl<'x, 'a, O: ObjectValue> ObjectValue for Introspected<'x, 'a, O> {
-    ghost use Rattle.gql_exec.specs.Seen.{thing_by};
+    ghost use Rattle.gql_exec.specs.bridge.Seen.{thing_by};
     ghost use Rattle.gql_exec.specs.Thing.{Thing, type_of_thing};
     ghost use Rattle.gql_exec.specs.ThingMeaning.{thing_meaning};
 
@@ -146,7 +146,7 @@ struct OfLibrary<'a> {
 }
 
 impl<'x, 'a, O: ObjectValue> Standing<O, Introspected<'x, 'a, O>> for OfUser<'a> {
-    ghost use Rattle.gql_exec.specs.Seen.{thing_by};
+    ghost use Rattle.gql_exec.specs.bridge.Seen.{thing_by};
     ghost use Rattle.gql_exec.specs.Thing.{Thing, of_user};
 
     ghost Before = { O.Seen };
@@ -168,7 +168,7 @@ impl<'x, 'a, O: ObjectValue> Standing<O, Introspected<'x, 'a, O>> for OfUser<'a>
 }
 
 impl<'x, 'a, O: ObjectValue> Standing<MetaObject<'a>, Introspected<'x, 'a, O>> for OfLibrary<'a> {
-    ghost use Rattle.gql_exec.specs.Seen.{thing_by};
+    ghost use Rattle.gql_exec.specs.bridge.Seen.{thing_by};
     ghost use Rattle.gql_exec.specs.Thing.{Thing, of_library};
     ghost use Rattle.gql_introspection.specs.Meta.{Meta};
     ghost use Rattle.gql_introspection.specs.Seen.{stands_for};

@@ -2,7 +2,7 @@
 
 ghost use Rattle.std.specs.Prelude.{◌≡◌, IfOk};
 ghost use Rattle.gql_resolvers.specs.Trail.{path_of};
-ghost use Rattle.gql_exec.specs.Trails as spec;
+ghost use Rattle.gql_exec.specs.bridge.Trails as spec;
 
 use gql_ast_base::{Copying, Name, TypeRef};
 use gql_response::ResponseDataPathSegment;

@@ -2,8 +2,8 @@
 
 ghost use Rattle.std.specs.Prelude.{◌≡◌, [], ◌∷◌, ◌++◌, IfOk, OnOk};
 ghost use Rattle.gql_resolvers.specs.Types as places;
-ghost use Rattle.gql_exec.specs.Output.{IsWritten};
-ghost use Rattle.gql_exec.specs.Trails as spec;
+ghost use Rattle.gql_exec.specs.bridge.Output.{IsWritten};
+ghost use Rattle.gql_exec.specs.bridge.Trails as spec;
 
 use crate::completed::Completed;
 use crate::output::Output;

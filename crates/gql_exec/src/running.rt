@@ -7,9 +7,10 @@ ghost use Rattle.gql_document_types.specs.Spreads.{AreAcyclic};
 ghost use Rattle.gql_exec.specs.Thing.{of_user, type_of_thing};
 ghost use Rattle.gql_exec.specs.ThingMeaning.{thing_meaning};
 ghost use Rattle.gql_exec.specs.Execution as spec;
+ghost use Rattle.gql_exec.specs.bridge.Execution as spec_bridge;
 ghost use Rattle.gql_exec.specs.Looks.{AreLooks};
-ghost use Rattle.gql_exec.specs.Output.{AreWritten, Finds};
-ghost use Rattle.gql_exec.specs.Running.{IsRun, Runs, RunsOver, response_of};
+ghost use Rattle.gql_exec.specs.bridge.Output.{AreWritten, Finds};
+ghost use Rattle.gql_exec.specs.bridge.Running.{IsRun, Runs, RunsOver, response_of};
 ghost use Rattle.gql_collect.specs.RequestErrors.{request_error};
 ghost use Rattle.gql_exec.specs.Response.{IsExecuted, IsExplained};
 
@@ -225,7 +226,7 @@ impl<'a> Execution<'a> {
 
 /// The refusal of a root type that is no object type of the schema.
 fn undefined_root(alloc: Global) -> Refused<RequestError>
-    ensures { spec.IsUndefinedRoot result }
+    ensures { spec_bridge.IsUndefinedRoot result }
 {
     match Text::from_str(alloc, "Undefined root operation type") {
         Ok(message) => Refused::Fault(RequestError {

@@ -1,7 +1,7 @@
 //! A response that is written while it is made.
 
 ghost use Rattle.std.specs.Prelude.{◌≡◌, ◌++◌, [], codes, IfOk, string_bytes};
-ghost use Rattle.jb_print.specs.Pieces.{comma_after};
+ghost use Rattle.jb_print.specs.bridge.Pieces.{comma_after};
 
 use crate::output::Output;
 use gql_ast_base::Name;
@@ -69,7 +69,7 @@ impl TextOutput {
 impl Output for TextOutput {
     ghost use Rattle.std.specs.Prelude.{◌≡◌, ◌++◌};
     ghost use Rattle.jb_print.specs.Compact.{compact};
-    ghost use Rattle.gql_exec.specs.Written.{IsOpenList, IsOpenObject, IsKeyed};
+    ghost use Rattle.gql_exec.specs.bridge.Written.{IsOpenList, IsOpenObject, IsKeyed};
 
     type Made = ();
 

@@ -3,8 +3,8 @@
 ghost use Rattle.std.specs.Prelude.{◌≡◌, [], List, Option, IfOk};
 ghost use Rattle.jb_print.specs.Compact.{compact};
 ghost use Rattle.gql_resolvers.specs.Execute.{Member};
-ghost use Rattle.gql_exec.specs.Output.{AreWritten};
-ghost use Rattle.gql_exec.specs.Written.{IsOpenObject};
+ghost use Rattle.gql_exec.specs.bridge.Output.{AreWritten};
+ghost use Rattle.gql_exec.specs.bridge.Written.{IsOpenObject};
 ghost use Rattle.gql_response.specs.Response.{data_value};
 
 use crate::executed::Executed;

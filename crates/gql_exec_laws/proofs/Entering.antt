@@ -2,7 +2,8 @@
 use Rattle.std.proofs.Common.{arith, ◌≡◌, ℕ, zero, suc, ◌+◌, ◌<◌, ◌++◌, Bool, true, false, List, set, slice_get, Option, Some, None, refl, ap, ◌∙◌}
 use Rattle.gql_collect.specs.DepthPlace.{Way, after, at_place, at_spread, way_with, enter_at}
 use Rattle.gql_collect.specs.Expanded.{most}
-use Rattle.gql_collect.specs.Nested.{Nested, nothing, field_then, spread_then, inline_then, Fragments, Place, body_of, IsBelow, AreRanked}
+use Rattle.gql_collect.specs.Nested.{Nested, nothing, field_then, spread_then, inline_then, Fragments, Place, body_of}
+use Rattle.gql_collect.specs.bridge.Nested.{IsBelow, AreRanked}
 
 after-same : (a b : Way) (next other : List Bool → Way) → a ≡ b → ((e : List Bool) → next e ≡ other e) → after a next ≡ after b other
 after-same a b next other is same = ap (λ w. after w next) is ∙ ap (λ (w : Way). (b.0 ++ w.0, w.1)) (same b.1)

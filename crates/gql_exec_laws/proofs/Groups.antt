@@ -9,7 +9,8 @@ use Rattle.gql_document_types.specs.declared.selection.Selection.{Selection}
 use Rattle.gql_schema_types.specs.declared.schema.Schema.{Schema}
 use Rattle.gql_schema_types.specs.declared.types.ObjectType.{ObjectType}
 use Rattle.gql_document_types.specs.Contents.{HaveContents}
-use Rattle.gql_document_types.specs.Expanded.{expanded, expanded_field}
+use Rattle.gql_document_types.specs.Expanded.{expanded}
+use Rattle.gql_document_types.specs.bridge.Expanded.{expanded_field}
 use Rattle.gql_collect.specs.Flat.{enough, flat, flat_within, flat_sets}
 use Rattle.gql_collect.specs.Groups.{response_key, has_key, distinct_after, keys, FieldGroup, group_at, groups_of, is_defined, applying}
 use Rattle.gql_collect.specs.Kept.{Variables}

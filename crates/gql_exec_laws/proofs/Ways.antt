@@ -10,7 +10,8 @@ use Rattle.gql_resolvers.specs.Resolved.{gives_object, gives_list}
 use Rattle.gql_resolvers.specs.Types.{item_type}
 use Rattle.gql_resolvers.specs.World.{World, key_of}
 use Rattle.gql_exec.specs.Group.{Group, groups_from}
-use Rattle.gql_exec.specs.Opened.{Way, AnyGroup, Brings, AnyGives, Opens, Turns}
+use Rattle.gql_exec.specs.Opened.{Way, AnyGroup, Brings, AnyGives, Opens}
+use Rattle.gql_exec.specs.bridge.Opened.{Turns}
 use Rattle.gql_exec.specs.RequestWorld.{plain_world, setting_on}
 use Rattle.gql_exec_laws.specs.Example.{Thing, root, inner}
 use Rattle.gql_exec_laws.specs.Examples.{y}

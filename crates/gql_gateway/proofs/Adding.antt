@@ -12,8 +12,8 @@ use Rattle.gql_resolvers.specs.Execute.{Member}
 use Rattle.gql_response.specs.declared.execution_response.ExecutionResponse.{ExecutionResponse}
 use Rattle.gql_response.specs.declared.graphql_error.GraphQLError.{GraphQLError}
 use Rattle.gql_gateway.specs.Joined.{Gives, IsOther, of_key, errors_under, joined_errors, with_value, with_member, joined_members, with_errors, joined_roots}
-use Rattle.gql_gateway.specs.Joining.{AreAbsent, IsAddedOf, added_member}
-use Rattle.gql_gateway.specs.Sides.{IsSideOf, listed_at, without_key}
+use Rattle.gql_gateway.specs.bridge.Joining.{AreAbsent, IsAddedOf, added_member}
+use Rattle.gql_gateway.specs.bridge.Sides.{IsSideOf, listed_at, without_key}
 use Rattle.gql_gateway.specs.declared.joining.Joined.{Joined}
 use Rattle.gql_gateway.specs.declared.root_key.RootKey.{RootKey}
 use Rattle.gql_gateway.specs.declared.side.Side.{Side}

@@ -13,9 +13,11 @@ use Rattle.gql_gateway.specs.Divided.{DividesTo, IsBeforeRemote}
 use Rattle.gql_gateway.specs.Remote.{Telling}
 use Rattle.gql_gateway.specs.declared.dividing.DivideFault.{DivideFault}
 use Rattle.gql_gateway.specs.declared.dividing.DivideFault.TheVariants as fault
-use Rattle.gql_gateway.specs.Causes.{CauseBy, HasGatewayCause, HasGatewayCauseOf, HasLocalCause, IsBeforeAsking, JoinsOrCause}
+use Rattle.gql_gateway.specs.Causes.{CauseBy, HasGatewayCause, HasLocalCause, IsBeforeAsking}
+use Rattle.gql_gateway.specs.bridge.Causes.{HasGatewayCauseOf, JoinsOrCause}
 use Rattle.gql_gateway.specs.Gateway.{Fits, IsJoinedBy, IsTooLarge, LacksKey}
-use Rattle.gql_gateway.specs.Told.{of_answer, of_division}
+use Rattle.gql_gateway.specs.Told.{of_answer}
+use Rattle.gql_gateway.specs.bridge.Told.{of_division}
 use Rattle.gql_gateway.specs.declared.gateway_error.GatewayError.{GatewayError}
 use Rattle.gql_gateway.specs.declared.gateway_error.GatewayError.TheVariants.{Answer, TooLarge, Remote, MissingKey, Memory}
 

@@ -14,7 +14,8 @@ use Rattle.gql_schema_types.specs.Schemas.{object_of}
 use Rattle.gql_schema_types.specs.declared.schema.Schema.{Schema}
 use Rattle.gql_schema_types.specs.declared.types.ObjectType.{ObjectType}
 use Rattle.gql_gateway.specs.Concrete.{concrete}
-use Rattle.gql_gateway.specs.Divided.{IsOfHere, IsOfThere, IsDivided, IsWithin, DividesTo, JoinsTo}
+use Rattle.gql_gateway.specs.Divided.{IsOfHere, IsOfThere, IsDivided, IsWithin, DividesTo}
+use Rattle.gql_gateway.specs.bridge.Divided.{JoinsTo}
 use Rattle.gql_gateway.specs.Joined.{joined, keys_on}
 use Rattle.gql_gateway.specs.Remote.{Telling}
 use Rattle.gql_gateway.specs.declared.dividing.DivideFault.{DivideFault}

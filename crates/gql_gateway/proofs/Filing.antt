@@ -12,8 +12,9 @@ use Rattle.gql_resolvers.specs.Execute.{Member}
 use Rattle.gql_response.specs.declared.graphql_error.GraphQLError.{GraphQLError}
 use Rattle.gql_response.specs.declared.path.ResponseDataPathSegment.TheVariants.{Field, ListIndex}
 use Rattle.gql_resolvers.specs.Trail.{Segment}
-use Rattle.gql_gateway.specs.Joined.{begins_with, errors_under, first_key}
-use Rattle.gql_gateway.specs.Sides.{Lists, listed_at, with_error, filed_by, with_filed, without_list, without_value}
+use Rattle.gql_gateway.specs.Joined.{begins_with, errors_under}
+use Rattle.gql_gateway.specs.bridge.Joined.{first_key}
+use Rattle.gql_gateway.specs.bridge.Sides.{Lists, listed_at, with_error, filed_by, with_filed, without_list, without_value}
 use Rattle.gql_gateway.proofs.Rows.{under-both}
 
 module _ {X : Type 0} where

@@ -11,7 +11,8 @@ use Rattle.gql_engine.specs.declared.output.Output.TheVariants.{Done}
 use Rattle.gql_gateway.specs.Causes.{HasLocalCause}
 use Rattle.gql_gateway.specs.Command.{Answers, DataTells, Refuses, wanted_here}
 use Rattle.gql_gateway.specs.Gateway.{HasData, IsJoinedBy}
-use Rattle.gql_gateway.specs.Told.{IsGatewayLine, IsGatewayTold}
+use Rattle.gql_gateway.specs.Told.{IsGatewayTold}
+use Rattle.gql_gateway.specs.bridge.Told.{IsGatewayLine}
 use Rattle.gql_gateway.specs.declared.gateway_error.GatewayError.{GatewayError}
 use Rattle.gql_gateway.specs.declared.gateway_error.GatewayError.TheVariants.{Memory}
 

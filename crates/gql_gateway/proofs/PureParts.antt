@@ -5,7 +5,8 @@ use Rattle.gql_collect.specs.Flat.{flat}
 use Rattle.gql_collect.specs.Kept.{Variables}
 use Rattle.gql_collect.specs.Setting.{Setting}
 use Rattle.gql_document_types.specs.Contents.{HaveContents}
-use Rattle.gql_document_types.specs.Expanded.{expanded, expanded_field}
+use Rattle.gql_document_types.specs.Expanded.{expanded}
+use Rattle.gql_document_types.specs.bridge.Expanded.{expanded_field}
 use Rattle.gql_document_types.specs.Ranks.{AreRanked}
 use Rattle.gql_document_types.specs.declared.fragment.Fragment.{Fragment}
 use Rattle.gql_document_types.specs.declared.selection.Field.{Field}

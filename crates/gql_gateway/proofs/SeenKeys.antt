@@ -11,7 +11,7 @@ use Rattle.gql_document_types.specs.declared.selection.Selection.{Selection}
 use Rattle.gql_document_types.specs.declared.selection.SelectionSet.{SelectionSet}
 use Rattle.gql_exec.specs.Group.{Group, group_from, groups_from, started}
 use Rattle.gql_gateway.specs.Joined.{keys_on, root_key, root_keys}
-use Rattle.gql_gateway.specs.KeysSeen.{key_seen, keys_seen}
+use Rattle.gql_gateway.specs.bridge.KeysSeen.{key_seen, keys_seen}
 use Rattle.gql_gateway.specs.declared.root_key.RootKey.{RootKey}
 
 -- the key of a first field, if there is one

@@ -1,5 +1,5 @@
 -- Why a gateway gives no response. Want of memory alone is free.
-use Rattle.std.specs.Prelude.{◌≡◌, ◌≢◌, ℕ, List, Result, Ok, Err}
+use Rattle.std.specs.Prelude.{◌≢◌}
 use Rattle.gql_ast_base.specs.Names.{Named}
 use Rattle.gql_engine.specs.AnswerError.{Asks, Call, ComesFor, HasCause}
 use Rattle.gql_engine.specs.Responding.{HasCauseOf}
@@ -7,7 +7,7 @@ use Rattle.gql_engine.specs.Wanted.{Wanted}
 use Rattle.gql_engine.specs.declared.answer_error.AnswerError.{AnswerError}
 use Rattle.gql_engine.specs.declared.answer_error.AnswerError.TheVariants as error
 use Rattle.gql_gateway.specs.Remote.{Telling}
-use Rattle.gql_gateway.specs.Gateway.{Fits, IsJoinedBy, IsTooLarge, LacksKey}
+use Rattle.gql_gateway.specs.Gateway.{Fits, IsTooLarge, LacksKey}
 use Rattle.gql_gateway.specs.declared.gateway_error.GatewayError.{GatewayError}
 use Rattle.gql_gateway.specs.declared.gateway_error.GatewayError.TheVariants.{Answer, TooLarge, Remote, MissingKey, Memory}
 
@@ -19,10 +19,6 @@ CauseBy Cause Large Failed Lacks Remote = Failed
 CauseBy Cause Large Failed Lacks (MissingKey key) = Lacks key
 CauseBy Cause Large Failed Lacks Memory = Unit {0}
 
--- of what is wanted, where the other place tells this, and where it failed if the second holds
-abbrev pub HasGatewayCauseOf : Telling → Type 0 → Wanted → GatewayError → Type 0
-HasGatewayCauseOf tells Failed wanted = CauseBy (HasCauseOf wanted) (IsTooLarge wanted) (Fits wanted × Failed) (LacksKey tells wanted)
-
 -- of a call
 abbrev pub HasGatewayCause : Telling → Type 0 → Call → GatewayError → Type 0
 HasGatewayCause tells Failed call =
@@ -31,11 +27,6 @@ HasGatewayCause tells Failed call =
 -- of what is wanted, where the other place neither fails nor lacks a key
 abbrev pub HasLocalCause : Wanted → GatewayError → Type 0
 HasLocalCause wanted = CauseBy (HasCauseOf wanted) (IsTooLarge wanted) ⊥ (λ key. ⊥)
-
--- the joined response to what is wanted, or the cause of a refusal
-abbrev pub JoinsOrCause : Telling → Type 0 → Wanted → Result (List ℕ) GatewayError → Type 0
-JoinsOrCause tells Failed wanted (Ok bytes) = IsJoinedBy tells wanted bytes
-JoinsOrCause tells Failed wanted (Err refusal) = HasGatewayCauseOf tells Failed wanted refusal
 
 -- ---- which refusals come
 

@@ -85,23 +85,3 @@ DividesTo tells Failed schema document operation variables (Err refused.Memory) 
 abbrev pub IsBeforeRemote : Refused DivideFault → Type 0
 IsBeforeRemote (refused.Fault TooLarge) = Unit {0}
 IsBeforeRemote refusal = ⊥
-
--- ---- on the way
-
--- the same of an operation that names no fragments
-abbrev pub JoinsTo : Telling → Type 0 → Schema → ExecutableDocument → Operation → Members → Result ExecutionResponse (Refused DivideFault)
-    → Type 0
-JoinsTo tells Failed schema document operation variables (Ok response) = IsDivided tells schema document operation variables (Ok response)
-JoinsTo tells Failed schema document operation variables (Err (refused.Fault TooLarge)) = ⊥
-JoinsTo tells Failed schema document operation variables (Err (refused.Fault Remote)) = Failed
-JoinsTo tells Failed schema document operation variables (Err (refused.Fault (MissingKey key))) =
-    IsDivided tells schema document operation variables (Err key)
-JoinsTo tells Failed schema document operation variables (Err refused.Memory) = Unit {0}
-
--- the response of the other place, or that it met a fault
-abbrev pub AsksFor : Telling → Type 0 → Schema → ExecutableDocument → Operation → Members → Result ExecutionResponse (Refused DivideFault)
-    → Type 0
-AsksFor tells Failed schema document operation variables (Ok there) = IsOfThere tells schema document operation variables there
-AsksFor tells Failed schema document operation variables (Err (refused.Fault Remote)) = Failed
-AsksFor tells Failed schema document operation variables (Err (refused.Fault fault)) = ⊥
-AsksFor tells Failed schema document operation variables (Err refused.Memory) = Unit {0}

@@ -1,6 +1,6 @@
 -- Two responses joined: one that answers for `__typename`, `__schema` and `__type` of a root, and one for its other fields (sections 4,
 -- 6.3.2 and 7.1 of GraphQL October 2021).
-use Rattle.std.specs.Prelude.{◌≡◌, ℕ, Bool, true, false, List, [], ◌∷◌, ◌++◌, map, Option, Some, None, Result, Ok, Err, if◌then◌else◌}
+use Rattle.std.specs.Prelude.{◌≡◌, ℕ, Bool, false, List, [], ◌∷◌, ◌++◌, map, Option, Some, None, Result, Ok, Err, if◌then◌else◌}
 use Rattle.std.specs.List.{AllByRecursion, filter, flat_map}
 use Rattle.std.specs.Map.{lookup}
 use Rattle.std.specs.Str.{bytes_eq}
@@ -45,12 +45,6 @@ abbrev pub of_key : {A : Type 0} → RootKey → A → A → A
 of_key key here there = if key.here then here else there
 
 -- ---- errors: for each key, in order, those of its response whose path begins with it
-
--- the key that a path begins with, if it begins with one
-abbrev pub first_key : List Segment → Option Named
-first_key [] = None
-first_key (Field name ∷ path) = Some name
-first_key (ListIndex index ∷ path) = None
 
 abbrev pub begins_with : List ℕ → List Segment → Bool
 begins_with key [] = false

@@ -3,9 +3,6 @@ pub mod Part
 pub mod Pure
 pub mod Remote
 pub mod Joined
-pub mod KeysSeen
-pub mod Sides
-pub mod Joining
 pub mod Divided
 pub mod Whole
 pub mod Gateway
@@ -14,3 +11,4 @@ pub mod Answering
 pub mod Told
 pub mod Command
 pub mod Program
+pub mod bridge

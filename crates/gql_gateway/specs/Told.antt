@@ -1,17 +1,10 @@
 -- What a client is told of a refusal: the errors of an object with errors alone (GraphQL October 2021, section 7.1.2).
-use Rattle.std.specs.Prelude.{◌≡◌, ℕ, List, [], ◌∷◌, ◌++◌, Option, Some, None, codes}
-use Rattle.jb_text.specs.declared.refused.Refused.{Refused}
-use Rattle.jb_text.specs.declared.refused.Refused.TheVariants as refused
+use Rattle.std.specs.Prelude.{ℕ, List, [], ◌∷◌, ◌++◌, Option, Some, None, codes}
 use Rattle.gql_ast_base.specs.Names.{Named}
 use Rattle.gql_diag.specs.Refusal.{message_error}
-use Rattle.gql_engine.specs.Serving.{line}
 use Rattle.gql_engine.specs.Told.{IsJsonOf, errors_told}
 use Rattle.gql_engine.specs.declared.answer_error.AnswerError.{AnswerError}
 use Rattle.gql_engine.specs.declared.answer_error.AnswerError.TheVariants as error
-use Rattle.gql_engine.specs.declared.output.Output.{Output}
-use Rattle.gql_engine.specs.declared.output.Output.TheVariants as outputs
-use Rattle.gql_gateway.specs.declared.dividing.DivideFault.{DivideFault}
-use Rattle.gql_gateway.specs.declared.dividing.DivideFault.TheVariants as fault
 use Rattle.gql_response.specs.declared.graphql_error.GraphQLError.{GraphQLError}
 use Rattle.gql_gateway.specs.declared.gateway_error.GatewayError.{GatewayError}
 use Rattle.gql_gateway.specs.declared.gateway_error.GatewayError.TheVariants.{Answer, TooLarge, Remote, MissingKey, Memory}
@@ -30,10 +23,6 @@ gateway_errors Memory = None
 abbrev pub IsGatewayTold : GatewayError → List ℕ → Type 0
 IsGatewayTold refusal text = IsJsonOf (gateway_errors refusal) text
 
--- the output is the line of that
-abbrev pub IsGatewayLine : GatewayError → Output → Type 0
-IsGatewayLine refusal output = (text : List ℕ) × IsGatewayTold refusal text × (output ≡ outputs.Refused (line text))
-
 -- ---- refusals of what stands below
 
 abbrev pub of_answer : AnswerError → GatewayError
@@ -42,9 +31,3 @@ of_answer (error.Variables why) = Answer (error.Variables why)
 of_answer (error.Schema list) = Answer (error.Schema list)
 of_answer (error.Document list) = Answer (error.Document list)
 of_answer (error.Request kind told) = Answer (error.Request kind told)
-
-abbrev pub of_division : Refused DivideFault → GatewayError
-of_division (refused.Fault fault.TooLarge) = TooLarge
-of_division (refused.Fault fault.Remote) = Remote
-of_division (refused.Fault (fault.MissingKey key)) = MissingKey key
-of_division refused.Memory = Memory

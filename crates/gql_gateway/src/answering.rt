@@ -4,7 +4,8 @@ ghost use Rattle.std.specs.Prelude.{◌≡◌, ◌<◌, ◌≤◌, true, IfErr, 
 ghost use Rattle.gql_engine.specs.AnswerError.{Asks, call_of, wanted_with};
 ghost use Rattle.gql_engine.specs.Service.{asked_of};
 ghost use Rattle.gql_gateway.specs.Answering.{GivesJoined};
-ghost use Rattle.gql_gateway.specs.Causes.{HasGatewayCause, IsBeforeAsking, JoinsOrCause};
+ghost use Rattle.gql_gateway.specs.Causes.{HasGatewayCause, IsBeforeAsking};
+ghost use Rattle.gql_gateway.specs.bridge.Causes.{JoinsOrCause};
 ghost use Rattle.gql_gateway.specs.Gateway.{IsJoinedBy};
 ghost use Rattle.jb_io.specs.Stream.{HasFailed};
 

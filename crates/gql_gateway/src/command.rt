@@ -7,7 +7,7 @@ ghost use Rattle.gql_gateway.specs.Causes.{HasLocalCause};
 ghost use Rattle.gql_gateway.specs.Command.{DataTells, wanted_here};
 ghost use Rattle.gql_gateway.specs.Gateway.{IsJoinedBy};
 ghost use Rattle.gql_gateway.specs.Program as spec;
-ghost use Rattle.gql_gateway.specs.Told.{IsGatewayLine};
+ghost use Rattle.gql_gateway.specs.bridge.Told.{IsGatewayLine};
 
 use crate::gateway_error::GatewayError;
 use crate::responding::respond_joined;

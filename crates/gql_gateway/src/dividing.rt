@@ -4,7 +4,8 @@ ghost use Rattle.std.specs.Prelude.{◌≡◌, ◌≢◌, ◌≤◌, [], None, I
 ghost use Rattle.gql_document_types.specs.Spreadless.{HasNoSpread};
 ghost use Rattle.gql_document_types.specs.Spreads.{AreAcyclic};
 ghost use Rattle.gql_gateway.specs.Concrete.{concrete, concrete_operation};
-ghost use Rattle.gql_gateway.specs.Divided.{AsksFor, DividesTo, IsBeforeRemote, IsOfHere, JoinsTo};
+ghost use Rattle.gql_gateway.specs.Divided.{DividesTo, IsBeforeRemote, IsOfHere};
+ghost use Rattle.gql_gateway.specs.bridge.Divided.{AsksFor, JoinsTo};
 ghost use Rattle.gql_schema_types.specs.Schemas.{object_of};
 ghost use Rattle.jb_io.specs.Stream.{HasFailed};
 

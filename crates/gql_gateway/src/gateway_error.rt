@@ -2,7 +2,8 @@
 
 ghost use Rattle.std.specs.Prelude.{◌≡◌, [], ◌∷◌, IfOk};
 ghost use Rattle.gql_diag.specs.Refusal.{message_error, refusal_value};
-ghost use Rattle.gql_gateway.specs.Told.{IsGatewayTold, missing_message, of_division};
+ghost use Rattle.gql_gateway.specs.Told.{IsGatewayTold, missing_message};
+ghost use Rattle.gql_gateway.specs.bridge.Told.{of_division};
 ghost use Rattle.jb_print.specs.Compact.{compact};
 
 use crate::DivideFault;

@@ -4,8 +4,8 @@ ghost use Rattle.std.specs.Prelude.{◌≡◌, ◌++◌, ◌∷◌, [], List, No
 ghost use Rattle.std.specs.Map.{lookup};
 ghost use Rattle.std.specs.Str.{bytes_eq};
 ghost use Rattle.gql_gateway.specs.Joined.{AreApart, Gives, joined, joined_roots};
-ghost use Rattle.gql_gateway.specs.Joining.{GivesMembers, IsAdded, IsAddedOf, added_member, without_data};
-ghost use Rattle.gql_gateway.specs.Sides.{IsSideOf};
+ghost use Rattle.gql_gateway.specs.bridge.Joining.{GivesMembers, IsAdded, IsAddedOf, added_member, without_data};
+ghost use Rattle.gql_gateway.specs.bridge.Sides.{IsSideOf};
 ghost use Rattle.gql_resolvers.specs.Execute.{Member};
 ghost use Rattle.gql_response.specs.declared.graphql_error.GraphQLError.{GraphQLError as ErrorOf};
 

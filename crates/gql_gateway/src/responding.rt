@@ -3,7 +3,8 @@
 ghost use Rattle.std.specs.Prelude.{◌≡◌, ◌≤◌, ℕ, IfErr};
 ghost use Rattle.gql_engine.specs.Phases.{IsReady, IsReadyForSome};
 ghost use Rattle.gql_engine.specs.Wanted.{Wanted as WantedOf, wanted_over};
-ghost use Rattle.gql_gateway.specs.Causes.{IsBeforeAsking, JoinsOrCause};
+ghost use Rattle.gql_gateway.specs.Causes.{IsBeforeAsking};
+ghost use Rattle.gql_gateway.specs.bridge.Causes.{JoinsOrCause};
 ghost use Rattle.jb_io.specs.Stream.{HasFailed};
 
 use crate::gateway_error::{GatewayError, of_division};

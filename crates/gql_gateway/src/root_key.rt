@@ -4,7 +4,7 @@ ghost use Rattle.std.specs.Prelude.{◌≡◌, Some, IfOk};
 ghost use Rattle.gql_collect.specs.Collected.{setting};
 ghost use Rattle.gql_document_types.specs.Spreads.{AreAcyclic};
 ghost use Rattle.gql_gateway.specs.Joined.{AreApart, keys_on};
-ghost use Rattle.gql_gateway.specs.KeysSeen.{keys_seen};
+ghost use Rattle.gql_gateway.specs.bridge.KeysSeen.{keys_seen};
 ghost use Rattle.gql_schema_types.specs.Schemas.{object_of};
 ghost use Rattle.gql_schema_types.specs.declared.types.ObjectType.{ObjectType as ObjectTypeOf};
 

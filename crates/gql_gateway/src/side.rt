@@ -4,8 +4,8 @@ ghost use Rattle.std.specs.Prelude.{◌≡◌, ◌++◌, ◌∷◌, [], None, If
 ghost use Rattle.std.specs.Map.{lookup};
 ghost use Rattle.std.specs.Option.{option_copied};
 ghost use Rattle.std.specs.Str.{bytes_eq};
-ghost use Rattle.gql_gateway.specs.Joined.{first_key};
-ghost use Rattle.gql_gateway.specs.Sides.{AreUnder, IsSideOf, listed_at, with_error, with_filed, without_list, without_value};
+ghost use Rattle.gql_gateway.specs.bridge.Joined.{first_key};
+ghost use Rattle.gql_gateway.specs.bridge.Sides.{AreUnder, IsSideOf, listed_at, with_error, with_filed, without_list, without_value};
 
 use gql_ast_base::Name;
 use gql_response::{GraphQLError, ResponseDataPathSegment};

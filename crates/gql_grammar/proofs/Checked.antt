@@ -9,7 +9,7 @@ use Rattle.gql_grammar.specs.Word.{has}
 use Rattle.gql_grammar.specs.Factored.{factored}
 use Rattle.gql_grammar.specs.Reads.{IsOneOf, here, there}
 use Rattle.gql_grammar.specs.Starts.{starts, leads, begins}
-use Rattle.gql_grammar.specs.Decided.{follow, IsDecided}
+use Rattle.gql_grammar.specs.bridge.Decided.{follow, IsDecided}
 use Rattle.gql_grammar.proofs.Words.{and_true, every, implies}
 use Rattle.gql_grammar.proofs.Ways.{everywhere, none_of, decides, decides-true, implied, all_apart}
 

@@ -4,7 +4,7 @@ use Rattle.gql_grammar.specs.declared.word.Word.{Word}
 use Rattle.gql_grammar.specs.declared.symbol.Symbol.{Symbol}
 use Rattle.gql_grammar.specs.declared.symbol.Symbol.TheVariants.{Token, One, Optional, Repeated, Eager, Wrap, Close}
 use Rattle.gql_grammar.specs.Starts.{starts, leads}
-use Rattle.gql_grammar.specs.Decided.{IsDecided}
+use Rattle.gql_grammar.specs.bridge.Decided.{IsDecided}
 
 pub leads-append : (behind : Word → Bool) (a b : List Symbol) (w : Word) → leads behind (a ++ b) w ≡ leads (leads behind b) a w
 leads-append behind [] b w = refl

@@ -8,7 +8,7 @@ use Rattle.gql_grammar.specs.declared.rule.Rule.{Rule}
 use Rattle.gql_grammar.specs.declared.rule.Rule.TheVariants.{Document}
 use Rattle.gql_grammar.specs.Factored.{factored}
 use Rattle.gql_grammar.specs.Starts.{way}
-use Rattle.gql_grammar.specs.Turns.{rank, turns}
+use Rattle.gql_grammar.specs.bridge.Turns.{rank, turns}
 use Rattle.gql_grammar.proofs.Ways.{all_ways, all_ways-at}
 use Rattle.gql_grammar.proofs.Checked.{is_solid, good_way}
 use Rattle.gql_grammar.proofs.Steps.{way-in}

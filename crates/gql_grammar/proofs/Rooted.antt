@@ -12,8 +12,8 @@ use Rattle.gql_grammar.specs.Rule.{kind_of}
 use Rattle.gql_grammar.specs.Row.{Row, nothing, node, with_leaf, with_node}
 use Rattle.gql_grammar.specs.Reads.{Sentence, IsBeginning}
 use Rattle.gql_grammar.specs.Starts.{way}
-use Rattle.gql_grammar.specs.Ends.{closes}
-use Rattle.gql_grammar.specs.Stands.{way_at, Stands, rooted, around, BetweenIn, StandsIn}
+use Rattle.gql_grammar.specs.bridge.Ends.{closes}
+use Rattle.gql_grammar.specs.bridge.Stands.{way_at, Stands, rooted, around, BetweenIn, StandsIn}
 use Rattle.gql_grammar.proofs.Ways.{way-some}
 use Rattle.gql_grammar.proofs.Turns.{begin, begun, look, enter_tree, enter_group, into_optional, into_repeated, into_eager, past_optional, past_repeated, past_eager, past_wrap, past_close, taken, accepted, ended_token, ended_rule, refused_token, refused_rule, refused_rest}
 

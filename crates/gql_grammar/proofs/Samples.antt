@@ -15,7 +15,7 @@ use Rattle.gql_grammar.specs.Rule.{kind_of}
 use Rattle.gql_grammar.specs.Factored.{factored}
 use Rattle.gql_grammar.specs.Row.{Row, nothing, node, with_leaf, with_node}
 use Rattle.gql_grammar.specs.Reads.{Reads, done, token, tree, group, skip, stop, enter, wrap, IsOneOf, here, there}
-use Rattle.gql_grammar.specs.Ends.{Ends, end, symbol, close, closes}
+use Rattle.gql_grammar.specs.bridge.Ends.{Ends, end, symbol, close, closes}
 use Rattle.gql_grammar.proofs.Words.{and_true}
 use Rattle.gql_grammar.proofs.Checked.{is_closeless, good_way}
 use Rattle.gql_grammar.proofs.Appended.{Reads-append}

@@ -7,7 +7,7 @@ use Rattle.std.proofs.lemmas.Slice.Eq.{bytes_eq-Decides}
 use Rattle.gql_grammar.specs.declared.word.Word.{Word}
 use Rattle.gql_grammar.specs.declared.word.Word.TheVariants.{FragmentWord, OnWord, NullWord, SchemaWord, ScalarWord, TypeWord, InterfaceWord, ImplementsWord, UnionWord, EnumWord, InputWord, DirectiveWord, RepeatableWord, ExtendWord, OperationWord, BooleanWord, LocationWord, OtherName}
 use Rattle.gql_grammar.specs.Spelling.{keyword, word_of_name}
-use Rattle.gql_grammar.specs.Lengths.{word_of_four, word_of_five, word_of_six, word_of_eight, word_of_nine, word_of_ten, word_of_long}
+use Rattle.gql_grammar.specs.bridge.Lengths.{word_of_four, word_of_five, word_of_six, word_of_eight, word_of_nine, word_of_ten, word_of_long}
 
 -- one test after the other
 abbrev chain : (List ℕ → Bool) → Word

@@ -7,7 +7,7 @@ use Rattle.gql_grammar.specs.Factored.{factored}
 use Rattle.gql_grammar.specs.Row.{Row}
 use Rattle.gql_grammar.specs.Reads.{Reads, done}
 use Rattle.gql_grammar.specs.Starts.{leads, nowhere, begins}
-use Rattle.gql_grammar.specs.Ends.{Ends, end, symbol, close, closes}
+use Rattle.gql_grammar.specs.bridge.Ends.{Ends, end, symbol, close, closes}
 use Rattle.gql_grammar.proofs.Appended.{Reads-append, first_symbol}
 use Rattle.gql_grammar.proofs.Checked.{is_closeless}
 use Rattle.gql_grammar.proofs.Front.{Fronts, front}

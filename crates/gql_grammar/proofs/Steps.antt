@@ -13,8 +13,8 @@ use Rattle.gql_grammar.specs.Factored.{factored}
 use Rattle.gql_grammar.specs.Row.{Row, nothing, node, with_leaf, with_node}
 use Rattle.gql_grammar.specs.Reads.{Reads, done, token, tree, group, skip, take, stop, again, leave, enter, wrap, IsOneOf, is_brace_next}
 use Rattle.gql_grammar.specs.Starts.{starts, leads, nowhere, chosen, way}
-use Rattle.gql_grammar.specs.Decided.{IsApart, BeginsWithBrace}
-use Rattle.gql_grammar.specs.Ends.{Ends, end, symbol, close}
+use Rattle.gql_grammar.specs.bridge.Decided.{IsApart, BeginsWithBrace}
+use Rattle.gql_grammar.specs.bridge.Ends.{Ends, end, symbol, close}
 use Rattle.gql_grammar.proofs.Words.{false_true}
 use Rattle.gql_grammar.proofs.Ways.{everywhere, chosen-only, chosen-in, way-some}
 use Rattle.gql_grammar.proofs.Checked.{good_way, ways_apart}

@@ -13,9 +13,9 @@ use Rattle.gql_grammar.specs.Factored.{factored}
 use Rattle.gql_grammar.specs.Row.{Row, nothing, node, with_leaf, with_node}
 use Rattle.gql_grammar.specs.Reads.{IsOneOf, Sentence, IsBeginning, is_brace_next}
 use Rattle.gql_grammar.specs.Starts.{starts, leads, nowhere, way}
-use Rattle.gql_grammar.specs.Decided.{follow, IsDecided, BeginsWithBrace}
-use Rattle.gql_grammar.specs.Ends.{Ends, end, symbol, close, closes}
-use Rattle.gql_grammar.specs.Stands.{ahead, way_at, EndsFrom, Between, Stands}
+use Rattle.gql_grammar.specs.bridge.Decided.{follow, IsDecided, BeginsWithBrace}
+use Rattle.gql_grammar.specs.bridge.Ends.{Ends, end, symbol, close, closes}
+use Rattle.gql_grammar.specs.bridge.Stands.{ahead, way_at, EndsFrom, Between, Stands}
 use Rattle.gql_grammar.proofs.Words.{false_true}
 use Rattle.gql_grammar.proofs.Ways.{way-none}
 use Rattle.gql_grammar.proofs.Checked.{good_way}

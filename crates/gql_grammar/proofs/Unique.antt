@@ -10,7 +10,7 @@ use Rattle.gql_grammar.specs.Factored.{factored}
 use Rattle.gql_grammar.specs.Row.{Row, nothing, with_node}
 use Rattle.gql_grammar.specs.Reads.{Reads, done, token, tree, group, skip, take, stop, again, leave, enter, wrap, IsOneOf, Sentence, is_brace_next}
 use Rattle.gql_grammar.specs.Starts.{starts, leads, nowhere, chosen_way, way}
-use Rattle.gql_grammar.specs.Decided.{follow, IsApart, BeginsWithBrace, IsDecided}
+use Rattle.gql_grammar.specs.bridge.Decided.{follow, IsApart, BeginsWithBrace, IsDecided}
 use Rattle.gql_grammar.proofs.Words.{false_true}
 use Rattle.gql_grammar.proofs.Ways.{everywhere, chosen-only}
 use Rattle.gql_grammar.proofs.Checked.{good_way, ways_apart}

@@ -8,7 +8,7 @@ use Rattle.gql_grammar.specs.declared.rule.Rule.{Rule}
 use Rattle.gql_grammar.specs.Word.{is_same, has}
 use Rattle.gql_grammar.specs.Reads.{IsOneOf, here, there}
 use Rattle.gql_grammar.specs.Starts.{starts, leads, begins, chosen, chosen_way, way}
-use Rattle.gql_grammar.specs.Decided.{follow, IsDecided}
+use Rattle.gql_grammar.specs.bridge.Decided.{follow, IsDecided}
 use Rattle.gql_grammar.proofs.Words.{and_true, every, every_at, implies, implies_true, excludes, excludes_true, agrees, agrees_true}
 
 -- every word

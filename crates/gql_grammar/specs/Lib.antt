@@ -1,7 +1,6 @@
 -- Words, rules, the grammar as the standard writes it, trees, and sentences.
 pub mod Word
 pub mod Spelling
-pub mod Lengths
 pub mod Rule
 pub mod Grammar
 pub mod Factored
@@ -9,8 +8,5 @@ pub mod Starts
 pub mod Row
 pub mod Sentence
 pub mod Reads
-pub mod Decided
-pub mod Ends
-pub mod Stands
-pub mod Turns
 pub mod Nodes
+pub mod bridge

@@ -1,7 +1,7 @@
 //! The words that tokens are.
 
 ghost use Rattle.std.specs.Prelude.{◌≡◌};
-ghost use Rattle.gql_grammar.specs.Lengths as by_length;
+ghost use Rattle.gql_grammar.specs.bridge.Lengths as by_length;
 ghost use Rattle.gql_grammar.specs.Spelling as spec;
 
 use crate::Word;

@@ -4,10 +4,13 @@ use Rattle.std.specs.List.{slice_get, list_any, flat_map}
 use Rattle.std.specs.Option.{unwrap_or}
 use Rattle.std.proofs.lemmas.Bool.Decides.{nat_tests}
 use Rattle.std.proofs.lemmas.Option.{slice_get_within, slice_get_past}
-use Rattle.gql_graph.specs.Chains.{AreJudged, AreMarkedNodes, AreReaching, mark_of, is_marked, any_marked, is_marked_next, any_next, next_mark, next_names, has_chain, is_long}
-use Rattle.gql_graph.specs.Cycles.{IsOnCycle, ReachesCycle, IsReverse, AreMarked, Told}
+use Rattle.gql_graph.specs.Chains.{AreJudged, mark_of, is_marked, next_names, has_chain}
+use Rattle.gql_graph.specs.bridge.Chains.{AreMarkedNodes, AreReaching, any_marked, is_marked_next, any_next, next_mark, is_long}
+use Rattle.gql_graph.specs.Cycles.{IsOnCycle, ReachesCycle, AreMarked}
+use Rattle.gql_graph.specs.bridge.Cycles.{IsReverse, Told}
 use Rattle.gql_graph.specs.Flooding.{has}
-use Rattle.gql_graph.specs.Graph.{Graph, row, IsFlooded}
+use Rattle.gql_graph.specs.Graph.{Graph, row}
+use Rattle.gql_graph.specs.bridge.Graph.{IsFlooded}
 use Rattle.gql_graph.proofs.Cyclic.{zeros, has_is, is_has}
 use Rattle.gql_graph.proofs.Walks.{forget, lift, inside, from_node, forward, backward}
 

@@ -5,7 +5,8 @@ use Rattle.std.proofs.lemmas.Bool.{eqb-true, eq-eqb}
 use Rattle.std.proofs.lemmas.List.Elements.{Contains-append_right}
 use Rattle.std.proofs.Math.Seq.{take-append_seam}
 use Rattle.std.proofs.lemmas.Option.{slice_get_within}
-use Rattle.gql_graph.specs.Cycles.{at_once, along, IsOnCycle, IsPartitioned, HasPart, AreMarked, Told, in_part, shares_part}
+use Rattle.gql_graph.specs.Cycles.{at_once, along, IsOnCycle, AreMarked}
+use Rattle.gql_graph.specs.bridge.Cycles.{IsPartitioned, HasPart, Told, in_part, shares_part}
 use Rattle.gql_graph.specs.Flooding.{has}
 use Rattle.gql_graph.specs.Graph.{Graph, row}
 use Rattle.gql_graph.proofs.Flooded.{Contains-cons_cases, none_contained}

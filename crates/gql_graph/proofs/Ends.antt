@@ -6,7 +6,7 @@ use Rattle.std.proofs.lemmas.Bool.{eqb-true}
 use Rattle.std.proofs.lemmas.Option.{slice_get_past}
 use Rattle.gql_graph.specs.Chains.{AreJudged, has_chain}
 use Rattle.gql_graph.specs.Cycles.{Reaches, at_once, along, IsOnCycle, ReachesCycle, AreMarked}
-use Rattle.gql_graph.specs.Flat.{is_end, is_flat}
+use Rattle.gql_graph.specs.bridge.Flat.{is_end, is_flat}
 use Rattle.gql_graph.specs.Graph.{Graph, row, HasEdge}
 use Rattle.gql_graph.proofs.Chained.{any_twice, or_false, both_true}
 use Rattle.gql_graph.proofs.Flooded.{none_contained, Contains-cons_cases}

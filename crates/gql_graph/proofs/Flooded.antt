@@ -8,8 +8,10 @@ use Rattle.std.proofs.lemmas.List.Sums.{sum_by-set}
 use Rattle.std.proofs.lemmas.Option.{slice_get_within, get_or_from_slice_get}
 use Rattle.std.proofs.lemmas.Bool.{eqb-true, eq-eqb}
 use Rattle.std.proofs.lemmas.Bool.Decides.{eqb_tells}
-use Rattle.gql_graph.specs.Flooding.{has, marked, queued, all_marked, all_queued}
-use Rattle.gql_graph.specs.Graph.{Graph, row, HasEdge, WalkOver, here, step, IsReachedOver, IsFlooded}
+use Rattle.gql_graph.specs.Flooding.{has}
+use Rattle.gql_graph.specs.bridge.Flooding.{marked, queued, all_marked, all_queued}
+use Rattle.gql_graph.specs.Graph.{Graph, row, HasEdge}
+use Rattle.gql_graph.specs.bridge.Graph.{WalkOver, here, step, IsReachedOver, IsFlooded}
 
 -- ---- marks
 pub get-set_same : {A : Type 0} (xs : List A) (i : ℕ) (x y : A) → slice_get xs i ≡ Some x → slice_get (set xs i y) i ≡ Some y

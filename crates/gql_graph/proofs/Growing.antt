@@ -6,8 +6,8 @@ use Rattle.std.proofs.lemmas.List.Elements.{Contains-append_left, Contains-appen
 use Rattle.std.proofs.lemmas.Option.{slice_get_within}
 use Rattle.gql_graph.specs.Graph.{Graph}
 use Rattle.gql_graph.proofs.Flooded.{Contains-cons_cases, none_contained, same_or_not}
-use Rattle.gql_graph.specs.Explored.{pair_of, IsMet, same, other, AreMet, IsAdded, AreAdded, AreKeys, AreFields, IsPaired, IsExplored, AreEmpty, AreUnmarked}
-use Rattle.gql_graph.specs.Exploring.{IsBegun, IsGoneBelow, no_buckets, field_sets}
+use Rattle.gql_graph.specs.bridge.Explored.{pair_of, IsMet, same, other, AreMet, IsAdded, AreAdded, AreKeys, AreFields, IsPaired, IsExplored, AreEmpty, AreUnmarked}
+use Rattle.gql_graph.specs.bridge.Exploring.{IsBegun, IsGoneBelow, no_buckets, field_sets}
 use Rattle.gql_graph.specs.Pairs.{Sets, IsPairIn, IsSet, in_set, below, of_operation, of_fragment, of_field, items_below}
 use Rattle.gql_graph.specs.declared.pair.Pair.{Pair}
 use Rattle.gql_graph.proofs.SetFields.{got_contained}

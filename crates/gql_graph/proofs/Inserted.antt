@@ -7,8 +7,8 @@ use Rattle.std.proofs.lemmas.List.Elements.{Contains-append_left, Contains-appen
 use Rattle.std.proofs.lemmas.Bool.{eqb-true, lt-ltb}
 use Rattle.std.proofs.lemmas.Bool.Decides.{leb_tells}
 use Rattle.gql_graph.proofs.Flooded.{Contains-cons_cases, none_contained}
-use Rattle.gql_graph.specs.Explored.{pair_of}
-use Rattle.gql_graph.specs.Steps.{is_pair, inserted, all_inserted}
+use Rattle.gql_graph.specs.bridge.Explored.{pair_of}
+use Rattle.gql_graph.specs.bridge.Steps.{is_pair, inserted, all_inserted}
 use Rattle.gql_graph.specs.declared.pair.Pair.{Pair}
 
 beq-true : (x y : Bool) → beq x y ≡ true → x ≡ y

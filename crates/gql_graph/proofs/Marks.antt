@@ -2,7 +2,8 @@
 use Rattle.std.proofs.Common.{◌≡◌, ◌≢◌, inl, inr, ℕ, Bool, true, false, cond, ◌==◌, Option, Some, None, List, [], ◌∷◌, set, refl, sym, ap, ◌∙◌, subst}
 use Rattle.std.specs.List.{Contains, slice_get}
 use Rattle.std.proofs.lemmas.Bool.{eqb-true, eq-eqb}
-use Rattle.gql_graph.specs.Flooding.{has, marked, all_marked}
+use Rattle.gql_graph.specs.Flooding.{has}
+use Rattle.gql_graph.specs.bridge.Flooding.{marked, all_marked}
 use Rattle.gql_graph.proofs.Flooded.{get-set_same, get-set_other, same_or_not, Contains-cons_cases, none_contained}
 
 module _ (a b : ℕ) (apart : a ≢ b) where

@@ -6,8 +6,8 @@ use Rattle.std.proofs.lemmas.List.{append-nil}
 use Rattle.std.proofs.lemmas.List.Elements.{Contains-append_left, Contains-append_right, Contains-push, Contains-push_cases}
 use Rattle.std.proofs.lemmas.Bool.{eqb-true, eq-eqb}
 use Rattle.gql_graph.proofs.Flooded.{get-set_same, get-set_other, same_or_not, Contains-cons_cases, none_contained}
-use Rattle.gql_graph.specs.Explored.{pair_of, class_of, AreOfOneClass, same, other, AreEmpty, HasOneKey, IsPaired}
-use Rattle.gql_graph.specs.Steps.{Meeting, meeting, is_covered, met_in, met_by_key, met, all_met, all_inserted, emptied, all_emptied}
+use Rattle.gql_graph.specs.bridge.Explored.{pair_of, class_of, AreOfOneClass, same, other, AreEmpty, HasOneKey, IsPaired}
+use Rattle.gql_graph.specs.bridge.Steps.{Meeting, meeting, is_covered, met_in, met_by_key, met, all_met, all_inserted, emptied, all_emptied}
 use Rattle.gql_graph.specs.declared.pair.Pair.{Pair}
 use Rattle.gql_graph.proofs.Inserted.{all_grows, all_keep, all_have, all_only, pair_of-low, pair_of-high, pair_of-either, either_order}
 use Rattle.gql_graph.proofs.SetFields.{set_here, got_within}

@@ -2,9 +2,11 @@
 use Rattle.std.proofs.Common.{◌≡◌, ◌≢◌, ◌⊎◌, inl, inr, ℕ, zero, suc, ◌+◌, ◌<◌, Option, Some, List, [], ◌∷◌, length, get_or, refl, sym, ap, ◌∙◌, subst, arith}
 use Rattle.std.specs.List.{Contains, slice_get}
 use Rattle.std.proofs.lemmas.Option.{slice_get_within, slice_get-get_or}
-use Rattle.gql_graph.specs.Cycles.{Reaches, at_once, IsMutual, IsReverse, IsPartitioned, HasPart}
-use Rattle.gql_graph.specs.Flooding.{all_marked}
-use Rattle.gql_graph.specs.Graph.{Graph, IsReachedOver, IsFlooded}
+use Rattle.gql_graph.specs.Cycles.{Reaches, at_once}
+use Rattle.gql_graph.specs.bridge.Cycles.{IsMutual, IsReverse, IsPartitioned, HasPart}
+use Rattle.gql_graph.specs.bridge.Flooding.{all_marked}
+use Rattle.gql_graph.specs.Graph.{Graph}
+use Rattle.gql_graph.specs.bridge.Graph.{IsReachedOver, IsFlooded}
 use Rattle.gql_graph.proofs.Flooded.{Contains-cons_cases, none_contained, walk_end}
 use Rattle.gql_graph.proofs.Marks.{all_marked_other, all_marked_at}
 use Rattle.gql_graph.proofs.Walks.{reaches_trans, mutual_sym, mutual_trans, forget, lift, inside, backward, forward}

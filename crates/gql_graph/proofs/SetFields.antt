@@ -5,12 +5,13 @@ use Rattle.std.specs.Option.{option_map_or}
 use Rattle.std.specs.Prelude.{nat_le}
 use Rattle.std.proofs.lemmas.List.Elements.{Contains-append_left, Contains-append_right, Contains-append_cases}
 use Rattle.std.proofs.lemmas.Bool.{eqb-true, leb-true, le-leb}
-use Rattle.gql_graph.specs.Graph.{Graph, IsReachedOver, IsFlooded}
+use Rattle.gql_graph.specs.Graph.{Graph}
+use Rattle.gql_graph.specs.bridge.Graph.{IsReachedOver, IsFlooded}
 use Rattle.gql_graph.specs.Cycles.{Reaches, at_once, along}
 use Rattle.gql_graph.proofs.Flooded.{get-set_other, same_or_not, Contains-cons_cases, none_contained}
 use Rattle.gql_graph.proofs.Walks.{lift, forget, from_node}
-use Rattle.gql_graph.specs.Explored.{AreUnmarked, AreFields}
-use Rattle.gql_graph.specs.Steps.{is_marked, field_at, fields_at, all_reset}
+use Rattle.gql_graph.specs.bridge.Explored.{AreUnmarked, AreFields}
+use Rattle.gql_graph.specs.bridge.Steps.{is_marked, field_at, fields_at, all_reset}
 
 -- ---- lists
 

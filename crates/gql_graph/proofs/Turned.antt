@@ -4,9 +4,9 @@ use Rattle.std.specs.List.{Contains, slice_get}
 use Rattle.std.specs.Option.{option_map_or, unwrap_or}
 use Rattle.std.proofs.lemmas.List.Elements.{Contains-append_left, Contains-push, Contains-push_cases}
 use Rattle.std.proofs.lemmas.Option.{slice_get-get_or}
-use Rattle.gql_graph.specs.Cycles.{IsReverse}
+use Rattle.gql_graph.specs.bridge.Cycles.{IsReverse}
 use Rattle.gql_graph.specs.Graph.{Graph, row, HasEdge}
-use Rattle.gql_graph.specs.Reversing.{no_edges, added, all_added}
+use Rattle.gql_graph.specs.bridge.Reversing.{no_edges, added, all_added}
 use Rattle.gql_graph.proofs.Walks.{from_node}
 use Rattle.gql_graph.proofs.Flooded.{get-set_same, get-set_other, same_or_not, Contains-cons_cases, none_contained}
 

@@ -3,8 +3,10 @@ use Rattle.std.proofs.Common.{◌≡◌, ◌<◌, ℕ, Option, Some, None, List,
 use Rattle.std.specs.List.{Contains, slice_get}
 use Rattle.std.specs.Option.{unwrap_or}
 use Rattle.std.proofs.lemmas.Option.{slice_get_within}
-use Rattle.gql_graph.specs.Cycles.{Reaches, at_once, along, IsMutual, IsReverse}
-use Rattle.gql_graph.specs.Graph.{Graph, HasEdge, WalkOver, here, step}
+use Rattle.gql_graph.specs.Cycles.{Reaches, at_once, along}
+use Rattle.gql_graph.specs.bridge.Cycles.{IsMutual, IsReverse}
+use Rattle.gql_graph.specs.Graph.{Graph, HasEdge}
+use Rattle.gql_graph.specs.bridge.Graph.{WalkOver, here, step}
 use Rattle.gql_graph.proofs.Flooded.{none_contained}
 
 pub reaches_more : (g : Graph) {a b : ℕ} (c : ℕ) → Reaches g a b → HasEdge g b c → Reaches g a c

@@ -1,11 +1,7 @@
-pub mod Explored
-pub mod Exploring
 pub mod Pairs
-pub mod Steps
 pub mod Ranks
 pub mod Chains
 pub mod Cycles
 pub mod Flooding
-pub mod Flat
 pub mod Graph
-pub mod Reversing
+pub mod bridge

@@ -3,8 +3,9 @@
 ghost use Rattle.std.specs.Prelude.{◌≡◌, ◌++◌, ℕ, true, length, IfOk, OnOk};
 ghost use Rattle.std.specs.List.{list_any};
 ghost use Rattle.gql_graph.specs.Chains as spec;
-ghost use Rattle.gql_graph.specs.Cycles.{Told};
-ghost use Rattle.gql_graph.specs.Flat.{is_flat};
+ghost use Rattle.gql_graph.specs.bridge.Chains as spec_bridge;
+ghost use Rattle.gql_graph.specs.bridge.Cycles.{Told};
+ghost use Rattle.gql_graph.specs.bridge.Flat.{is_flat};
 ghost use Rattle.gql_graph.specs.Graph.{row};
 
 use crate::cycles::on_cycles;
@@ -63,7 +64,7 @@ fn judge_walks(alloc: Global, graph: &Listed<Listed<usize>>, named: usize) -> Re
 
 /// Those that begin a chain, without those that reach a cycle.
 fn long_chains(alloc: Global, chained: &[bool], cyclic: &[usize]) -> Result<Vec<bool>, Memory>
-    ensures { IfOk result (λ long. Told (spec.is_long chained.now cyclic.now) long.items (length chained.now)) }
+    ensures { IfOk result (λ long. Told (spec_bridge.is_long chained.now cyclic.now) long.items (length chained.now)) }
 {
     let mut long = Vec::new(alloc);
     for node in 0..chained.len() {
@@ -75,7 +76,7 @@ fn long_chains(alloc: Global, chained: &[bool], cyclic: &[usize]) -> Result<Vec<
 
 /// Whether a chain begins at a node, and no cycle is reached from it.
 fn is_long(chained: &[bool], cyclic: &[usize], node: usize) -> bool
-    ensures { result ≡ spec.is_long chained.now cyclic.now node }
+    ensures { result ≡ spec_bridge.is_long chained.now cyclic.now node }
 {
     is_marked(chained, node) && !has(cyclic, node, 1)
 }
@@ -87,7 +88,7 @@ fn reaching(
     recursive: &[bool],
 ) -> Result<Vec<usize>, Memory>
     requires { length recursive.now ≡ length reversed.now }
-    ensures { IfOk result (λ states. spec.AreReaching reversed.now recursive.now states.items) }
+    ensures { IfOk result (λ states. spec_bridge.AreReaching reversed.now recursive.now states.items) }
 {
     let starts = marked_nodes(alloc, recursive)?;
     let mut states = vec![in alloc; 0; recursive.len()]?;
@@ -104,7 +105,7 @@ fn reaching(
 
 /// The nodes that are marked.
 fn marked_nodes(alloc: Global, marks: &[bool]) -> Result<Vec<usize>, Memory>
-    ensures { IfOk result (λ nodes. spec.AreMarkedNodes marks.now nodes.items (length marks.now)) }
+    ensures { IfOk result (λ nodes. spec_bridge.AreMarkedNodes marks.now nodes.items (length marks.now)) }
 {
     let mut nodes = Vec::new(alloc);
     for node in 0..marks.len() {
@@ -115,7 +116,7 @@ fn marked_nodes(alloc: Global, marks: &[bool]) -> Result<Vec<usize>, Memory>
 
 /// Puts a node last, if something holds.
 fn push_if(nodes: &mut Vec<usize>, node: usize, holds: bool) -> Result<(), Memory>
-    ensures { OnOk result (nodes.new.items ≡ nodes.old.items ++ spec.only_if holds node) }
+    ensures { OnOk result (nodes.new.items ≡ nodes.old.items ++ spec_bridge.only_if holds node) }
 {
     if holds {
         nodes.push(node)?;
@@ -143,7 +144,7 @@ fn marks_of_longer(
     marks: Vec<bool>,
 ) -> Result<Vec<bool>, Memory>
     requires { length marks.items ≡ length graph.now }
-    ensures { IfOk result (λ made. Told (spec.next_mark graph.now named marks.items) made.items (length graph.now)) }
+    ensures { IfOk result (λ made. Told (spec_bridge.next_mark graph.now named marks.items) made.items (length graph.now)) }
 {
     if any_mark(marks.as_slice()) {
         next_marks(alloc, graph, named, marks.as_slice())
@@ -166,7 +167,7 @@ fn next_marks(
     named: usize,
     marks: &[bool],
 ) -> Result<Vec<bool>, Memory>
-    ensures { IfOk result (λ made. Told (spec.next_mark graph.now named marks.now) made.items (length graph.now)) }
+    ensures { IfOk result (λ made. Told (spec_bridge.next_mark graph.now named marks.now) made.items (length graph.now)) }
 {
     let through = marks_through(alloc, graph, marks)?;
     let mut made = Vec::new(alloc);
@@ -183,7 +184,7 @@ fn marks_through(
     graph: &Listed<Listed<usize>>,
     marks: &[bool],
 ) -> Result<Vec<bool>, Memory>
-    ensures { IfOk result (λ made. Told (λ v. spec.any_marked marks.now (row graph.now v)) made.items (length graph.now)) }
+    ensures { IfOk result (λ made. Told (λ v. spec_bridge.any_marked marks.now (row graph.now v)) made.items (length graph.now)) }
 {
     let mut made = Vec::new(alloc);
     for node in 0..graph.len() {
@@ -195,7 +196,7 @@ fn marks_through(
 
 /// Whether one of these nodes is marked, names by the one list and others by the other.
 fn any_next(named: usize, marks: &[bool], through: &[bool], nodes: &[usize]) -> bool
-    ensures { result ≡ spec.any_next named marks.now through.now nodes.now }
+    ensures { result ≡ spec_bridge.any_next named marks.now through.now nodes.now }
 {
     nodes
         .iter()
@@ -204,7 +205,7 @@ fn any_next(named: usize, marks: &[bool], through: &[bool], nodes: &[usize]) -> 
 
 /// Whether a node is marked, a name by the one list and another node by the other.
 fn is_marked_next(named: usize, marks: &[bool], through: &[bool], node: usize) -> bool
-    ensures { result ≡ spec.is_marked_next named marks.now through.now node }
+    ensures { result ≡ spec_bridge.is_marked_next named marks.now through.now node }
 {
     if node < named {
         is_marked(marks, node)
@@ -215,7 +216,7 @@ fn is_marked_next(named: usize, marks: &[bool], through: &[bool], node: usize) -
 
 /// Whether one of these nodes is marked.
 fn any_marked(marks: &[bool], nodes: &[usize]) -> bool
-    ensures { result ≡ spec.any_marked marks.now nodes.now }
+    ensures { result ≡ spec_bridge.any_marked marks.now nodes.now }
 {
     nodes.iter().any(|node| is_marked(marks, *node))
 }

@@ -5,6 +5,7 @@
 
 ghost use Rattle.std.specs.Prelude.{◌≡◌, ◌<◌, ◌+◌, ℕ, length, IfOk, OnOk, slice_get};
 ghost use Rattle.gql_graph.specs.Cycles as spec;
+ghost use Rattle.gql_graph.specs.bridge.Cycles as spec_bridge;
 ghost use Rattle.std.specs.List.{list_any};
 ghost use Rattle.gql_graph.specs.Flooding as mark;
 
@@ -20,7 +21,7 @@ pub(crate) fn on_cycles(
     graph: &Listed<Listed<usize>>,
     reversed: &Listed<Listed<usize>>,
 ) -> Result<Vec<bool>, Memory>
-    requires { spec.IsReverse graph.now reversed.now }
+    requires { spec_bridge.IsReverse graph.now reversed.now }
     ensures { IfOk result (λ marks. spec.AreMarked (spec.IsOnCycle graph.now) (length graph.now) marks.items) }
 {
     let parts = parts(alloc, graph, reversed)?;
@@ -34,7 +35,7 @@ pub(crate) fn on_cycles(
 
 /// Whether one of these nodes is in the part of a node.
 fn shares_part(parts: &[usize], node: usize, others: &[usize]) -> bool
-    ensures { result ≡ spec.shares_part parts.now node others.now }
+    ensures { result ≡ spec_bridge.shares_part parts.now node others.now }
 {
     match parts.get(node) {
         Some(part) => any_in_part(parts, others, *part),
@@ -55,9 +56,9 @@ fn parts(
     graph: &Listed<Listed<usize>>,
     reversed: &Listed<Listed<usize>>,
 ) -> Result<Vec<usize>, Memory>
-    requires { spec.IsReverse graph.now reversed.now }
-    ensures parts { IfOk result (λ parts. spec.IsPartitioned graph.now parts.items) }
-    ensures all { IfOk result (λ parts. (v : ℕ) → v < length graph.now → spec.HasPart parts.items v) }
+    requires { spec_bridge.IsReverse graph.now reversed.now }
+    ensures parts { IfOk result (λ parts. spec_bridge.IsPartitioned graph.now parts.items) }
+    ensures all { IfOk result (λ parts. (v : ℕ) → v < length graph.now → spec_bridge.HasPart parts.items v) }
 {
     let order = finish_order(alloc, reversed)?;
     let mut parts = vec![in alloc; 0; graph.len()]?;
@@ -80,9 +81,9 @@ fn take_in_order(
     parts: &mut [usize],
     order: &[usize],
 ) -> Result<(), Memory>
-    requires reversed { spec.IsReverse graph.now reversed.now }
-    requires parts { spec.IsPartitioned graph.now parts.old }
-    ensures { OnOk result (spec.IsPartitioned graph.now parts.new) }
+    requires reversed { spec_bridge.IsReverse graph.now reversed.now }
+    requires parts { spec_bridge.IsPartitioned graph.now parts.old }
+    ensures { OnOk result (spec_bridge.IsPartitioned graph.now parts.new) }
 {
     for index in 0..order.len() {
         let node = order[order.len() - 1 - index];
@@ -98,10 +99,10 @@ fn take_each(
     reversed: &Listed<Listed<usize>>,
     parts: &mut [usize],
 ) -> Result<(), Memory>
-    requires reversed { spec.IsReverse graph.now reversed.now }
-    requires parts { spec.IsPartitioned graph.now parts.old }
-    ensures parts { OnOk result (spec.IsPartitioned graph.now parts.new) }
-    ensures all { OnOk result ((v : ℕ) → v < length graph.now → spec.HasPart parts.new v) }
+    requires reversed { spec_bridge.IsReverse graph.now reversed.now }
+    requires parts { spec_bridge.IsPartitioned graph.now parts.old }
+    ensures parts { OnOk result (spec_bridge.IsPartitioned graph.now parts.new) }
+    ensures all { OnOk result ((v : ℕ) → v < length graph.now → spec_bridge.HasPart parts.new v) }
 {
     for node in 0..graph.len() {
         take_part(alloc, graph, reversed, parts, node)?;
@@ -117,10 +118,10 @@ fn take_part(
     parts: &mut [usize],
     node: usize,
 ) -> Result<(), Memory>
-    requires { spec.IsReverse graph.now reversed.now }
-    ensures parts { OnOk result (spec.IsPartitioned graph.now parts.old → spec.IsPartitioned graph.now parts.new) }
-    ensures taken { OnOk result (spec.IsPartitioned graph.now parts.old → node < length graph.now → spec.HasPart parts.new node) }
-    ensures kept { OnOk result (spec.IsPartitioned graph.now parts.old → (v : ℕ) → spec.HasPart parts.old v → spec.HasPart parts.new v) }
+    requires { spec_bridge.IsReverse graph.now reversed.now }
+    ensures parts { OnOk result (spec_bridge.IsPartitioned graph.now parts.old → spec_bridge.IsPartitioned graph.now parts.new) }
+    ensures taken { OnOk result (spec_bridge.IsPartitioned graph.now parts.old → node < length graph.now → spec_bridge.HasPart parts.new node) }
+    ensures kept { OnOk result (spec_bridge.IsPartitioned graph.now parts.old → (v : ℕ) → spec_bridge.HasPart parts.old v → spec_bridge.HasPart parts.new v) }
 {
     if !has(parts, node, 0) {
         return Ok(());

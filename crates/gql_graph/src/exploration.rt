@@ -1,8 +1,8 @@
 //! The exploration of pairs: from the sets of a document on, and below each pair that is found.
 
 ghost use Rattle.std.specs.Prelude.{◌≡◌, ◌++◌, [], ℕ, Bool, List, Option, IfOk, OnOk};
-ghost use Rattle.gql_graph.specs.Explored as spec;
-ghost use Rattle.gql_graph.specs.Exploring as exploring;
+ghost use Rattle.gql_graph.specs.bridge.Explored as spec;
+ghost use Rattle.gql_graph.specs.bridge.Exploring as exploring;
 
 use crate::meeting::add_pairs;
 use crate::members::fields_of;

@@ -2,7 +2,7 @@
 
 ghost use Rattle.std.specs.Prelude.{◌≡◌};
 ghost use Rattle.std.specs.List.{list_all};
-ghost use Rattle.gql_graph.specs.Flat as spec;
+ghost use Rattle.gql_graph.specs.bridge.Flat as spec;
 
 use crate::reach::targets;
 use jb_text::Listed;

@@ -1,8 +1,8 @@
 //! Fields of one set that meet in buckets, one for each response key.
 
 ghost use Rattle.std.specs.Prelude.{◌≡◌, [], OnOk, length, slice_set};
-ghost use Rattle.gql_graph.specs.Explored as spec;
-ghost use Rattle.gql_graph.specs.Steps as step;
+ghost use Rattle.gql_graph.specs.bridge.Explored as spec;
+ghost use Rattle.gql_graph.specs.bridge.Steps as step;
 
 use crate::pair::Pair;
 use crate::reach::Graph;

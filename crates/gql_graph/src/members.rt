@@ -1,8 +1,8 @@
 //! The fields of a set of selections.
 
 ghost use Rattle.std.specs.Prelude.{◌≡◌, ◌++◌, IfOk, OnOk, length, slice_set};
-ghost use Rattle.gql_graph.specs.Explored as spec;
-ghost use Rattle.gql_graph.specs.Steps as step;
+ghost use Rattle.gql_graph.specs.bridge.Explored as spec;
+ghost use Rattle.gql_graph.specs.bridge.Steps as step;
 
 use crate::reach::{Graph, flood};
 use jb_text::Memory;

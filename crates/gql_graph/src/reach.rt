@@ -2,7 +2,9 @@
 
 ghost use Rattle.std.specs.Prelude.{◌≡◌, ◌≢◌, IfOk, OnOk, slice_get};
 ghost use Rattle.gql_graph.specs.Flooding as step;
-ghost use Rattle.gql_graph.specs.Graph.{row, IsFlooded};
+ghost use Rattle.gql_graph.specs.bridge.Flooding as step_bridge;
+ghost use Rattle.gql_graph.specs.Graph.{row};
+ghost use Rattle.gql_graph.specs.bridge.Graph.{IsFlooded};
 
 use jb_text::{Listed, Memory};
 use std::alloc::Global;
@@ -52,8 +54,8 @@ fn visit_all(
     from: usize,
     to: usize,
 ) -> Result<(), Memory>
-    ensures states { OnOk result (states.new ≡ step.all_marked from to states.old nodes.now) }
-    ensures queue { OnOk result (queue.new.items ≡ step.all_queued from to states.old queue.old.items nodes.now) }
+    ensures states { OnOk result (states.new ≡ step_bridge.all_marked from to states.old nodes.now) }
+    ensures queue { OnOk result (queue.new.items ≡ step_bridge.all_queued from to states.old queue.old.items nodes.now) }
 {
     for node in nodes {
         visit(states, queue, *node, from, to)?;
@@ -69,8 +71,8 @@ fn visit(
     from: usize,
     to: usize,
 ) -> Result<(), Memory>
-    ensures states { OnOk result (states.new ≡ step.marked from to states.old node) }
-    ensures queue { OnOk result (queue.new.items ≡ step.queued from states.old queue.old.items node) }
+    ensures states { OnOk result (states.new ≡ step_bridge.marked from to states.old node) }
+    ensures queue { OnOk result (queue.new.items ≡ step_bridge.queued from states.old queue.old.items node) }
 {
     if has(states, node, from) {
         states[node] = to;
@@ -81,7 +83,7 @@ fn visit(
 
 /// Marks those of these nodes with `to` that are marked `from`.
 pub(crate) fn set_all(states: &mut [usize], nodes: &[usize], from: usize, to: usize)
-    ensures { states.new ≡ step.all_marked from to states.old nodes.now }
+    ensures { states.new ≡ step_bridge.all_marked from to states.old nodes.now }
 {
     for node in nodes {
         set_one(states, *node, from, to);
@@ -90,7 +92,7 @@ pub(crate) fn set_all(states: &mut [usize], nodes: &[usize], from: usize, to: us
 
 /// Marks a node with `to`, if it is marked `from`.
 fn set_one(states: &mut [usize], node: usize, from: usize, to: usize)
-    ensures { states.new ≡ step.marked from to states.old node }
+    ensures { states.new ≡ step_bridge.marked from to states.old node }
 {
     if has(states, node, from) {
         states[node] = to;

@@ -1,8 +1,8 @@
 //! A graph the other way round.
 
 ghost use Rattle.std.specs.Prelude.{◌≡◌, ◌<◌, IfOk, OnOk};
-ghost use Rattle.gql_graph.specs.Cycles.{IsReverse};
-ghost use Rattle.gql_graph.specs.Reversing as step;
+ghost use Rattle.gql_graph.specs.bridge.Cycles.{IsReverse};
+ghost use Rattle.gql_graph.specs.bridge.Reversing as step;
 
 use crate::reach::targets;
 use jb_text::{Listed, Memory};

@@ -2,7 +2,7 @@
 
 ghost use Rattle.std.specs.Prelude.{◌≡◌, ◌<◌, [], OnOk, slice_get};
 ghost use Rattle.std.specs.List.{IsDistinct, list_any};
-ghost use Rattle.gql_graph.specs.Steps as step;
+ghost use Rattle.gql_graph.specs.bridge.Steps as step;
 
 use crate::pair::Pair;
 use indexmap::IndexSet;

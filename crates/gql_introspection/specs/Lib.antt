@@ -13,4 +13,4 @@ pub mod InputValueDef
 pub mod MetaMeaning
 pub mod RootFields
 pub mod Seen
-pub mod Items
+pub mod bridge

@@ -1,10 +1,4 @@
 -- How contracts see the objects of introspection and what their fields give.
-use Rattle.std.specs.Prelude.{◌≡◌, map, Option, Result, Ok, Err}
-use Rattle.std.specs.Option.{option_map}
-use Rattle.std.specs.declared.alloc.AllocError.{AllocError}
-use Rattle.gql_resolvers.specs.Resolved.{Meaning}
-use Rattle.gql_resolvers.specs.Meaning.{meaning_by}
-use Rattle.gql_resolvers.specs.declared.resolved_value.ResolvedValue.{ResolvedValue}
 use Rattle.gql_introspection.specs.Meta.{Meta, schema_meta, type_def, wrapped, directive_def}
 use Rattle.gql_introspection.specs.Meta.{field_def, enum_value_def, input_value_def}
 use Rattle.gql_introspection.specs.declared.meta_object.MetaObject.{MetaObject}
@@ -20,13 +14,3 @@ stands_for (DirectiveDef schema directive) = directive_def schema.now directive.
 stands_for (FieldDef schema field) = field_def schema.now field.now
 stands_for (EnumValueDef schema value) = enum_value_def schema.now value.now
 stands_for (InputValueDef schema value) = input_value_def schema.now value.now
-
--- this answer, unless memory runs out
-abbrev pub Gives : Result (ResolvedValue MetaObject) AllocError → Meaning Meta → Type 0
-Gives (Ok resolved) answer = meaning_by stands_for resolved ≡ answer
-Gives (Err _) answer = Unit {0}
-
--- this field, unless memory runs out
-abbrev pub GivesField : Result (Option (ResolvedValue MetaObject)) AllocError → Option (Meaning Meta) → Type 0
-GivesField (Ok resolved) field = option_map (meaning_by stands_for) resolved ≡ field
-GivesField (Err _) field = Unit {0}

@@ -4,7 +4,7 @@ ghost use Rattle.std.specs.Prelude.{map};
 ghost use Rattle.gql_ast.specs.Schemas.{location_name};
 ghost use Rattle.gql_introspection.specs.Answers.{texts};
 ghost use Rattle.gql_introspection.specs.DirectiveDef as spec;
-ghost use Rattle.gql_introspection.specs.Seen.{Gives, GivesField};
+ghost use Rattle.gql_introspection.specs.bridge.Seen.{Gives, GivesField};
 
 use crate::asked::Asked;
 use crate::items::Items;

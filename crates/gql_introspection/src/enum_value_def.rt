@@ -1,7 +1,7 @@
 //! A value of an enum, as `__EnumValue`.
 
 ghost use Rattle.gql_introspection.specs.EnumValueDef as spec;
-ghost use Rattle.gql_introspection.specs.Seen.{GivesField};
+ghost use Rattle.gql_introspection.specs.bridge.Seen.{GivesField};
 
 use crate::asked::Asked;
 use crate::deprecation::{deprecation_reason, is_deprecated};

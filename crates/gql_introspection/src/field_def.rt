@@ -1,7 +1,7 @@
 //! A field of an object type or an interface, as `__Field`.
 
 ghost use Rattle.gql_introspection.specs.FieldDef as spec;
-ghost use Rattle.gql_introspection.specs.Seen.{GivesField};
+ghost use Rattle.gql_introspection.specs.bridge.Seen.{GivesField};
 
 use crate::asked::Asked;
 use crate::deprecation::{deprecation_reason, is_deprecated};

@@ -4,7 +4,7 @@ ghost use Rattle.std.specs.Option.{option_copied, option_map};
 ghost use Rattle.gql_ast.specs.ValueText.{value_text};
 ghost use Rattle.gql_introspection.specs.Answers as answers;
 ghost use Rattle.gql_introspection.specs.InputValueDef as spec;
-ghost use Rattle.gql_introspection.specs.Seen.{Gives, GivesField};
+ghost use Rattle.gql_introspection.specs.bridge.Seen.{Gives, GivesField};
 
 use crate::asked::Asked;
 use crate::deprecation::{deprecation_reason, is_deprecated};

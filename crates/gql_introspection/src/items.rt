@@ -3,7 +3,7 @@
 ghost use Rattle.std.specs.Prelude.{◌≡◌, [], ◌∷◌, ◌++◌, OnOk};
 ghost use Rattle.gql_resolvers.specs.Meaning.{meaning_by};
 ghost use Rattle.gql_introspection.specs.Answers.{list_of};
-ghost use Rattle.gql_introspection.specs.Items.{answers_in};
+ghost use Rattle.gql_introspection.specs.bridge.Items.{answers_in};
 ghost use Rattle.gql_introspection.specs.Seen.{stands_for};
 
 use crate::meta_object::MetaObject;

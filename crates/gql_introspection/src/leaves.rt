@@ -4,7 +4,8 @@ ghost use Rattle.std.specs.Prelude.{◌≡◌};
 ghost use Rattle.std.specs.Option.{option_copied};
 ghost use Rattle.gql_resolvers.specs.Meaning.{meaning_by};
 ghost use Rattle.gql_introspection.specs.Answers as spec;
-ghost use Rattle.gql_introspection.specs.Seen.{Gives, stands_for};
+ghost use Rattle.gql_introspection.specs.Seen.{stands_for};
+ghost use Rattle.gql_introspection.specs.bridge.Seen.{Gives};
 
 use crate::meta_object::MetaObject;
 use gql_ast_base::Name;

@@ -1,7 +1,8 @@
 //! The objects of introspection.
 
 ghost use Rattle.gql_introspection.specs.MetaMeaning as spec;
-ghost use Rattle.gql_introspection.specs.Seen.{GivesField, stands_for};
+ghost use Rattle.gql_introspection.specs.Seen.{stands_for};
+ghost use Rattle.gql_introspection.specs.bridge.Seen.{GivesField};
 
 use crate::asked::Asked;
 use crate::directive_def::directive_def_field;

@@ -5,10 +5,11 @@ ghost use Rattle.std.specs.Option.{option_copied};
 ghost use Rattle.gql_resolvers.specs.Resolved.{gives_object};
 ghost use Rattle.gql_resolvers.specs.Meaning.{meaning_by};
 ghost use Rattle.gql_schema_types.specs.Types.{type_called};
-ghost use Rattle.gql_introspection.specs.Items.{answers_in};
+ghost use Rattle.gql_introspection.specs.bridge.Items.{answers_in};
 ghost use Rattle.gql_introspection.specs.Meta.{type_def};
 ghost use Rattle.gql_introspection.specs.NamedTypes as spec;
-ghost use Rattle.gql_introspection.specs.Seen.{Gives, stands_for};
+ghost use Rattle.gql_introspection.specs.Seen.{stands_for};
+ghost use Rattle.gql_introspection.specs.bridge.Seen.{Gives};
 
 use crate::items::Items;
 use crate::leaves::null_leaf;

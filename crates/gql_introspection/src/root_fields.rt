@@ -2,7 +2,8 @@
 
 ghost use Rattle.std.specs.Prelude.{◌≡◌};
 ghost use Rattle.std.specs.Option.{option_copied};
-ghost use Rattle.gql_resolvers.specs.Meaning.{Answers, IsFailure, meaning_by};
+ghost use Rattle.gql_resolvers.specs.Meaning.{Answers, meaning_by};
+ghost use Rattle.gql_resolvers.specs.bridge.Meaning.{IsFailure};
 ghost use Rattle.gql_introspection.specs.RootFields as spec;
 ghost use Rattle.gql_introspection.specs.Seen.{stands_for};
 

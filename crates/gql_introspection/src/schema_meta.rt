@@ -1,7 +1,7 @@
 //! A schema, as `__Schema`.
 
 ghost use Rattle.gql_introspection.specs.SchemaMeta as spec;
-ghost use Rattle.gql_introspection.specs.Seen.{GivesField};
+ghost use Rattle.gql_introspection.specs.bridge.Seen.{GivesField};
 
 use crate::asked::Asked;
 use crate::leaves::description_or_null;

@@ -5,10 +5,11 @@ ghost use Rattle.gql_ast_base.specs.declared.directive.Directive.{Directive as U
 ghost use Rattle.gql_resolvers.specs.Resolved.{gives_object};
 ghost use Rattle.gql_schema_types.specs.declared.schema.Schema.{Schema as TheSchema};
 ghost use Rattle.gql_introspection.specs.Answers.{objects};
-ghost use Rattle.gql_introspection.specs.Items.{answers_in};
+ghost use Rattle.gql_introspection.specs.bridge.Items.{answers_in};
 ghost use Rattle.gql_introspection.specs.Kept as spec;
 ghost use Rattle.gql_introspection.specs.Meta as meta;
-ghost use Rattle.gql_introspection.specs.Seen.{Gives, stands_for};
+ghost use Rattle.gql_introspection.specs.Seen.{stands_for};
+ghost use Rattle.gql_introspection.specs.bridge.Seen.{Gives};
 
 use crate::asked::Asked;
 use crate::deprecation::is_deprecated;

@@ -4,9 +4,10 @@ ghost use Rattle.std.specs.Prelude.{◌≡◌, ◌++◌, [], ◌∷◌, OnOk, if
 ghost use Rattle.std.specs.Option.{option_copied};
 ghost use Rattle.gql_resolvers.specs.Meaning.{meaning_by};
 ghost use Rattle.gql_resolvers.specs.Resolved.{gives_object};
-ghost use Rattle.gql_introspection.specs.Items.{answers_in};
+ghost use Rattle.gql_introspection.specs.bridge.Items.{answers_in};
 ghost use Rattle.gql_introspection.specs.Meta as meta;
-ghost use Rattle.gql_introspection.specs.Seen.{Gives, GivesField, stands_for};
+ghost use Rattle.gql_introspection.specs.Seen.{stands_for};
+ghost use Rattle.gql_introspection.specs.bridge.Seen.{Gives, GivesField};
 ghost use Rattle.gql_introspection.specs.TypeDef as spec;
 
 use crate::asked::Asked;

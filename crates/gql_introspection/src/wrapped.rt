@@ -3,7 +3,8 @@
 ghost use Rattle.std.specs.Prelude.{◌≡◌};
 ghost use Rattle.std.specs.Option.{option_copied};
 ghost use Rattle.gql_resolvers.specs.Meaning.{meaning_by};
-ghost use Rattle.gql_introspection.specs.Seen.{GivesField, stands_for};
+ghost use Rattle.gql_introspection.specs.Seen.{stands_for};
+ghost use Rattle.gql_introspection.specs.bridge.Seen.{GivesField};
 ghost use Rattle.gql_introspection.specs.Wrapped as spec;
 
 use crate::asked::Asked;

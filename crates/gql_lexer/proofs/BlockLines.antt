@@ -5,7 +5,7 @@ use Rattle.std.specs.List.{prefix_len}
 use Rattle.std.proofs.lemmas.Bool.{eqb-true, ne_eqb}
 use Rattle.gql_lexer.specs.Class.{Text, is_within_line}
 use Rattle.gql_lexer.specs.BlockString.{is_cr_lf, lines, before_first}
-use Rattle.gql_lexer.specs.BlockWriting.{end_len, following}
+use Rattle.gql_lexer.specs.bridge.BlockWriting.{end_len, following}
 use Rattle.gql_lexer.proofs.Choices.{both}
 
 -- ---- lines

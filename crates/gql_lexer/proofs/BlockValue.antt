@@ -8,7 +8,7 @@ use Rattle.std.proofs.lemmas.Bool.Decides.{nat_tests}
 use Rattle.gql_lexer.specs.Class.{Text}
 use Rattle.gql_lexer.specs.Lex.{is_block_quote}
 use Rattle.gql_lexer.specs.BlockString.{raw_value, lines, white_len, is_white_line, indent, least, common_indent, unindented, without_white_end, joined}
-use Rattle.gql_lexer.specs.BlockWriting.{without_indent, added, completed, TakesIn, kept_backslash}
+use Rattle.gql_lexer.specs.bridge.BlockWriting.{without_indent, added, completed, TakesIn, kept_backslash}
 
 -- ---- what more lines add
 

@@ -3,8 +3,10 @@ use Rattle.std.proofs.Common.{◌≡◌, ℕ, suc, ◌+◌, ◌⊎◌, inl, inr,
 use Rattle.std.specs.Prelude.{if◌then◌else◌, ◌==◌, slice_index, nat_lt}
 use Rattle.std.specs.List.{prefix_len}
 use Rattle.gql_lexer.specs.Class.{Text, class_of, is_name_continue, is_line, is_source}
-use Rattle.gql_lexer.specs.Lex.{Lexed, token, lex, lex_as, number, comment, dots, mark, block_string, string, quoted, string_len, block_len, is_block_quote, is_mark, is_control_at, goes_on, whole_end}
-use Rattle.gql_lexer.specs.Lexical.{Begins, Stands, IsNumber, IsControl, EndsLine, is_spread, lacks_whole, lacks_fraction, lacks_exponent, number_end, comment_end, string_end, block_end}
+use Rattle.gql_lexer.specs.Lex.{string_len, block_len, is_block_quote, is_mark, goes_on, whole_end}
+use Rattle.gql_lexer.specs.bridge.Lex.{Lexed, token, lex, lex_as, number, comment, dots, mark, block_string, string, quoted, is_control_at}
+use Rattle.gql_lexer.specs.Lexical.{Begins, IsNumber, IsControl, EndsLine, is_spread, lacks_whole, lacks_fraction, lacks_exponent, number_end, comment_end, string_end, block_end}
+use Rattle.gql_lexer.specs.bridge.Lexical.{Stands}
 use Rattle.std.proofs.lemmas.Bool.{eqb-true, ltb-true, ltb-false, lt-ltb}
 use Rattle.std.proofs.lemmas.Bool.Decides.{nat_tests, leb_tells}
 use Rattle.std.proofs.lemmas.List.{drop-drop, get_or-drop}

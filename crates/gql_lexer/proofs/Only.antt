@@ -6,8 +6,10 @@ use Rattle.std.proofs.lemmas.List.{get_or_past}
 use Rattle.std.proofs.lemmas.Bool.{eq-eqb, lt-ltb}
 use Rattle.std.proofs.lemmas.Bool.Decides.{nat_tests, leb_tells}
 use Rattle.gql_lexer.specs.Class.{Text, is_name_continue, is_source}
-use Rattle.gql_lexer.specs.Lex.{Lexed, token, fault, lex, lex_as, number, comment, dots, mark, block_string, string, quoted, unexpected, run_len, blank_len, is_block_quote, is_mark, is_control_at, goes_on, whole_end}
-use Rattle.gql_lexer.specs.Lexical.{Begins, BeginsNone, BeginsBlank, OpensString, OpensBlock, Reaches, BreaksAt, IsToken, IsFault, Stands, IsNumber, IsControl, EndsLine, StandsOne, is_spread, number_end, comment_end, string_end, block_end}
+use Rattle.gql_lexer.specs.Lex.{run_len, blank_len, is_block_quote, is_mark, goes_on, whole_end}
+use Rattle.gql_lexer.specs.bridge.Lex.{Lexed, token, fault, lex, lex_as, number, comment, dots, mark, block_string, string, quoted, unexpected, is_control_at}
+use Rattle.gql_lexer.specs.Lexical.{Begins, BeginsNone, BeginsBlank, OpensString, OpensBlock, Reaches, BreaksAt, IsToken, IsFault, IsNumber, IsControl, EndsLine, StandsOne, is_spread, number_end, comment_end, string_end, block_end}
+use Rattle.gql_lexer.specs.bridge.Lexical.{Stands}
 use Rattle.gql_lexer.proofs.Fronts.{lex-stands}
 use Rattle.gql_lexer.specs.declared.class.ByteClass.{ByteClass}
 use Rattle.gql_lexer.specs.declared.class.ByteClass.TheVariants as class

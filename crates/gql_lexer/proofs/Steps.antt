@@ -1,9 +1,10 @@
 -- One step of reading, from what is read at the front of what is left.
 use Rattle.std.proofs.Common.{◌≡◌, ℕ, zero, suc, ◌+◌, ◌-◌, ◌<◌, ◌∙◌, true, false, List, Ok, Err, refl, sym, ap, subst, length, take, drop, arith, length-drop}
 use Rattle.std.proofs.lemmas.List.{take_all}
-use Rattle.gql_lexer.specs.Lex.{Lexed, lex, IsWithin}
-use Rattle.gql_lexer.specs.Lexical.{IsToken, IsFault, Stands}
-use Rattle.gql_lexer.specs.Reading.{ReadsToken, ReadsFault}
+use Rattle.gql_lexer.specs.bridge.Lex.{Lexed, lex, IsWithin}
+use Rattle.gql_lexer.specs.Lexical.{IsToken, IsFault}
+use Rattle.gql_lexer.specs.bridge.Lexical.{Stands}
+use Rattle.gql_lexer.specs.bridge.Reading.{ReadsToken, ReadsFault}
 use Rattle.std.specs.Prelude.{◌==◌}
 use Rattle.std.specs.Str.{IsUtf8, IsCharBoundary}
 use Rattle.std.proofs.lemmas.Str.{IsUtf8-drop, IsCharBoundary-from_rest}

@@ -9,7 +9,8 @@ use Rattle.std.proofs.lemmas.Bool.{eqb-true, ltb-true, leb-true, cases_lt}
 use Rattle.std.proofs.lemmas.Bool.Decides.{nat_tests}
 use Rattle.gql_lexer.specs.Class.{Text, is_line, is_plain}
 use Rattle.gql_lexer.specs.Lex.{string_len, unicode_escape_len, is_unit, unit, is_unit_escape, is_escaped, is_low_surrogate, is_high_surrogate, hex_value}
-use Rattle.gql_lexer.specs.Value.{IsEscape, item_value, escape_value, escaped_character, values_from, values}
+use Rattle.gql_lexer.specs.Value.{item_value, escape_value, escaped_character, values_from, values}
+use Rattle.gql_lexer.specs.bridge.Value.{IsEscape}
 use Rattle.gql_lexer.proofs.Choices.{both, bool_cases, not_true, and_true, not_zero}
 use Rattle.gql_lexer.proofs.Lengths.{string_len-le}
 

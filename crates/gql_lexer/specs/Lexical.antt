@@ -1,10 +1,10 @@
 -- Which token stands at the front of a text, and which fault stands there in place of one. A text is what is left from
 -- a place on; a token is known by its kind and its length, and a fault lies between two places.
 use Rattle.std.specs.Prelude.{◌≡◌, ◌⊎◌, ℕ, ◌+◌, ◌<◌, ◌≤◌, Bool, true, false, not, ◌==◌, ◌&&◌, length, drop}
-use Rattle.std.specs.Prelude.{slice_index, Ok, Err}
+use Rattle.std.specs.Prelude.{slice_index}
 use Rattle.std.specs.List.{prefix_len}
 use Rattle.gql_lexer.specs.Class.{Text, is_name_continue, is_line, is_source, is_continuation, class_of}
-use Rattle.gql_lexer.specs.Lex.{Lexed, run_len, blank_len, string_len, block_len, is_mark, is_block_quote, sign_end, whole_end, fraction_end}
+use Rattle.gql_lexer.specs.Lex.{run_len, blank_len, string_len, block_len, is_mark, is_block_quote, sign_end, whole_end, fraction_end}
 use Rattle.gql_lexer.specs.Lex.{exponent_start, exponent_end, goes_on}
 use Rattle.gql_lexer.specs.declared.class.ByteClass.{ByteClass}
 use Rattle.gql_lexer.specs.declared.class.ByteClass.TheVariants as class
@@ -138,11 +138,6 @@ IsFault BadEscape at start end =
 IsFault BadNumber at start end = Begins class.Number at × (start ≡ 0) × BreaksAt at end
 IsFault EndOfText at start end = ⊥
 IsFault BadToken at start end = ⊥
-
--- what was read stands there
-abbrev pub Stands : Text → Lexed → Type 0
-Stands at (Ok found) = IsToken found.0 at found.1
-Stands at (Err found) = IsFault found.fault at found.start found.end
 
 -- Exactly one thing stands at the front of the text: a token, or a fault.
 pub record StandsOne (at : Text) : Type 0 where

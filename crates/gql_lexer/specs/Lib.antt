@@ -1,8 +1,7 @@
 pub mod BlockString
-pub mod BlockWriting
 pub mod Class
 pub mod Lex
 pub mod Lexical
 pub mod Message
-pub mod Reading
 pub mod Value
+pub mod bridge

@@ -1,6 +1,6 @@
 -- The value of a string: what its characters and escapes stand for.
-use Rattle.std.specs.Prelude.{ℕ, zero, suc, ◌+◌, ◌-◌, ◌*◌, ◌<◌, ◌≤◌, ◌==◌, ◌≡◌, if◌then◌else◌, List, []}
-use Rattle.std.specs.Prelude.{◌∷◌, ◌++◌, length, drop, slice_index, encode_utf8}
+use Rattle.std.specs.Prelude.{ℕ, zero, suc, ◌+◌, ◌-◌, ◌*◌, ◌==◌, if◌then◌else◌, List, []}
+use Rattle.std.specs.Prelude.{◌∷◌, ◌++◌, drop, slice_index, encode_utf8}
 use Rattle.gql_lexer.specs.Class.{Text}
 use Rattle.gql_lexer.specs.Lex.{string_len, unit, is_high_surrogate, is_escaped}
 
@@ -21,14 +21,6 @@ escape_value at = if is_escaped (slice_index at 1) then escaped (slice_index at 
 -- the bytes that a byte of a character or an escape stands for
 abbrev pub item_value : Text → List ℕ
 item_value at = if slice_index at 0 == 0x5C then encode_utf8 (escape_value at) else slice_index at 0 ∷ []
-
--- the text begins with an escape of that length, for that character
-pub record IsEscape (at : Text) (character len : ℕ) : Type 0 where
-  pub is : string_len at ≡ len
-  pub some : 0 < len
-  pub within : len ≤ length at
-  pub value : item_value at ≡ encode_utf8 character
-  pub ascii : slice_index at (len - 1) < 128
 
 -- what the row of characters and escapes stands for. The number counts the bytes that are left of an escape.
 abbrev pub values_from : ℕ → Text → List ℕ

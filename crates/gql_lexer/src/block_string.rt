@@ -2,7 +2,7 @@
 
 ghost use Rattle.std.specs.Prelude.{◌≡◌, ◌-◌, ◌<◌, ◌≤◌, length, slice_index, slice_range, true, [], OnOk, IfOk, string_bytes, unwrap_or};
 ghost use Rattle.gql_lexer.specs.BlockString as spec;
-ghost use Rattle.gql_lexer.specs.BlockWriting as writing;
+ghost use Rattle.gql_lexer.specs.bridge.BlockWriting as writing;
 ghost use Rattle.gql_lexer.specs.Lex as lex;
 
 use crate::Memory;

@@ -2,7 +2,7 @@
 
 ghost use Rattle.std.specs.Prelude.{◌≡◌, ◌<◌, ◌↔◌, IsNone, IfNone, IfSome, IfOk, IfErr, length};
 ghost use Rattle.gql_lexer.specs.Lexical.{StandsOne};
-ghost use Rattle.gql_lexer.specs.Reading.{rest, ReadsToken, ReadsError};
+ghost use Rattle.gql_lexer.specs.bridge.Reading.{rest, ReadsToken, ReadsError};
 
 use crate::scan::lex;
 use crate::{CstError, Token};
@@ -19,7 +19,7 @@ pub struct Lexer<'a> {
 
 impl<'a> Model for Lexer<'a> {
     ghost use Rattle.std.specs.Str.{IsCharBoundary};
-    ghost use Rattle.gql_lexer.specs.Reading.{Reading};
+    ghost use Rattle.gql_lexer.specs.bridge.Reading.{Reading};
 
     ghost Value = { Reading };
 

@@ -3,7 +3,7 @@
 ghost use Rattle.std.specs.Prelude.{◌≡◌, ◌<◌, ◌≤◌, length, slice_index, IfSome, IfNone, ◌∷◌, []};
 ghost use Rattle.std.specs.Str.{IsUtf8};
 ghost use Rattle.gql_lexer.specs.BlockString as spec;
-ghost use Rattle.gql_lexer.specs.BlockWriting as writing;
+ghost use Rattle.gql_lexer.specs.bridge.BlockWriting as writing;
 
 use crate::cut::{skip, split_run};
 use crate::run::{ByteRun, byte};

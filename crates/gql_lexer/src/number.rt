@@ -2,6 +2,7 @@
 
 ghost use Rattle.std.specs.Prelude.{◌≡◌, ◌+◌, ◌<◌, ◌≤◌, length};
 ghost use Rattle.gql_lexer.specs.Lex as spec;
+ghost use Rattle.gql_lexer.specs.bridge.Lex as spec_bridge;
 
 use crate::SyntaxFault;
 use crate::class::is_name_continue;
@@ -90,7 +91,7 @@ fn goes_on(b: u8) -> bool
 }
 
 fn bad_number(end: usize) -> Lexed
-    ensures { result ≡ spec.fault SyntaxFault.BadNumber 0 end }
+    ensures { result ≡ spec_bridge.fault SyntaxFault.BadNumber 0 end }
 {
     Err(FaultAt {
         fault: SyntaxFault::BadNumber,
@@ -100,10 +101,10 @@ fn bad_number(end: usize) -> Lexed
 }
 
 /// The number that a text begins with, which begins with a digit or `-`.
-#[tactic(auto, unfolding(crate::specs::Lex::number))]
+#[tactic(auto, unfolding(crate::specs::bridge::Lex::number))]
 pub(crate) fn number(at: &[u8]) -> Lexed
-    ensures value { result ≡ spec.number at.now }
-    ensures within { spec.IsWithin at.now result }
+    ensures value { result ≡ spec_bridge.number at.now }
+    ensures within { spec_bridge.IsWithin at.now result }
 {
     let whole = whole_end(at);
     if whole == sign_end(at) {

@@ -2,6 +2,7 @@
 
 ghost use Rattle.std.specs.Prelude.{◌≡◌, ◌+◌, ◌<◌, ◌≤◌, length, drop, slice_index};
 ghost use Rattle.gql_lexer.specs.Lex as spec;
+ghost use Rattle.gql_lexer.specs.bridge.Lex as spec_bridge;
 
 use crate::class::{
     is_blank, is_block_plain, is_continuation, is_digit, is_line, is_name_continue, is_plain,
@@ -97,7 +98,7 @@ pub(crate) fn is_mark(at: &[u8]) -> bool
 
 #[inline(always)]
 fn item_len(run: ItemRun, at: &[u8]) -> usize
-    ensures value { result ≡ spec.item_len run at.now }
+    ensures value { result ≡ spec_bridge.item_len run at.now }
     ensures within { result ≤ length at.now }
 {
     match run {
@@ -111,7 +112,7 @@ fn item_len(run: ItemRun, at: &[u8]) -> usize
 #[inline(always)]
 pub(crate) fn past_items(run: ItemRun, at: &[u8], from: usize) -> usize
     requires { from ≤ length at.now }
-    ensures value { result ≡ from + spec.run_len (spec.item_len run) (drop from at.now) }
+    ensures value { result ≡ from + spec.run_len (spec_bridge.item_len run) (drop from at.now) }
     ensures within { (from ≤ result) × (result ≤ length at.now) }
 {
     let mut end = from;

@@ -2,6 +2,7 @@
 
 ghost use Rattle.std.specs.Prelude.{◌≡◌, ◌+◌, ◌<◌, ◌≤◌, length, drop, slice_index, true};
 ghost use Rattle.gql_lexer.specs.Lex as spec;
+ghost use Rattle.gql_lexer.specs.bridge.Lex as spec_bridge;
 
 use crate::SyntaxFault;
 use crate::class::{ByteClass, class_of, is_source};
@@ -11,7 +12,7 @@ use crate::string::is_block_quote;
 use crate::token::{FaultAt, Lexed, TokenKind};
 
 fn fault(fault: SyntaxFault, start: usize, end: usize) -> Lexed
-    ensures { result ≡ spec.fault fault start end }
+    ensures { result ≡ spec_bridge.fault fault start end }
 {
     Err(FaultAt { fault, start, end })
 }
@@ -19,8 +20,8 @@ fn fault(fault: SyntaxFault, start: usize, end: usize) -> Lexed
 /// The character that a text begins with is unexpected.
 fn unexpected(at: &[u8]) -> Lexed
     requires { 0 < length at.now }
-    ensures value { result ≡ spec.unexpected at.now }
-    ensures within { spec.IsWithin at.now result }
+    ensures value { result ≡ spec_bridge.unexpected at.now }
+    ensures within { spec_bridge.IsWithin at.now result }
 {
     fault(
         SyntaxFault::BadCharacter,
@@ -30,16 +31,16 @@ fn unexpected(at: &[u8]) -> Lexed
 }
 
 fn is_control_at(at: &[u8], place: usize) -> bool
-    ensures value { result ≡ spec.is_control_at at.now place }
+    ensures value { result ≡ spec_bridge.is_control_at at.now place }
 {
     place < at.len() && !is_source(at[place])
 }
 
-#[tactic(auto, unfolding(crate::specs::Lex::comment))]
+#[tactic(auto, unfolding(crate::specs::bridge::Lex::comment))]
 fn comment(at: &[u8]) -> Lexed
     requires { 0 < length at.now }
-    ensures value { result ≡ spec.comment at.now }
-    ensures within { spec.IsWithin at.now result }
+    ensures value { result ≡ spec_bridge.comment at.now }
+    ensures within { spec_bridge.IsWithin at.now result }
 {
     let end = past(ByteRun::Line, at, 1);
     if is_control_at(at, end) {
@@ -49,11 +50,11 @@ fn comment(at: &[u8]) -> Lexed
     }
 }
 
-#[tactic(auto, unfolding(crate::specs::Lex::dots))]
+#[tactic(auto, unfolding(crate::specs::bridge::Lex::dots))]
 fn dots(at: &[u8]) -> Lexed
     requires { 0 < length at.now }
-    ensures value { result ≡ spec.dots at.now }
-    ensures within { spec.IsWithin at.now result }
+    ensures value { result ≡ spec_bridge.dots at.now }
+    ensures within { spec_bridge.IsWithin at.now result }
 {
     if byte(at, 1) == b'.' && byte(at, 2) == b'.' {
         Ok((TokenKind::Punctuator, 3))
@@ -66,8 +67,8 @@ fn dots(at: &[u8]) -> Lexed
 fn name(at: &[u8]) -> Lexed
     requires some { 0 < length at.now }
     requires start { spec.is_in ByteRun.Name (slice_index at.now 0) ≡ true }
-    ensures value { result ≡ spec.token TokenKind.Name (spec.past ByteRun.Name at.now 0) }
-    ensures within { spec.IsWithin at.now result }
+    ensures value { result ≡ spec_bridge.token TokenKind.Name (spec.past ByteRun.Name at.now 0) }
+    ensures within { spec_bridge.IsWithin at.now result }
 {
     Ok((TokenKind::Name, past(ByteRun::Name, at, 1)))
 }
@@ -76,8 +77,8 @@ fn name(at: &[u8]) -> Lexed
 fn blanks(at: &[u8]) -> Lexed
     requires some { 0 < length at.now }
     requires blank { spec.is_in ByteRun.Blank (slice_index at.now 0) ≡ true }
-    ensures value { result ≡ spec.token TokenKind.Ignored (spec.run_len spec.blank_len at.now) }
-    ensures within { spec.IsWithin at.now result }
+    ensures value { result ≡ spec_bridge.token TokenKind.Ignored (spec.run_len spec.blank_len at.now) }
+    ensures within { spec_bridge.IsWithin at.now result }
 {
     let end = past(ByteRun::Blank, at, 1);
     // most rows have no mark, of which this is the first byte
@@ -88,11 +89,11 @@ fn blanks(at: &[u8]) -> Lexed
     }
 }
 
-#[tactic(auto, unfolding(crate::specs::Lex::mark, crate::specs::Lex::blank_len))]
+#[tactic(auto, unfolding(crate::specs::bridge::Lex::mark, crate::specs::Lex::blank_len))]
 fn mark(at: &[u8]) -> Lexed
     requires { 0 < length at.now }
-    ensures value { result ≡ spec.mark at.now }
-    ensures within { spec.IsWithin at.now result }
+    ensures value { result ≡ spec_bridge.mark at.now }
+    ensures within { spec_bridge.IsWithin at.now result }
 {
     if is_mark(at) {
         Ok((TokenKind::Ignored, past_items(ItemRun::Blank, at, 0)))
@@ -111,11 +112,11 @@ fn block_end(at: &[u8]) -> usize
     past_items(ItemRun::Block, at, plain)
 }
 
-#[tactic(auto, unfolding(crate::specs::Lex::block_string))]
+#[tactic(auto, unfolding(crate::specs::bridge::Lex::block_string))]
 fn block_string(at: &[u8]) -> Lexed
     requires { 3 ≤ length at.now }
-    ensures value { result ≡ spec.block_string at.now }
-    ensures within { spec.IsWithin at.now result }
+    ensures value { result ≡ spec_bridge.block_string at.now }
+    ensures within { spec_bridge.IsWithin at.now result }
 {
     let end = block_end(at);
     if is_block_quote(at, end) {
@@ -137,11 +138,11 @@ fn string_end(at: &[u8]) -> usize
     past_items(ItemRun::String, at, plain)
 }
 
-#[tactic(auto, unfolding(crate::specs::Lex::string))]
+#[tactic(auto, unfolding(crate::specs::bridge::Lex::string))]
 fn string(at: &[u8]) -> Lexed
     requires { 0 < length at.now }
-    ensures value { result ≡ spec.string at.now }
-    ensures within { spec.IsWithin at.now result }
+    ensures value { result ≡ spec_bridge.string at.now }
+    ensures within { spec_bridge.IsWithin at.now result }
 {
     let end = string_end(at);
     match byte(at, end) {
@@ -152,11 +153,11 @@ fn string(at: &[u8]) -> Lexed
     }
 }
 
-#[tactic(auto, unfolding(crate::specs::Lex::quoted))]
+#[tactic(auto, unfolding(crate::specs::bridge::Lex::quoted))]
 fn quoted(at: &[u8]) -> Lexed
     requires { 0 < length at.now }
-    ensures value { result ≡ spec.quoted at.now }
-    ensures within { spec.IsWithin at.now result }
+    ensures value { result ≡ spec_bridge.quoted at.now }
+    ensures within { spec_bridge.IsWithin at.now result }
 {
     if is_block_quote(at, 0) {
         block_string(at)
@@ -166,11 +167,11 @@ fn quoted(at: &[u8]) -> Lexed
 }
 
 /// The token that a text begins with, or the fault in its place.
-#[tactic(auto, unfolding(crate::specs::Lex::lex, crate::specs::Lex::blank_len))]
+#[tactic(auto, unfolding(crate::specs::bridge::Lex::lex, crate::specs::Lex::blank_len))]
 pub(crate) fn lex(at: &[u8]) -> Lexed
     requires { 0 < length at.now }
-    ensures value { result ≡ spec.lex at.now }
-    ensures within { spec.IsWithin at.now result }
+    ensures value { result ≡ spec_bridge.lex at.now }
+    ensures within { spec_bridge.IsWithin at.now result }
 {
     match class_of(at[0]) {
         ByteClass::Name => name(at),

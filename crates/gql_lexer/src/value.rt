@@ -5,6 +5,7 @@ ghost use Rattle.std.specs.List.{prefix_len};
 ghost use Rattle.gql_lexer.specs.Class.{is_plain};
 ghost use Rattle.gql_lexer.specs.Lex as lex;
 ghost use Rattle.gql_lexer.specs.Value as spec;
+ghost use Rattle.gql_lexer.specs.bridge.Value as spec_bridge;
 
 use crate::Memory;
 use crate::cut::{skip, split_run};
@@ -56,7 +57,7 @@ fn escape_value(at: &[u8]) -> char
 /// The character that the escape at the beginning of a text stands for, and the length of the escape.
 /// `None` where no escape begins.
 fn escape(at: &[u8]) -> Option<(char, usize)>
-    ensures some { IfSome result (λ found. spec.IsEscape at.now found.0 found.1) }
+    ensures some { IfSome result (λ found. spec_bridge.IsEscape at.now found.0 found.1) }
     ensures none { IfNone result (slice_index at.now 0 ≡ 0x5C → lex.string_len at.now ≡ 0) }
 {
     let len = string_len(at);

@@ -22,7 +22,7 @@ use Rattle.gql_ast_base.specs.declared.type_ref.TypeRef.{TypeRef}
 use Rattle.gql_ast_base.specs.Types.{type_of}
 use Rattle.gql_ast.specs.declared.selection.Selection.{Selection}
 use Rattle.gql_ast.specs.Selections.{selected, selections}
-use Rattle.gql_ast_reader.specs.IsRead.{IsRead}
+use Rattle.gql_ast_reader.specs.bridge.IsRead.{IsRead}
 use Rattle.gql_ast_reader.specs.declared.read.Read.{Read}
 use Rattle.gql_ast_laws.specs.Meant.{IsDocumentOf, AreSelectionsOf, IsTypeOf}
 use Rattle.gql_diag.specs.List.{Diagnostics}
@@ -33,12 +33,17 @@ use Rattle.gql_diag.specs.Judged.{IsJudged as IsFaultsJudged}
 use Rattle.gql_document_types.specs.declared.document.FieldSet.{FieldSet}
 use Rattle.gql_schema_types.specs.declared.schema.Schema.{Schema}
 use Rattle.gql_parser.specs.Parsers.{ParserState, Given, its_file}
-use Rattle.gql_parser.specs.Diagnosed.{IsOrdered}
-use Rattle.gql_parser.specs.Readings.{IsReading, IsWhole, IsStopped, IsJudged, IsLeft}
-use Rattle.gql_parser.specs.DocumentsRead.{IsDocumentRead, IsDocumentAnswer, IsReadTo, IsAnswerOf}
-use Rattle.gql_parser.specs.TypesRead.{IsComplete, IsTypeAnswer, IsTypeOfParse}
-use Rattle.gql_parser.specs.FileRead.{IsFileRead, IsFileOf}
-use Rattle.gql_parser.specs.FieldSetsRead.{AreSelectionsRead, AreSelectionsOfParse, IsFieldSetAnswer}
+use Rattle.gql_parser.specs.bridge.Diagnosed.{IsOrdered}
+use Rattle.gql_parser.specs.Readings.{IsReading, IsWhole, IsStopped, IsLeft}
+use Rattle.gql_parser.specs.bridge.Readings.{IsJudged}
+use Rattle.gql_parser.specs.DocumentsRead.{IsDocumentRead, IsDocumentAnswer}
+use Rattle.gql_parser.specs.bridge.DocumentsRead.{IsReadTo, IsAnswerOf}
+use Rattle.gql_parser.specs.TypesRead.{IsTypeAnswer}
+use Rattle.gql_parser.specs.bridge.TypesRead.{IsComplete, IsTypeOfParse}
+use Rattle.gql_parser.specs.FileRead.{IsFileRead}
+use Rattle.gql_parser.specs.bridge.FileRead.{IsFileOf}
+use Rattle.gql_parser.specs.FieldSetsRead.{AreSelectionsRead, IsFieldSetAnswer}
+use Rattle.gql_parser.specs.bridge.FieldSetsRead.{AreSelectionsOfParse}
 use Rattle.gql_parser.proofs.Gathered.{gathered}
 use Rattle.gql_parser.proofs.Judging.{judged as judge}
 use Rattle.gql_parser.proofs.Ordered.{ordered}

@@ -16,6 +16,7 @@ use Rattle.gql_parser.specs.BuiltInText.{built_in_text}
 use Rattle.gql_schema.proofs.Known.{SoundLaw, by_rows, is_built_in}
 use Rattle.gql_schema.specs.BuiltInSchema.{IsBuiltIn, built_in_file}
 use Rattle.gql_schema.specs.Rows as rows
+use Rattle.gql_schema.specs.bridge.Rows as rows_bridge
 use Rattle.gql_schema.specs.declared.built_in_row.DefinitionRow.{DefinitionRow}
 use Rattle.gql_schema.specs.declared.built_in_row.DefinitionRow.TheVariants as row
 use Rattle.gql_schema.specs.declared.built_in_row.FieldRow.{FieldRow}
@@ -93,13 +94,13 @@ of-fields (field ∷ fields) all =
       of-fields fields first.1,
     )
 
-of-row : (d : DefinitionRow) → is_core_row d ≡ true → OfDefinition (rows.definition_of its_text built_in_file d)
+of-row : (d : DefinitionRow) → is_core_row d ≡ true → OfDefinition (rows_bridge.definition_of its_text built_in_file d)
 unfolding rows.object_of rows.enum_of rows.scalar_of
 of-row (row.Object it) core = of-fields (rows.fields_at it.fields) core
 of-row (row.Enum it) core = tt
 of-row (row.Scalar it) core = tt
 
-of-rows : (ds : List DefinitionRow) → list_all is_core_row ds ≡ true → Each OfDefinition (map (rows.definition_of its_text built_in_file) ds)
+of-rows : (ds : List DefinitionRow) → list_all is_core_row ds ≡ true → Each OfDefinition (map (rows_bridge.definition_of its_text built_in_file) ds)
 of-rows [] all = tt
 of-rows (d ∷ ds) all = let first = both-true (is_core_row d) (list_all is_core_row ds) all in (of-row d first.0, of-rows ds first.1)
 

@@ -15,7 +15,8 @@ use Rattle.gql_cst.specs.Sentences.{root_kind, shown}
 use Rattle.gql_cst.specs.TreeOf.{IsTreeOf}
 use Rattle.gql_cst.proofs.Parsing.{parse_tree}
 use Rattle.gql_parser.specs.Parsers.{ParserState}
-use Rattle.gql_parser.specs.Readings.{IsSentenceWithin, IsReading, IsWhole, IsStopped, IsJudged}
+use Rattle.gql_parser.specs.Readings.{IsSentenceWithin, IsReading, IsWhole, IsStopped}
+use Rattle.gql_parser.specs.bridge.Readings.{IsJudged}
 use Rattle.gql_parser.proofs.Shallow.{shown-shallow}
 
 sentence : (start : Rule) (text : List ℕ) (limits : Limits) (report : Report) → IsReport start text limits report → report.error ≡ None → IsSentenceWithin limits start text

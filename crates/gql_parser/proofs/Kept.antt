@@ -16,8 +16,8 @@ use Rattle.gql_schema_types.specs.declared.schema.Schema.{Schema}
 use Rattle.gql_schema_types.specs.declared.types.ExtendedType.{ExtendedType}
 use Rattle.gql_schema_types.specs.declared.types.ExtendedType.TheVariants as type
 use Rattle.gql_document.specs.BuiltSelections.{built_set, makes_of, spread_of}
-use Rattle.gql_document.specs.FaultsBelow.{faults_of}
-use Rattle.gql_document.specs.Made as made
+use Rattle.gql_document.specs.bridge.FaultsBelow.{faults_of}
+use Rattle.gql_document.specs.bridge.Made as made
 use Rattle.gql_document.specs.Nodes.{Node, FieldNode, field, inline_fragment, is_defined, is_enum, is_leaf, is_nonempty, is_open, is_scalar, nodes, nodes_of, type_inside}
 use Rattle.gql_document.specs.SelectionFaults.{node_faults, selection_faults}
 use Rattle.gql_document.specs.SubselectionOnEnumType.{subselection_on_enum_type}

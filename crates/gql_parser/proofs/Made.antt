@@ -9,7 +9,7 @@ use Rattle.gql_ast.specs.declared.selection.InlineFragment.{InlineFragment}
 use Rattle.gql_ast.specs.declared.selection.Selection.{the_lemmas}
 use Rattle.gql_ast.specs.declared.selection.Selection.TheVariants as selection
 use Rattle.gql_document.specs.BuiltSelections.{is_selected_leaf, makes_of, set_of, spread_of}
-use Rattle.gql_document.specs.Made as made
+use Rattle.gql_document.specs.bridge.Made as made
 use Rattle.gql_document.specs.Nodes.{Node, FieldNode, field, inline_fragment, is_nonempty, is_open, nodes, nodes_below, nodes_of, type_inside}
 use Rattle.gql_ast_base.specs.TypeParts.{named_type}
 use Rattle.gql_document_types.specs.declared.selection.Selection.{Selection as Built}

@@ -10,7 +10,8 @@ use Rattle.gql_cst.specs.declared.limits.Limits.{Limits}
 use Rattle.gql_cst.specs.Outcome.{Reached, EndAt, WordAt, Faults, StopsBy, Stops}
 use Rattle.gql_cst.specs.Parses.{IsReport}
 use Rattle.gql_cst.specs.Report.{Report}
-use Rattle.gql_parser.specs.Diagnosed.{range_of, IsOrdered}
+use Rattle.gql_parser.specs.Diagnosed.{range_of}
+use Rattle.gql_parser.specs.bridge.Diagnosed.{IsOrdered}
 
 at_end : (r : Reached) (range : Range ℕ) → EndAt r range → range.start ≤ range.end
 at_end r range h = omega (arith, h.1, h.2)

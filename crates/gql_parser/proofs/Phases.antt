@@ -24,7 +24,8 @@ use Rattle.gql_parser.specs.Readings.{IsSentenceWithin}
 use Rattle.gql_rules.specs.DocumentFaults.{AreDocumentFaults, HasListedAllFaults}
 use Rattle.gql_schema_types.specs.declared.schema.Schema.{Schema}
 use Rattle.gql_source.specs.File.{Files}
-use Rattle.gql_parser.specs.DocumentAnswers.{IsBuildRead, IsBuiltOf, IsDocumentAnswer, IsRuled, AreRulesBroken}
+use Rattle.gql_parser.specs.DocumentAnswers.{IsBuiltOf, IsDocumentAnswer}
+use Rattle.gql_parser.specs.bridge.DocumentAnswers.{IsBuildRead, IsRuled, AreRulesBroken}
 use Rattle.gql_parser.specs.DocumentFaults.{DocumentFaults, no_sentence, no_build, broken}
 use Rattle.gql_parser.specs.DocumentText.{AreDefinitions, all_of, its_given}
 

@@ -26,7 +26,8 @@ use Rattle.gql_schema_rules.specs.Scalars.{validated}
 use Rattle.gql_schema_rules.specs.SchemaFaults.{AreSchemaFaults, HasListedAllFaults}
 use Rattle.gql_schema_types.specs.declared.schema.Schema.{Schema}
 use Rattle.gql_source.specs.File.{Files, joined}
-use Rattle.gql_parser.specs.SchemaAnswers.{IsBuildRead, IsBuiltBy, IsUnbuilt, IsBuiltOf, IsReadOf, IsStoppedOf, HasTaken, IsRuled, IsSchemaRead, AreRulesBroken}
+use Rattle.gql_parser.specs.SchemaAnswers.{IsSchemaRead}
+use Rattle.gql_parser.specs.bridge.SchemaAnswers.{IsBuildRead, IsBuiltBy, IsUnbuilt, IsBuiltOf, IsReadOf, IsStoppedOf, HasTaken, IsRuled, AreRulesBroken}
 use Rattle.gql_parser.specs.SchemaFaults.{SchemaFaults, no_sentence, no_build, broken, all_files}
 use Rattle.gql_parser.specs.SchemaText.{AreDefinitions, all_of, its_given}
 

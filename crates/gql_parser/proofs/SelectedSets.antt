@@ -10,7 +10,8 @@ use Rattle.gql_cst.specs.Leaves.{leaves}
 use Rattle.gql_cst.specs.Sentences.{shown}
 use Rattle.gql_ast_base.specs.Kinds.{is_kind}
 use Rattle.gql_ast_base.specs.Parts.{Text, head, gather, inside, nth_name}
-use Rattle.gql_ast.specs.Selections.{spread_of, field_step, inline_step, choice_step, selection_step, choices, selection_of, choice_of}
+use Rattle.gql_ast.specs.Selections.{spread_of, field_step, inline_step, choice_step, selection_step, choices, selection_of}
+use Rattle.gql_ast.specs.bridge.Selections.{choice_of}
 use Rattle.gql_ast_laws.proofs.Blind.{tree as plain_tree}
 use Rattle.gql_ast_laws.proofs.Shown.{AreSpelled, child-of, inside-is, name-at}
 use Rattle.gql_ast_laws.proofs.Tops.{first, next, HasNode}

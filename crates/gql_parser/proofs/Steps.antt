@@ -17,7 +17,7 @@ use Rattle.gql_schema_build.specs.declared.built_in.BuiltIn.{BuiltIn}
 use Rattle.gql_schema_rules.specs.Scalars.{validated}
 use Rattle.gql_schema_types.specs.declared.schema.Schema.{Schema}
 use Rattle.gql_source.specs.File.{Files}
-use Rattle.gql_parser.specs.MixedBuilt.{IsDocumentBuilt, IsDocumentRuled, IsSchemaBuilt}
+use Rattle.gql_parser.specs.bridge.MixedBuilt.{IsDocumentBuilt, IsDocumentRuled, IsSchemaBuilt}
 use Rattle.gql_parser.specs.MixedRead.{AreBuilt, AreMixedFaults, IsHeld, IsMixedAnswer, document_taken, schema_taken}
 use Rattle.gql_parser.proofs.Mixed.{handed_on, no_memory}
 use Rattle.gql_parser.proofs.Sorts.{none_sorted, sorted_joined}

@@ -1,5 +1,5 @@
 -- What is told of the error that ends the reading of a text.
-use Rattle.std.specs.Prelude.{◌≤◌, ℕ, [], ◌∷◌, Option, Some, None}
+use Rattle.std.specs.Prelude.{ℕ, [], ◌∷◌, Some}
 use Rattle.std.specs.declared.ops.Range.{Range}
 use Rattle.gql_source.specs.declared.file_id.FileId.{FileId}
 use Rattle.gql_lexer.specs.Message.{message_of}
@@ -32,8 +32,3 @@ diagnostic file error = record {
 -- the list that has this one alone, with its one file
 abbrev pub list_of : Given → CstError → Diagnostics
 list_of given error = record { sources = its_file given; items = diagnostic given.file error ∷ [] }
-
--- an error's range, if there is one, does not end before it starts
-abbrev pub IsOrdered : Option CstError → Type 0
-IsOrdered None = Unit {0}
-IsOrdered (Some error) = (range_of error).start ≤ (range_of error).end

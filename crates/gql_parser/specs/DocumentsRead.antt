@@ -1,5 +1,5 @@
 -- What comes of a file that is read as a document.
-use Rattle.std.specs.Prelude.{◌≡◌, Option, Some, None, Result, Ok, Err}
+use Rattle.std.specs.Prelude.{◌≡◌, Result, Ok, Err}
 use Rattle.jb_text.specs.declared.refused.Refused.{Refused}
 use Rattle.jb_text.specs.declared.refused.Refused.TheVariants.{Fault, Memory}
 use Rattle.gql_lexer.specs.declared.error.CstError.{CstError}
@@ -12,7 +12,7 @@ use Rattle.gql_ast_laws.specs.Meant.{IsDocumentOf}
 use Rattle.gql_diag.specs.List.{Diagnostics}
 use Rattle.gql_diag.specs.declared.with_errors.WithErrors.{WithErrors}
 use Rattle.gql_parser.specs.Parsers.{ParserState, Given, its_file}
-use Rattle.gql_parser.specs.Readings.{IsWhole, IsStopped, IsJudged}
+use Rattle.gql_parser.specs.Readings.{IsWhole, IsStopped}
 use Rattle.gql_parser.specs.Diagnosed.{list_of}
 
 -- the document of a tree of the file's text
@@ -39,19 +39,3 @@ abbrev pub IsDocumentAnswer : ParserState → Given → Result Document (Refused
 IsDocumentAnswer parser given (Ok document) = IsDocumentRead parser given document
 IsDocumentAnswer parser given (Err (Fault refusal)) = IsDocumentStopped parser given refusal.partial refusal.errors
 IsDocumentAnswer parser given (Err Memory) = Unit {0}
-
--- ---- the same of a document that is there
-
--- the document of the tree that was closed where the reading ended, and what ended it before the text's end
-pub record IsReadTo (parser : ParserState) (given : Given) (document : Document) (error : Option CstError) : Type 0 where
-  pub report : Report
-  pub judged : IsJudged parser rule.Document given.text report
-  pub ended : report.error ≡ error
-  pub partial : document ≡ document_of given report.tree
-
--- that document, with the one diagnostic beside it if there is an error
-abbrev pub IsAnswerOf : Given → Document → Option CstError → Result Document (Refused (WithErrors Document)) → Type 0
-IsAnswerOf given document error (Ok answer) = (error ≡ None) × (answer ≡ document)
-IsAnswerOf given document error (Err (Fault refusal)) =
-    (found : CstError) × (error ≡ Some found) × (refusal.partial ≡ document) × (refusal.errors ≡ list_of given found)
-IsAnswerOf given document error (Err Memory) = Unit {0}

@@ -1,19 +1,12 @@
 -- What comes of a file that is read as selections on a type.
-use Rattle.std.specs.Prelude.{◌≡◌, ◌⊎◌, ◌++◌, List, [], Some, None, Result, Ok, Err}
+use Rattle.std.specs.Prelude.{◌≡◌, ◌⊎◌, List, [], Result, Ok, Err}
 use Rattle.jb_text.specs.declared.refused.Refused.{Refused}
 use Rattle.jb_text.specs.declared.refused.Refused.TheVariants.{Fault, Memory}
-use Rattle.gql_source.specs.declared.file_id.FileId.{FileId}
 use Rattle.gql_lexer.specs.declared.error.CstError.{CstError}
 use Rattle.gql_grammar.specs.declared.rule.Rule.TheVariants as rule
-use Rattle.gql_grammar.specs.declared.syntax_kind.SyntaxKind.TheVariants as kind
-use Rattle.gql_cst.specs.declared.limits.Parsed.{Parsed}
-use Rattle.gql_cst.specs.declared.tree.Tree.{Tree}
-use Rattle.gql_cst.specs.Forest.{plain}
 use Rattle.gql_cst.specs.Report.{Report}
 use Rattle.gql_ast_base.specs.Names.{Named}
-use Rattle.gql_ast_base.specs.Parts.{Text, gather, inside}
 use Rattle.gql_ast.specs.declared.selection.Selection.{Selection}
-use Rattle.gql_ast.specs.Selections.{selection_of}
 use Rattle.gql_ast_laws.specs.Meant.{AreSelectionsOf}
 use Rattle.gql_diag.specs.List.{Diagnostics}
 use Rattle.gql_diag.specs.declared.with_errors.WithErrors.{WithErrors}
@@ -60,15 +53,3 @@ abbrev pub IsFieldSetAnswer : ParserState → Given → Schema → Named → Res
 IsFieldSetAnswer parser given schema ty (Ok set) = IsBuilt parser given schema ty (Ok set)
 IsFieldSetAnswer parser given schema ty (Err (Fault refusal)) = IsBuilt parser given schema ty (Err (Fault refusal))
 IsFieldSetAnswer parser given schema ty (Err Memory) = Unit {0}
-
--- ---- the same of a parse that is there
-
--- the selections in its tree, within braces and without
-abbrev pub selections_in : Text → FileId → Tree → List Selection
-selections_in text file tree =
-    gather (selection_of text file) (inside kind.SelectionSet (plain tree).children) ++ gather (selection_of text file) (plain tree).children
-
-abbrev pub AreSelectionsOfParse : Given → Parsed → List Selection → Diagnostics → Type 0
-AreSelectionsOfParse given parsed read errors =
-    ((parsed.error ≡ None) × (read ≡ selections_in given.text given.file parsed.tree) × (errors ≡ nothing_told given))
-    ⊎ ((error : CstError) × (parsed.error ≡ Some error) × (read ≡ []) × (errors ≡ list_of given error))

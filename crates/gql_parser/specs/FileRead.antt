@@ -1,5 +1,5 @@
 -- What a builder takes of a file that is read as a document.
-use Rattle.std.specs.Prelude.{◌≡◌, ◌⊎◌, [], Option, Some, None}
+use Rattle.std.specs.Prelude.{◌≡◌, ◌⊎◌, []}
 use Rattle.gql_lexer.specs.declared.error.CstError.{CstError}
 use Rattle.gql_grammar.specs.declared.rule.Rule.TheVariants as rule
 use Rattle.gql_cst.specs.Report.{Report}
@@ -31,11 +31,3 @@ pub record IsFileStopped (parser : ParserState) (given : Given) (document : Docu
 
 abbrev pub IsFileRead : ParserState → Given → Document → Diagnostics → Type 0
 IsFileRead parser given document errors = IsFileWhole parser given document errors ⊎ IsFileStopped parser given document errors
-
--- ---- the same of a document that is there
-
--- of what was read, with an error or without
-abbrev pub IsFileOf : Given → Document → Option CstError → Document → Diagnostics → Type 0
-IsFileOf given read error document errors =
-    ((error ≡ None) × (document ≡ read) × (errors ≡ no_faults))
-    ⊎ ((found : CstError) × (error ≡ Some found) × (document ≡ no_document) × (errors ≡ list_of given found))

@@ -21,5 +21,5 @@ pub mod Selecting
 pub mod OutputFields
 pub mod DocumentAnswers
 pub mod MixedRead
-pub mod MixedBuilt
 pub mod Sentences
+pub mod bridge

@@ -1,5 +1,5 @@
 -- The reading of a text by the grammar of GraphQL October 2021, appendix B, within the limits of a parser.
-use Rattle.std.specs.Prelude.{◌≡◌, ◌≤◌, ◌⊎◌, ℕ, List, length, Some, None, MatchOption}
+use Rattle.std.specs.Prelude.{◌≡◌, ◌≤◌, ◌⊎◌, ℕ, List, length, Some, None}
 use Rattle.gql_lexer.specs.declared.error.CstError.{CstError}
 use Rattle.gql_grammar.specs.declared.rule.Rule.{Rule}
 use Rattle.gql_cst.specs.declared.limits.Limits.{Limits}
@@ -37,11 +37,6 @@ pub record IsStopped (parser : ParserState) (start : Rule) (text : List ℕ) (re
   pub reading : IsReading parser start text report
   pub stands : report.error ≡ Some error
   pub none : IsSentenceWithin parser.limits start text → ⊥
-
--- each reading is one of the two
-abbrev pub IsJudged : ParserState → Rule → List ℕ → Report → Type 0
-IsJudged parser start text report =
-    MatchOption report.error (IsWhole parser start text report) (λ error. IsStopped parser start text report error)
 
 -- What a call leaves of a parser: its limits, and the counts of before, or those that tell how far the text was read.
 pub record IsLeft (old new : ParserState) (start : Rule) (text : List ℕ) : Type 0 where

@@ -2,7 +2,8 @@
 
 ghost use Rattle.std.specs.Prelude.{IfOk};
 ghost use Rattle.gql_document_types.specs.Spreads.{AreAcyclic};
-ghost use Rattle.gql_parser.specs.DocumentAnswers.{IsBuildRead, IsDocumentAnswer, IsRuled};
+ghost use Rattle.gql_parser.specs.DocumentAnswers.{IsDocumentAnswer};
+ghost use Rattle.gql_parser.specs.bridge.DocumentAnswers.{IsBuildRead, IsRuled};
 ghost use Rattle.gql_rules_nodes.specs.PossibleTable.{ArePossibleIn};
 
 use crate::parser::Parser;

@@ -4,8 +4,9 @@ ghost use Rattle.std.specs.Prelude.{◌≡◌, IfOk};
 ghost use Rattle.gql_grammar.specs.declared.rule.Rule.TheVariants as rule;
 ghost use Rattle.gql_parser.specs.Parsers.{given};
 ghost use Rattle.gql_parser.specs.Readings.{IsLeft};
-ghost use Rattle.gql_parser.specs.Diagnosed.{IsOrdered};
-ghost use Rattle.gql_parser.specs.FileRead.{IsFileOf, IsFileRead, no_document as document_without, no_faults as no_faults_of};
+ghost use Rattle.gql_parser.specs.bridge.Diagnosed.{IsOrdered};
+ghost use Rattle.gql_parser.specs.FileRead.{IsFileRead, no_document as document_without, no_faults as no_faults_of};
+ghost use Rattle.gql_parser.specs.bridge.FileRead.{IsFileOf};
 
 use crate::parser::{DocumentRead, Parser};
 use crate::stopped::list_of;

@@ -6,7 +6,7 @@ ghost use Rattle.gql_diag.specs.Order.{list_order};
 ghost use Rattle.gql_diag_messages.specs.declared.diagnostic_data.DiagnosticData as item;
 ghost use Rattle.gql_parser.specs.FileRead.{IsFileRead};
 ghost use Rattle.gql_parser.specs.Parsers.{Given, ParserState};
-ghost use Rattle.gql_parser.specs.MixedBuilt.{IsDocumentRuled};
+ghost use Rattle.gql_parser.specs.bridge.MixedBuilt.{IsDocumentRuled};
 ghost use Rattle.gql_parser.specs.MixedRead.{IsMixedAnswer};
 
 use crate::file_read::FileRead;

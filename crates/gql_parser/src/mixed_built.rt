@@ -3,7 +3,7 @@
 ghost use Rattle.std.specs.Prelude.{◌≡◌, ◌++◌, IfOk};
 ghost use Rattle.gql_diag.specs.List.{IsStableSort};
 ghost use Rattle.gql_diag.specs.Order.{list_order};
-ghost use Rattle.gql_parser.specs.MixedBuilt.{IsDocumentBuilt, IsSchemaBuilt};
+ghost use Rattle.gql_parser.specs.bridge.MixedBuilt.{IsDocumentBuilt, IsSchemaBuilt};
 
 use crate::file_read::no_faults;
 use gql_ast::Document;

@@ -4,8 +4,9 @@ ghost use Rattle.std.specs.Prelude.{◌≡◌, ◌++◌, ◌+◌, ◌<◌, ◌^�
 ghost use Rattle.gql_grammar.specs.declared.rule.Rule.TheVariants as rule;
 ghost use Rattle.gql_parser.specs.Parsers.{given, given_next};
 ghost use Rattle.gql_parser.specs.Readings.{IsLeft};
-ghost use Rattle.gql_parser.specs.Diagnosed.{IsOrdered};
-ghost use Rattle.gql_parser.specs.FieldSetsRead.{AreSelectionsOfParse, AreSelectionsRead, IsFieldSetAnswer, nothing_told as told_nothing, selections_in};
+ghost use Rattle.gql_parser.specs.bridge.Diagnosed.{IsOrdered};
+ghost use Rattle.gql_parser.specs.FieldSetsRead.{AreSelectionsRead, IsFieldSetAnswer, nothing_told as told_nothing};
+ghost use Rattle.gql_parser.specs.bridge.FieldSetsRead.{AreSelectionsOfParse, selections_in};
 
 use crate::file::{next_file, only_file};
 use crate::parser::Parser;

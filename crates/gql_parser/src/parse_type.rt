@@ -4,8 +4,9 @@ ghost use Rattle.std.specs.Prelude.{◌≡◌, ◌+◌, ◌<◌, ◌^◌, Some};
 ghost use Rattle.gql_grammar.specs.declared.rule.Rule.TheVariants as rule;
 ghost use Rattle.gql_parser.specs.Parsers.{given, given_next};
 ghost use Rattle.gql_parser.specs.Readings.{IsLeft};
-ghost use Rattle.gql_parser.specs.Diagnosed.{IsOrdered};
-ghost use Rattle.gql_parser.specs.TypesRead.{IsComplete, IsTypeAnswer, IsTypeOfParse};
+ghost use Rattle.gql_parser.specs.bridge.Diagnosed.{IsOrdered};
+ghost use Rattle.gql_parser.specs.TypesRead.{IsTypeAnswer};
+ghost use Rattle.gql_parser.specs.bridge.TypesRead.{IsComplete, IsTypeOfParse};
 
 use crate::file::next_file;
 use crate::parser::Parser;

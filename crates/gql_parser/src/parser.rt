@@ -3,14 +3,14 @@
 ghost use Rattle.std.specs.Prelude.{◌≡◌, Some, IfOk, IsSome, OnErr};
 ghost use Rattle.std.specs.Map.{lookup};
 ghost use Rattle.gql_ast.specs.Documents.{text_of};
-ghost use Rattle.gql_ast_reader.specs.IsRead.{IsRead};
+ghost use Rattle.gql_ast_reader.specs.bridge.IsRead.{IsRead};
 ghost use Rattle.gql_cst.specs.Report.{report_of};
 ghost use Rattle.gql_grammar.specs.declared.rule.Rule.TheVariants as rule;
 ghost use Rattle.gql_source.specs.File.{is_file};
 ghost use Rattle.gql_parser.specs.Parsers.{fresh, given};
-ghost use Rattle.gql_parser.specs.Readings.{IsJudged};
-ghost use Rattle.gql_parser.specs.Diagnosed.{IsOrdered};
-ghost use Rattle.gql_parser.specs.DocumentsRead.{IsReadTo};
+ghost use Rattle.gql_parser.specs.bridge.Readings.{IsJudged};
+ghost use Rattle.gql_parser.specs.bridge.Diagnosed.{IsOrdered};
+ghost use Rattle.gql_parser.specs.bridge.DocumentsRead.{IsReadTo};
 
 use crate::file::only_file;
 use gql_ast::{Document, Source};

@@ -4,7 +4,8 @@ ghost use Rattle.std.specs.Prelude.{◌≡◌, IfOk};
 ghost use Rattle.gql_schema.specs.BuiltInSchema.{built_in_sources};
 ghost use Rattle.gql_source.specs.File.{joined};
 ghost use Rattle.gql_schema.specs.Builders.{taken};
-ghost use Rattle.gql_parser.specs.SchemaAnswers.{HasTaken, IsBuildRead, IsBuiltBy, IsDocumentRead, IsRuled, IsSchemaRead};
+ghost use Rattle.gql_parser.specs.SchemaAnswers.{IsSchemaRead};
+ghost use Rattle.gql_parser.specs.bridge.SchemaAnswers.{HasTaken, IsBuildRead, IsBuiltBy, IsDocumentRead, IsRuled};
 
 use crate::parser::Parser;
 use gql_ast::Document;

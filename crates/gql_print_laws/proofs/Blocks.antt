@@ -15,7 +15,7 @@ use Rattle.gql_grammar.specs.Rule.{kind_of}
 use Rattle.gql_grammar.specs.Sentence.{IsOneOf, is_brace_next}
 use Rattle.gql_cst.specs.Leaves.{node, part_of}
 use Rattle.gql_ast_base.specs.Parts.{gather, inside}
-use Rattle.gql_print_laws.specs.Said.{Text, Said, over, token, space, text_of, words_of, forest_at}
+use Rattle.gql_print_laws.specs.bridge.Said.{Text, Said, over, token, space, text_of, words_of, forest_at}
 use Rattle.gql_sdl.specs.Pieces.{block}
 use Rattle.gql_print_laws.specs.Forms.{Form}
 use Rattle.gql_print_laws.specs.Printable.{Each}

@@ -16,7 +16,7 @@ use Rattle.gql_ast_base.specs.Values.{literal}
 use Rattle.gql_ast_base.specs.declared.value.ValueKind.{ValueKind, Int, Float, String}
 use Rattle.gql_ast_laws.proofs.Blind.{tree}
 use Rattle.gql_print_laws.specs.Literal.{literal_of}
-use Rattle.gql_print_laws.specs.Said.{Text}
+use Rattle.gql_print_laws.specs.bridge.Said.{Text}
 use Rattle.gql_print_laws.specs.Written.{IsConstant}
 use Rattle.gql_print_laws.proofs.Meaning.{literal-Int, literal-Float, literal-String}
 use Rattle.gql_print_laws.proofs.NumberWords.{int_stands, float_stands}

@@ -18,7 +18,8 @@ use Rattle.gql_cst.specs.Words.{word_of}
 use Rattle.gql_ast_base.specs.Kinds.{is_kind}
 use Rattle.gql_ast_base.specs.Names.{Named, is_name}
 use Rattle.gql_ast_base.specs.Parts.{Text, head, gather, token_text, word as name_text, name_of, nth_name, location}
-use Rattle.gql_ast_base.specs.Values.{literal, token_content, boolean_content, simple_content, content_step, pair_of, member_step, value_step, values, contents, members, content_of, member_of, value_of}
+use Rattle.gql_ast_base.specs.Values.{literal, token_content, boolean_content, simple_content, content_step, pair_of, member_step, value_step, values, contents, members, value_of}
+use Rattle.gql_ast_base.specs.bridge.Values.{content_of, member_of}
 use Rattle.gql_ast_base.specs.declared.value.Value.{Value}
 use Rattle.gql_ast_base.specs.declared.value.ValueKind.{ValueKind, List as ListKind, Object as ObjectKind}
 use Rattle.gql_ast_base.specs.declared.value.ValueKind.TheVariants.{Null, Variable, Boolean, Enum}

@@ -21,8 +21,8 @@ use Rattle.gql_cst.specs.Words.{word_of}
 use Rattle.gql_ast.specs.Documents.{choice_of, definition_of}
 use Rattle.gql_ast_base.specs.Kinds.{is_kind}
 use Rattle.gql_ast_base.specs.Names.{is_name}
-use Rattle.gql_print_laws.specs.Said.{Text, Said, over, token, space, under, text_of, words_of, forest_at}
-use Rattle.gql_print_laws.specs.Written.{Ends}
+use Rattle.gql_print_laws.specs.bridge.Said.{Text, Said, over, token, space, under, text_of, words_of, forest_at}
+use Rattle.gql_print_laws.specs.bridge.Written.{Ends}
 use Rattle.gql_print_laws.proofs.Named.{name_is_name}
 use Rattle.gql_sdl.specs.Forms.{described}
 use Rattle.gql_print_laws.specs.Meant.{says}

@@ -6,8 +6,8 @@ use Rattle.gql_cst.specs.Forest.{Forest, tree_then}
 use Rattle.gql_cst.specs.Leaves.{node, part_of}
 use Rattle.gql_cst.specs.Nesting.{nesting}
 use Rattle.gql_print_laws.specs.Literal.{Literal, null, variable, int, float, string, truth, name, list, object, Literals, no_literal, literal_then, Pairs, no_pair, pair_then}
-use Rattle.gql_print_laws.specs.Said.{Text, Said, over, token, space, under, text_of, forest_at, Lexes}
-use Rattle.gql_print_laws.specs.Written.{content_said, items_said, more_items, pairs_said, more_pairs}
+use Rattle.gql_print_laws.specs.bridge.Said.{Text, Said, over, token, space, under, text_of, forest_at, Lexes}
+use Rattle.gql_print_laws.specs.bridge.Written.{content_said, items_said, more_items, pairs_said, more_pairs}
 use Rattle.gql_print_laws.specs.Depth.{most_levels, literal_depth, literals_depth, pairs_depth}
 
 abbrev pub depth_said : Said → ℕ

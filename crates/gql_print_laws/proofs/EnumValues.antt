@@ -15,8 +15,8 @@ use Rattle.gql_ast_base.specs.Names.{Named}
 use Rattle.gql_ast_base.specs.Parts.{inside, location, nth_name}
 use Rattle.gql_ast.specs.Fields.{enum_value_of}
 use Rattle.gql_ast_laws.proofs.Blind.{tree}
-use Rattle.gql_print_laws.specs.Said.{Text, Said, over, token, under, text_of, forest_at}
-use Rattle.gql_print_laws.specs.Written.{Ends}
+use Rattle.gql_print_laws.specs.bridge.Said.{Text, Said, over, token, under, text_of, forest_at}
+use Rattle.gql_print_laws.specs.bridge.Written.{Ends}
 use Rattle.gql_sdl.specs.Forms.{described, enum_value_text}
 use Rattle.gql_sdl.specs.declared.shown.ShownEnumValue.{ShownEnumValue}
 use Rattle.gql_print_laws.specs.Forms.{enum_value_form}

@@ -12,8 +12,8 @@ use Rattle.gql_ast.specs.TypeText.{type_text}
 use Rattle.gql_ast_base.specs.Directives.{directives}
 use Rattle.gql_ast_base.specs.Kinds.{is_kind}
 use Rattle.gql_ast_base.specs.Literals.{description}
-use Rattle.gql_print_laws.specs.Said.{Text, Said, over, token, space, text_of, words_of, forest_at}
-use Rattle.gql_print_laws.specs.Written.{Ends}
+use Rattle.gql_print_laws.specs.bridge.Said.{Text, Said, over, token, space, text_of, words_of, forest_at}
+use Rattle.gql_print_laws.specs.bridge.Written.{Ends}
 use Rattle.gql_sdl.specs.declared.shown.ShownType.{ShownType}
 use Rattle.gql_sdl.specs.declared.shown.TypeKind.{TypeKind}
 use Rattle.gql_sdl.specs.Forms.{described}

@@ -15,8 +15,9 @@ use Rattle.gql_grammar.specs.Word.{is_same}
 use Rattle.gql_cst.specs.Words.{word_of}
 use Rattle.gql_ast_base.specs.Names.{is_name}
 use Rattle.gql_print_laws.specs.Literal.{Literal, null, variable, int, float, string, truth, name, list, object, Literals, no_literal, literal_then, Pairs, no_pair, pair_then}
-use Rattle.gql_print_laws.specs.Said.{Text, over, under, row_of, words_of}
-use Rattle.gql_print_laws.specs.Written.{content_said, items_said, more_items, pairs_said, more_pairs, IsConstant, AreConstant, ArePairs}
+use Rattle.gql_print_laws.specs.bridge.Said.{Text, over, under, row_of, words_of}
+use Rattle.gql_print_laws.specs.Written.{IsConstant, AreConstant, ArePairs}
+use Rattle.gql_print_laws.specs.bridge.Written.{content_said, items_said, more_items, pairs_said, more_pairs}
 use Rattle.gql_print_laws.proofs.NumberWords.{int_word, float_word}
 use Rattle.gql_print_laws.proofs.Named.{name_is_name}
 

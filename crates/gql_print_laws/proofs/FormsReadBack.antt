@@ -19,7 +19,7 @@ use Rattle.gql_cst.specs.TreeOf.{IsTreeOf}
 use Rattle.gql_ast_laws.proofs.Blind.{tree as plain_tree, Blind}
 use Rattle.gql_ast_laws.proofs.DocumentMeaning.{definition-blind}
 use Rattle.gql_ast_laws.proofs.Whole.{node_once}
-use Rattle.gql_print_laws.specs.Said.{Text, Said, text_of, forest_at, row_of, words_of, Lexes}
+use Rattle.gql_print_laws.specs.bridge.Said.{Text, Said, text_of, forest_at, row_of, words_of, Lexes}
 use Rattle.gql_print_laws.proofs.Rest.{Rest}
 use Rattle.gql_print_laws.proofs.Laid.{laid, shown_is, words_are}
 use Rattle.gql_print_laws.specs.Forms.{Form, IsMeant, IsReadBack, definition_form}

@@ -12,7 +12,7 @@ use Rattle.gql_grammar.specs.Sentence as sentence
 use Rattle.gql_grammar.specs.Sentence.{Fits, IsOneOf, is_brace_next}
 use Rattle.gql_grammar.specs.Word.{takes}
 use Rattle.gql_cst.specs.Words.{word_of}
-use Rattle.gql_print_laws.specs.Said.{Text, Said, over, token, space, under, row_of, words_of}
+use Rattle.gql_print_laws.specs.bridge.Said.{Text, Said, over, token, space, under, row_of, words_of}
 
 -- the symbols stand for what is said, and the words come behind it
 pub record FitsTo (ss : List Symbol) (s : Said) (vs : List Word) : Type 0 where

@@ -27,8 +27,8 @@ use Rattle.gql_ast.specs.Fields.{input_value_of, argument_definitions}
 use Rattle.gql_ast_laws.specs.Printed.{unplaced}
 use Rattle.gql_ast_laws.proofs.Blind.{tree}
 use Rattle.gql_print_laws.specs.Literal.{literal_in}
-use Rattle.gql_print_laws.specs.Said.{Text, Said, over, token, space, under, text_of, forest_at}
-use Rattle.gql_print_laws.specs.Written.{content_said, Ends}
+use Rattle.gql_print_laws.specs.bridge.Said.{Text, Said, over, token, space, under, text_of, forest_at}
+use Rattle.gql_print_laws.specs.bridge.Written.{content_said, Ends}
 use Rattle.gql_print_laws.proofs.Fitting.{fits_value}
 use Rattle.gql_print_laws.proofs.Named.{name_is_name}
 use Rattle.gql_print_laws.proofs.Texts.{text_is_written}

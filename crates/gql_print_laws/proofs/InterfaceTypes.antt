@@ -15,7 +15,7 @@ use Rattle.gql_ast_base.specs.Literals.{description}
 use Rattle.gql_ast_base.specs.Names.{Named}
 use Rattle.gql_ast_base.specs.Parts.{location, nth_name}
 use Rattle.gql_ast_laws.proofs.Blind.{tree}
-use Rattle.gql_print_laws.specs.Said.{Text, Said, forest_at}
+use Rattle.gql_print_laws.specs.bridge.Said.{Text, Said, forest_at}
 use Rattle.gql_sdl.specs.declared.shown.ShownType.{ShownType}
 use Rattle.gql_sdl.specs.declared.shown.TypeKind.TheVariants.{Interface}
 use Rattle.gql_print_laws.specs.Meant.{says}

@@ -9,7 +9,7 @@ use Rattle.gql_cst.specs.Forest.{Forest, tree_then}
 use Rattle.gql_cst.specs.Leaves.{Part, word, ignored, node, part_of, Leaf, IsLeaf, Tiles, leaves}
 use Rattle.gql_cst.specs.Sentences.{own_word, words, shown}
 use Rattle.gql_cst.specs.Words.{word_of}
-use Rattle.gql_print_laws.specs.Said.{Text, Said, over, token, space, under, text_of, forest_at, row_of, words_of, IsPiece, Lexes}
+use Rattle.gql_print_laws.specs.bridge.Said.{Text, Said, over, token, space, under, text_of, forest_at, row_of, words_of, IsPiece, Lexes}
 use Rattle.gql_print_laws.proofs.Rest.{Rest, after, cut, char_boundary}
 
 pub piece_leaf : (part : Part) (text : Text) (n : ℕ) (t rest : Text) → Rest text n (t ++ rest) → IsPiece part t rest → IsLeaf text n (record { part = part; start = n; end = n + length t })

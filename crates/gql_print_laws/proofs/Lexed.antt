@@ -6,8 +6,9 @@ use Rattle.gql_grammar.specs.declared.syntax_kind.SyntaxKind.TheVariants as kind
 use Rattle.gql_lexer.specs.declared.token.TokenKind.TheVariants as kinds
 use Rattle.gql_ast_base.specs.Names.{is_name}
 use Rattle.gql_print_laws.specs.Literal.{Literal, null, variable, int, float, string, truth, name, list, object, Literals, no_literal, literal_then, Pairs, no_pair, pair_then}
-use Rattle.gql_print_laws.specs.Said.{Text, Said, over, token, space, under, text_of, IsPiece, Lexes}
-use Rattle.gql_print_laws.specs.Written.{truth_word, content_said, items_said, more_items, pairs_said, more_pairs, Ends, IsConstant, AreConstant, ArePairs}
+use Rattle.gql_print_laws.specs.bridge.Said.{Text, Said, over, token, space, under, text_of, IsPiece, Lexes}
+use Rattle.gql_print_laws.specs.Written.{IsConstant, AreConstant, ArePairs}
+use Rattle.gql_print_laws.specs.bridge.Written.{truth_word, content_said, items_said, more_items, pairs_said, more_pairs, Ends}
 use Rattle.gql_print_laws.proofs.Pieces.{Begins, follows, mark_piece, comma_piece, blank_piece, name_piece, name_starts}
 use Rattle.gql_print_laws.proofs.NumberWords.{number_text}
 use Rattle.gql_print_laws.proofs.Numbers.{int_alone, float_alone}

@@ -9,7 +9,7 @@ use Rattle.gql_grammar.specs.declared.syntax_kind.SyntaxKind.TheVariants as kind
 use Rattle.gql_grammar.specs.Sentence.{is_brace_next}
 use Rattle.gql_ast.specs.Documents.{definition_of}
 use Rattle.gql_ast_base.specs.Kinds.{is_kind}
-use Rattle.gql_print_laws.specs.Said.{Text, Said, over, space, under, text_of, words_of}
+use Rattle.gql_print_laws.specs.bridge.Said.{Text, Said, over, space, under, text_of, words_of}
 use Rattle.gql_sdl.specs.Schemas.{line, line_unless}
 use Rattle.gql_print_laws.specs.Meant.{says}
 use Rattle.gql_print_laws.specs.Plain.{Plain}

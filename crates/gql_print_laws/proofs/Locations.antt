@@ -22,8 +22,8 @@ use Rattle.gql_ast.specs.declared.schema_definition.DirectiveLocation.TheVariant
 use Rattle.gql_ast_laws.proofs.Blind.{tree}
 use Rattle.gql_ast_laws.proofs.Named.{no_text}
 use Rattle.gql_ast_laws.proofs.TokenKinds.{no_token}
-use Rattle.gql_print_laws.specs.Said.{Text, Said, over, token, space, under, text_of, forest_at}
-use Rattle.gql_print_laws.specs.Written.{Ends}
+use Rattle.gql_print_laws.specs.bridge.Said.{Text, Said, over, token, space, under, text_of, forest_at}
+use Rattle.gql_print_laws.specs.bridge.Written.{Ends}
 use Rattle.gql_sdl.specs.Definitions.{locations_text}
 use Rattle.gql_sdl.specs.Pieces.{pieces}
 use Rattle.gql_print_laws.proofs.Depths.{depth_said, IsShallow}

@@ -14,8 +14,9 @@ use Rattle.gql_ast_base.specs.declared.value.ValueKind.{ValueKind, Null, Int, Fl
 use Rattle.gql_print_laws.specs.Literal as lit
 use Rattle.gql_print_laws.specs.Literal.{Literal, Literals, no_literal, literal_then, Pairs, no_pair, pair_then, literals_of, pairs_of, literal_of, literal_in}
 use Rattle.jb_print.specs.Quoted.{quoted}
-use Rattle.gql_print_laws.specs.Said.{Text, Said, text_of, forest_at, IsPiece, Lexes}
-use Rattle.gql_print_laws.specs.Written.{truth_word, content_said, items_said, more_items, pairs_said, more_pairs, IsConstant, AreConstant, ArePairs}
+use Rattle.gql_print_laws.specs.bridge.Said.{Text, Said, text_of, forest_at, IsPiece, Lexes}
+use Rattle.gql_print_laws.specs.Written.{IsConstant, AreConstant, ArePairs}
+use Rattle.gql_print_laws.specs.bridge.Written.{truth_word, content_said, items_said, more_items, pairs_said, more_pairs}
 use Rattle.gql_print_laws.proofs.Rest.{Rest, cut, boundary}
 use Rattle.gql_print_laws.proofs.Laid.{piece_leaf, first_part, second_part}
 use Rattle.gql_print_laws.proofs.NumberWords.{int_stands, float_stands}

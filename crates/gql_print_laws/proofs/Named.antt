@@ -9,7 +9,7 @@ use Rattle.gql_grammar.specs.Word.{is_name as names}
 use Rattle.gql_grammar.specs.Spelling.{is_executable_location, is_type_system_location, keyword, word_of_name}
 use Rattle.gql_cst.specs.Words.{word_of}
 use Rattle.gql_ast_base.specs.Names.{is_name}
-use Rattle.gql_print_laws.specs.Said.{Text}
+use Rattle.gql_print_laws.specs.bridge.Said.{Text}
 use Rattle.gql_print_laws.proofs.Rest.{name_begins}
 
 record IsName (w : Word) : Type 0 where

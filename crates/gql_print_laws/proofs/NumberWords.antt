@@ -13,7 +13,7 @@ use Rattle.gql_cst.specs.Words.{has_byte, word_of}
 use Rattle.gql_ast_base.specs.Literals.{has_part}
 use Rattle.gql_ast_base.specs.Values.{literal}
 use Rattle.gql_ast_base.specs.declared.value.ValueKind.TheVariants.{Int, Float}
-use Rattle.gql_print_laws.specs.Said.{Text}
+use Rattle.gql_print_laws.specs.bridge.Said.{Text}
 use Rattle.gql_print_laws.proofs.Numbers.{at_most, slice_in, digits, first_of_number, number_low, number_blank, number_quote, whole_at, same_eq, whole_is, fraction_is, exponent_is, number_some}
 
 -- ---- its bytes

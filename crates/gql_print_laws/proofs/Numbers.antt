@@ -8,8 +8,8 @@ use Rattle.gql_lexer.specs.Class.{is_digit, is_name_start, is_name_continue, is_
 use Rattle.gql_lexer.specs.Lex.{sign_end, whole_end, fraction_end, exponent_start, exponent_end, is_exponent, is_sign, goes_on}
 use Rattle.gql_lexer.specs.Lexical.{IsToken, IsNumber, fraction_of, number_end, lacks_whole, lacks_exponent}
 use Rattle.gql_lexer.specs.declared.token.TokenKind.TheVariants.{IntValue, FloatValue}
-use Rattle.gql_print_laws.specs.Said.{Text}
-use Rattle.gql_print_laws.specs.Written.{Ends}
+use Rattle.gql_print_laws.specs.bridge.Said.{Text}
+use Rattle.gql_print_laws.specs.bridge.Written.{Ends}
 
 -- ---- lists of bytes
 

@@ -7,7 +7,7 @@ use Rattle.gql_lexer.specs.Class.{is_digit, class_of}
 use Rattle.gql_lexer.specs.Lex.{sign_end, whole_end, fraction_end, exponent_start, exponent_end, is_exponent, is_sign, goes_on}
 use Rattle.gql_lexer.specs.Lexical.{IsToken, IsNumber, fraction_of, number_end, lacks_exponent}
 use Rattle.gql_lexer.specs.declared.token.TokenKind.TheVariants.{IntValue, FloatValue}
-use Rattle.gql_print_laws.specs.Said.{Text}
+use Rattle.gql_print_laws.specs.bridge.Said.{Text}
 use Rattle.gql_print_laws.proofs.Numbers.{at_most, less_or, slice_in, slice_past, drop_front, drop_long, digits, whole_at, whole_is, fraction_is, exponent_is, start_is, same_eq}
 
 prefix_cut : (p : ℕ → Bool) (xs rest : Text) → at_most (prefix_len p (xs ++ rest)) (length xs) → prefix_len p xs ≡ prefix_len p (xs ++ rest)

@@ -14,7 +14,7 @@ use Rattle.gql_ast_base.specs.Literals.{string_of, description}
 use Rattle.gql_ast_base.specs.Names.{is_name}
 use Rattle.gql_ast_base.specs.Parts.{first, token_text}
 use Rattle.gql_ast_laws.proofs.TokenKinds.{same_kind}
-use Rattle.gql_print_laws.specs.Said.{Text, Said, over, token, space, under, text_of, forest_at}
+use Rattle.gql_print_laws.specs.bridge.Said.{Text, Said, over, token, space, under, text_of, forest_at}
 use Rattle.gql_print_laws.proofs.Strings.{string_stands}
 use Rattle.gql_sdl.specs.Forms.{string_text, described}
 use Rattle.jb_print.specs.Quoted.{quoted}

@@ -7,8 +7,8 @@ use Rattle.gql_lexer.specs.Lex.{run_len, run_from, blank_len, is_mark}
 use Rattle.gql_lexer.specs.declared.token.TokenKind.TheVariants as kinds
 use Rattle.gql_cst.specs.Leaves.{word, ignored}
 use Rattle.gql_ast_base.specs.Names.{is_name}
-use Rattle.gql_print_laws.specs.Said.{Text, IsPiece}
-use Rattle.gql_print_laws.specs.Written.{Ends}
+use Rattle.gql_print_laws.specs.bridge.Said.{Text, IsPiece}
+use Rattle.gql_print_laws.specs.bridge.Written.{Ends}
 use Rattle.gql_print_laws.proofs.Rest.{Follows, name_len, name_class, name_begins, name_some, name_low}
 
 -- a token begins here, and no white space

@@ -11,8 +11,8 @@ use Rattle.gql_grammar.specs.Rule.{kind_of}
 use Rattle.gql_grammar.specs.Sentence.{IsOneOf}
 use Rattle.gql_cst.specs.Leaves.{node, part_of}
 use Rattle.gql_ast_laws.proofs.TokenKinds.{same_kind}
-use Rattle.gql_print_laws.specs.Said.{Text, Said, space, under, text_of}
-use Rattle.gql_print_laws.specs.Written.{Ends}
+use Rattle.gql_print_laws.specs.bridge.Said.{Text, Said, space, under, text_of}
+use Rattle.gql_print_laws.specs.bridge.Written.{Ends}
 use Rattle.gql_sdl.specs.Pieces.{pieces, spaced}
 use Rattle.gql_print_laws.specs.Forms.{Form}
 use Rattle.gql_print_laws.specs.Printable.{Each}

@@ -8,8 +8,9 @@ use Rattle.gql_cst.specs.Leaves.{leaves, Tiles}
 use Rattle.gql_cst.specs.Sentences.{shown}
 use Rattle.gql_ast_base.specs.declared.value.ValueKind.{ValueKind}
 use Rattle.gql_print_laws.specs.Literal.{Literal, literal_of}
-use Rattle.gql_print_laws.specs.Said.{Text, text_of, forest_at, row_of, words_of}
-use Rattle.gql_print_laws.specs.Written.{content_said, Ends, IsConstant}
+use Rattle.gql_print_laws.specs.bridge.Said.{Text, text_of, forest_at, row_of, words_of}
+use Rattle.gql_print_laws.specs.Written.{IsConstant}
+use Rattle.gql_print_laws.specs.bridge.Written.{content_said, Ends}
 use Rattle.gql_print_laws.specs.ReadBack.{StandsFor}
 use Rattle.gql_print_laws.proofs.Rest.{Rest}
 use Rattle.gql_print_laws.proofs.Laid.{laid, shown_is, words_are}

@@ -13,7 +13,8 @@ use Rattle.gql_ast_base.specs.Kinds.{is_kind}
 use Rattle.gql_ast_base.specs.Literals.{opens_string, string_text, opens_number, has_part}
 use Rattle.gql_ast_base.specs.Names.{Named}
 use Rattle.gql_ast_base.specs.Parts.{Text, head, token_text, nth_name, location}
-use Rattle.gql_ast_base.specs.Values.{number_kind, literal, token_content, boolean_content, simple_content, content_step, pair_of, member_step, value_step, values, contents, members, content_of, member_of, value_of}
+use Rattle.gql_ast_base.specs.Values.{number_kind, literal, token_content, boolean_content, simple_content, content_step, pair_of, member_step, value_step, values, contents, members, value_of}
+use Rattle.gql_ast_base.specs.bridge.Values.{content_of, member_of}
 use Rattle.gql_ast_base.specs.declared.value.Value.{Value}
 use Rattle.gql_ast_base.specs.declared.value.ValueKind.{ValueKind, List as ListKind, Object as ObjectKind, the_lemmas}
 use Rattle.gql_ast_base.specs.declared.value.ValueKind.TheVariants.{Null, Variable, Int, Float, String, Boolean, Enum}

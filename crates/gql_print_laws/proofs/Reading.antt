@@ -9,8 +9,9 @@ use Rattle.gql_grammar.specs.declared.syntax_kind.SyntaxKind.{SyntaxKind}
 use Rattle.gql_cst.specs.Leaves.{ignored, node, part_of}
 use Rattle.gql_ast_base.specs.Names.{is_name}
 use Rattle.gql_print_laws.specs.Literal.{Literal}
-use Rattle.gql_print_laws.specs.Said.{Text, Said, over, token, space, under, text_of, IsPiece, Lexes}
-use Rattle.gql_print_laws.specs.Written.{content_said, Ends, IsConstant}
+use Rattle.gql_print_laws.specs.bridge.Said.{Text, Said, over, token, space, under, text_of, IsPiece, Lexes}
+use Rattle.gql_print_laws.specs.Written.{IsConstant}
+use Rattle.gql_print_laws.specs.bridge.Written.{content_said, Ends}
 use Rattle.gql_print_laws.proofs.Pieces.{Begins, follows, mark_piece, comma_piece, blank_piece, name_piece, name_starts}
 use Rattle.gql_print_laws.proofs.Lexed.{starts, lexes}
 use Rattle.gql_print_laws.proofs.Strings.{string_piece}

@@ -24,7 +24,7 @@ use Rattle.gql_ast_base.specs.NamedTypes.{named_type_of}
 use Rattle.gql_ast_base.specs.declared.type_ref.TypeRef.{TypeRef}
 use Rattle.gql_ast.specs.Definitions.{interfaces, members}
 use Rattle.gql_ast_laws.proofs.Blind.{tree}
-use Rattle.gql_print_laws.specs.Said.{Text, Said, over, token, space, under, text_of, forest_at}
+use Rattle.gql_print_laws.specs.bridge.Said.{Text, Said, over, token, space, under, text_of, forest_at}
 use Rattle.gql_print_laws.proofs.Named.{name_is_name}
 use Rattle.gql_sdl.specs.Forms.{implements_text, members_text}
 use Rattle.gql_sdl.specs.Pieces.{pieces}

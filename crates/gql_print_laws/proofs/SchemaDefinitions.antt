@@ -28,8 +28,8 @@ use Rattle.gql_ast_base.specs.declared.operation_type.OperationType.TheVariants.
 use Rattle.gql_ast.specs.Schemas.{root_operations, schema_of}
 use Rattle.gql_ast.specs.declared.schema_definition.SchemaDefinition.{SchemaDefinition}
 use Rattle.gql_ast_laws.proofs.Blind.{tree}
-use Rattle.gql_print_laws.specs.Said.{Text, Said, over, token, space, under, text_of, forest_at}
-use Rattle.gql_print_laws.specs.Written.{Ends}
+use Rattle.gql_print_laws.specs.bridge.Said.{Text, Said, over, token, space, under, text_of, forest_at}
+use Rattle.gql_print_laws.specs.bridge.Written.{Ends}
 use Rattle.gql_print_laws.proofs.Named.{name_is_name}
 use Rattle.gql_sdl.specs.Forms.{described}
 use Rattle.gql_sdl.specs.Pieces.{spaced}

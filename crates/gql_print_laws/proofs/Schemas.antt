@@ -7,7 +7,7 @@ use Rattle.gql_grammar.specs.declared.syntax_kind.SyntaxKind.TheVariants as kind
 use Rattle.gql_grammar.specs.Sentence.{here}
 use Rattle.gql_ast.specs.Documents.{definition_of}
 use Rattle.gql_ast_base.specs.Parts.{gather}
-use Rattle.gql_print_laws.specs.Said.{text_of, forest_at}
+use Rattle.gql_print_laws.specs.bridge.Said.{text_of, forest_at}
 use Rattle.gql_sdl.specs.Definitions.{type_definition_text, directive_text}
 use Rattle.gql_sdl.specs.Schemas.{is_directive_name, is_built_in, line, line_unless, directive_line, type_line, roots_text, schema_text}
 use Rattle.gql_sdl.specs.declared.shown.ShownDirective.{ShownDirective}

@@ -13,7 +13,7 @@ use Rattle.gql_ast_laws.proofs.Blind.{tree}
 use Rattle.gql_ast_laws.proofs.Inner.{here, later}
 use Rattle.gql_ast_laws.proofs.Named.{nth_name-is, nth_text-is, no_text}
 use Rattle.gql_ast_laws.proofs.TokenKinds.{kind_is, no_token}
-use Rattle.gql_print_laws.specs.Said.{Text, Said, over, token, space, under, text_of, forest_at, Lexes}
+use Rattle.gql_print_laws.specs.bridge.Said.{Text, Said, over, token, space, under, text_of, forest_at, Lexes}
 use Rattle.gql_print_laws.proofs.Rest.{Rest, cut, boundary}
 use Rattle.gql_print_laws.proofs.Laid.{piece_leaf, first_part, second_part}
 use Rattle.gql_print_laws.specs.Meant.{name_text as text_in}

@@ -15,8 +15,8 @@ use Rattle.gql_lexer.specs.declared.token.TokenKind.TheVariants as kinds
 use Rattle.gql_cst.specs.Leaves.{word}
 use Rattle.gql_ast_base.specs.Literals.{string_text}
 use Rattle.jb_print.specs.Quoted.{short_escape, long_escape, escaped, quoted}
-use Rattle.gql_print_laws.specs.Said.{Text, IsPiece}
-use Rattle.gql_print_laws.specs.Written.{Ends}
+use Rattle.gql_print_laws.specs.bridge.Said.{Text, IsPiece}
+use Rattle.gql_print_laws.specs.bridge.Written.{Ends}
 
 -- what is written for a byte is one item of a string, which stands for the byte; and it does not begin with a quote
 pub record Item (b : ℕ) : Type 0 where

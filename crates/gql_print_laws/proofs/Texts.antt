@@ -8,9 +8,10 @@ use Rattle.gql_ast_base.specs.declared.value.ValueKind.TheOpen.{ValueKind-F, Val
 use Rattle.gql_print_laws.specs.Literal as lit
 use Rattle.gql_print_laws.specs.Literal.{Literal, literals_of, pairs_of, literal_of, literal_in}
 use Rattle.jb_print.specs.Quoted.{quoted}
-use Rattle.gql_print_laws.specs.Said.{Text, text_of}
-use Rattle.gql_print_laws.specs.Written.{content_said, items_said, more_items, pairs_said, more_pairs}
-use Rattle.gql_ast.specs.ValueText.{separated, kind_text, value_text, member_text}
+use Rattle.gql_print_laws.specs.bridge.Said.{Text, text_of}
+use Rattle.gql_print_laws.specs.bridge.Written.{content_said, items_said, more_items, pairs_said, more_pairs}
+use Rattle.gql_ast.specs.ValueText.{separated, kind_text, value_text}
+use Rattle.gql_ast.specs.bridge.ValueText.{member_text}
 use Rattle.gql_print_laws.proofs.Meaning.{seen, literal-Null, literal-Int, literal-Float, literal-String, literal-Boolean, literal-Enum, literal-List, literal-Object}
 
 abbrev written : Literal → Text

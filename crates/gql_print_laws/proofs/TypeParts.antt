@@ -5,7 +5,7 @@ use Rattle.gql_grammar.specs.declared.symbol.Symbol.{Symbol}
 use Rattle.gql_grammar.specs.declared.symbol.Symbol.TheVariants.{Token, Optional}
 use Rattle.gql_grammar.specs.declared.symbol.Terminal.TheVariants.{Exactly, AnyName}
 use Rattle.gql_grammar.specs.declared.rule.Rule.TheVariants as rule
-use Rattle.gql_print_laws.specs.Said.{Text}
+use Rattle.gql_print_laws.specs.bridge.Said.{Text}
 use Rattle.gql_sdl.specs.Definitions.{keyword, body_text}
 use Rattle.gql_sdl.specs.Forms.{described}
 use Rattle.gql_sdl.specs.declared.shown.ShownType.{ShownType}

@@ -22,8 +22,8 @@ use Rattle.gql_ast_base.specs.declared.type_ref.TypeRef.TheVariants.{Named as Na
 use Rattle.gql_ast_laws.specs.Printed.{has_names, unplaced}
 use Rattle.gql_ast_laws.proofs.Blind.{tree}
 use Rattle.gql_ast_laws.proofs.Levels.{unplaced-Named, unplaced-NonNullNamed, unplaced-List, unplaced-NonNullList}
-use Rattle.gql_print_laws.specs.Said.{Text, Said, over, token, under, text_of, forest_at}
-use Rattle.gql_print_laws.specs.Written.{Ends}
+use Rattle.gql_print_laws.specs.bridge.Said.{Text, Said, over, token, under, text_of, forest_at}
+use Rattle.gql_print_laws.specs.bridge.Written.{Ends}
 use Rattle.gql_print_laws.proofs.Named.{name_is_name}
 use Rattle.gql_print_laws.specs.Depth.{most_levels, type_depth}
 use Rattle.gql_print_laws.specs.Forms.{Form}

@@ -20,8 +20,9 @@ use Rattle.gql_ast_base.specs.declared.directive.Directive.{Directive}
 use Rattle.gql_ast_base.specs.declared.value.Value.{Value}
 use Rattle.gql_ast_laws.proofs.Blind.{tree}
 use Rattle.gql_print_laws.specs.Literal.{Literal, null, string, literal_in}
-use Rattle.gql_print_laws.specs.Said.{Text, Said, over, token, space, under, text_of, forest_at}
-use Rattle.gql_print_laws.specs.Written.{content_said, Ends, IsConstant}
+use Rattle.gql_print_laws.specs.bridge.Said.{Text, Said, over, token, space, under, text_of, forest_at}
+use Rattle.gql_print_laws.specs.Written.{IsConstant}
+use Rattle.gql_print_laws.specs.bridge.Written.{content_said, Ends}
 use Rattle.gql_print_laws.proofs.Fitting.{fits_value}
 use Rattle.gql_print_laws.proofs.Named.{name_is_name}
 use Rattle.gql_sdl.specs.Forms.{string_text, reason_text, deprecated}

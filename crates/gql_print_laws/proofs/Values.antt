@@ -11,8 +11,9 @@ use Rattle.gql_ast_base.specs.declared.value.Value.{Value}
 use Rattle.gql_ast_base.specs.declared.value.ValueKind.{ValueKind}
 use Rattle.gql_ast_laws.proofs.Blind.{tree}
 use Rattle.gql_print_laws.specs.Literal.{Literal, literal_in}
-use Rattle.gql_print_laws.specs.Said.{Text, text_of, forest_at}
-use Rattle.gql_print_laws.specs.Written.{content_said, IsConstant}
+use Rattle.gql_print_laws.specs.bridge.Said.{Text, text_of, forest_at}
+use Rattle.gql_print_laws.specs.Written.{IsConstant}
+use Rattle.gql_print_laws.specs.bridge.Written.{content_said}
 use Rattle.gql_print_laws.proofs.Meaning.{means}
 use Rattle.gql_print_laws.proofs.Texts.{text_is_written}
 use Rattle.gql_print_laws.proofs.Standing.{Only, Means}

@@ -1,6 +1,5 @@
 pub mod Literal
 pub mod ReadBack
-pub mod Said
 pub mod Written
 pub mod Plain
 pub mod Depth
@@ -9,3 +8,4 @@ pub mod Told
 pub mod Printable
 pub mod Forms
 pub mod Examples
+pub mod bridge

@@ -4,7 +4,7 @@ use Rattle.jb_text.specs.declared.refused.Refused.{Refused}
 use Rattle.jb_text.specs.declared.refused.Refused.TheVariants.{Fault, Memory}
 use Rattle.gql_schema_types.specs.declared.types.ObjectType.{ObjectType}
 use Rattle.gql_resolvers.specs.Resolved.{Misfit as Wrong}
-use Rattle.gql_resolvers.specs.Seen.{Refuses, IsFitOf}
+use Rattle.gql_resolvers.specs.bridge.Seen.{Refuses, IsFitOf}
 use Rattle.gql_resolvers.specs.declared.misfit.Misfit.{Misfit}
 
 pub refused : (object : Option ObjectType) (wanted : Option Wrong) (wrong : Wrong) (result : Result (Bor ObjectType) (Refused Misfit))

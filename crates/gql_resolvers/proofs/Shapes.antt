@@ -15,7 +15,8 @@ use Rattle.gql_ast_base.specs.declared.type_ref.TypeRef.TheOpen.{TypeRef-F}
 use Rattle.gql_ast_base.specs.TypeParts.{item_level}
 use Rattle.gql_resolvers.specs.Resolved.{Meaning, answer_then}
 use Rattle.gql_resolvers.specs.Data.{Data}
-use Rattle.gql_resolvers.specs.DataMeaning.{failure_text, text_member, unless_failed, shaped_items, list_or_leaf, object_or_leaf, shape_level, shaped, unfailed_level, unfailed_at, unfailed, composite_name, value_of}
+use Rattle.gql_resolvers.specs.DataMeaning.{failure_text, text_member, unless_failed, shaped_items, list_or_leaf, object_or_leaf, shape_level, shaped, unfailed_level, composite_name, value_of}
+use Rattle.gql_resolvers.specs.bridge.DataMeaning.{unfailed_at, unfailed}
 use Rattle.gql_schema_types.specs.Schemas.{type_named}
 use Rattle.gql_resolvers.specs.Meaning.{item_by, meanings_by, itself}
 use Rattle.gql_resolvers.specs.declared.resolve_error.FieldError.{FieldError}

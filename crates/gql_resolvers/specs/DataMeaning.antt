@@ -17,7 +17,6 @@ use Rattle.gql_schema_types.specs.declared.schema.Schema.{Schema}
 use Rattle.gql_schema_types.specs.declared.types.ExtendedType.{ExtendedType}
 use Rattle.gql_schema_types.specs.declared.types.ObjectType.{ObjectType}
 use Rattle.gql_resolvers.specs.Resolved.{Meaning, Meanings, gives_leaf, gives_object, gives_list, fails_with, no_answer, answer_then}
-use Rattle.gql_ast_base.specs.TypeParts.{item_type}
 use Rattle.gql_resolvers.specs.Data.{Data}
 use Rattle.gql_resolvers.specs.Meaning.{Members}
 use Rattle.gql_resolvers.specs.NamedTypes.{type_named_by_field}
@@ -67,14 +66,6 @@ module _ (composite : Option Named) where
   -- a value at a type, whose name within all lists is that of an object, an interface or a union type where it is given
   abbrev pub shaped : TypeRef → Value → Meaning Data
   shaped = fold-TypeRef (Value → Meaning Data) shape_level
-
-  abbrev pub unfailed_at : Option TypeRef → Value → Meaning Data
-  unfailed_at (Some item) value = list_or_leaf (shaped item) value (array_items value)
-  unfailed_at None value = object_or_leaf composite value (object_members value)
-
-  -- the same of a value that is no failure
-  abbrev pub unfailed : TypeRef → Value → Meaning Data
-  unfailed ty value = unfailed_at (item_type ty) value
 
 abbrev pub is_composite_type : Option ExtendedType → Bool
 is_composite_type found = option_map_or is_composite found false

@@ -15,7 +15,6 @@ pub mod Along
 pub mod Lists
 pub mod Messages
 pub mod Fit
-pub mod Seen
 pub mod NamedTypes
 pub mod Meaning
 pub mod Objects
@@ -24,4 +23,4 @@ pub mod UnknownField
 pub mod Data
 pub mod DataName
 pub mod DataMeaning
-pub mod DataShape
+pub mod bridge

@@ -49,8 +49,3 @@ abbrev pub Answers : {O X : Type 0} → (O → X) → Result (ResolvedValue O) R
 Answers see (Ok resolved) meaning = meaning ≡ meaning_by see resolved
 Answers see (Err (Field error)) meaning = meaning ≡ fails_with error.message
 Answers see (Err Memory) meaning = Unit {0}
-
--- a failure with this text, or out of memory
-abbrev pub IsFailure : ResolveError → List ℕ → Type 0
-IsFailure (Field error) text = error.message ≡ text
-IsFailure Memory text = Unit {0}

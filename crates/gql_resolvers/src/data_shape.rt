@@ -4,9 +4,11 @@ ghost use Rattle.std.specs.Prelude.{◌≡◌, IfOk};
 ghost use Rattle.std.specs.Option.{option_copied};
 ghost use Rattle.jb_tree.specs.Value.{array_items, object_members};
 ghost use Rattle.gql_resolvers.specs.Resolved.{gives_leaf, gives_list};
-ghost use Rattle.gql_resolvers.specs.Meaning.{Answers, IsFailure, item_by, itself};
+ghost use Rattle.gql_resolvers.specs.Meaning.{Answers, item_by, itself};
+ghost use Rattle.gql_resolvers.specs.bridge.Meaning.{IsFailure};
 ghost use Rattle.gql_resolvers.specs.DataMeaning as spec;
-ghost use Rattle.gql_resolvers.specs.DataShape.{composite_of};
+ghost use Rattle.gql_resolvers.specs.bridge.DataMeaning as spec_bridge;
+ghost use Rattle.gql_resolvers.specs.bridge.DataShape.{composite_of};
 ghost use Rattle.gql_resolvers.specs.DataName.{name_of};
 
 use crate::data_object::{DataObject, ObjectName};
@@ -54,7 +56,7 @@ impl<'t> DataShape<'t> {
         ty: &TypeRef,
         value: &'d Value,
     ) -> Result<ResolvedValue<DataObject<'d>>, ResolveError>
-        ensures { Answers itself result (spec.unfailed (composite_of self.now) ty.now value.now) }
+        ensures { Answers itself result (spec_bridge.unfailed (composite_of self.now) ty.now value.now) }
     {
         match ty.item_type() {
             Some(item) => self.list_or_leaf(item, value),

@@ -4,7 +4,7 @@ ghost use Rattle.std.specs.Prelude.{◌≡◌, IfOk};
 ghost use Rattle.std.specs.Option.{option_copied};
 ghost use Rattle.gql_schema_types.specs.Schemas.{type_named};
 ghost use Rattle.gql_resolvers.specs.Fit as spec;
-ghost use Rattle.gql_resolvers.specs.Seen.{misfit_seen, IsFitOfObject, IsFitAt, IsFitOf};
+ghost use Rattle.gql_resolvers.specs.bridge.Seen.{misfit_seen, IsFitOfObject, IsFitAt, IsFitOf};
 
 use crate::messages::{
     input_object_type, list_at_other, no_implementer, no_member, object_at_leaf,

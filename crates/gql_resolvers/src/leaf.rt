@@ -3,7 +3,7 @@
 ghost use Rattle.std.specs.Prelude.{◌≡◌, IfOk};
 ghost use Rattle.std.specs.Option.{option_copied};
 ghost use Rattle.gql_resolvers.specs.Fit as spec;
-ghost use Rattle.gql_resolvers.specs.Seen.{misfit_seen};
+ghost use Rattle.gql_resolvers.specs.bridge.Seen.{misfit_seen};
 
 use crate::messages::{
     input_object_type, leaf_at_composite, null_at_non_null, other_at_list, undefined_type,

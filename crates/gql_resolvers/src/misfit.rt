@@ -1,7 +1,7 @@
 //! What is wrong with an answer of a resolver.
 
 ghost use Rattle.std.specs.Prelude.{◌≡◌, ℕ, List, IfOk, Some};
-ghost use Rattle.gql_resolvers.specs.Seen.{misfit_seen, Refuses};
+ghost use Rattle.gql_resolvers.specs.bridge.Seen.{misfit_seen, Refuses};
 ghost use Rattle.gql_resolvers.specs.Fit as spec;
 
 use jb_text::{Memory, Refused, Text};

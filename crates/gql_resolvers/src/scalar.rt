@@ -3,7 +3,7 @@
 ghost use Rattle.std.specs.Prelude.{◌≡◌, IfOk};
 ghost use Rattle.gql_coerce.specs.Scalars as spec;
 ghost use Rattle.gql_resolvers.specs.Fit.{scalar_misfit, enum_misfit};
-ghost use Rattle.gql_resolvers.specs.Seen.{misfit_seen};
+ghost use Rattle.gql_resolvers.specs.bridge.Seen.{misfit_seen};
 
 use crate::messages::{other_enum, other_leaf, overflowing_leaf};
 use crate::misfit::{Misfit, wrong};

@@ -6,7 +6,7 @@ use Rattle.gql_response.specs.Response.{Member, error_value, list_member}
 use Rattle.jb_tree.specs.declared.value.Value.{Value, String, Array, Object, the_lemmas}
 use Rattle.jb_print.specs.Compact.{compact}
 use Rattle.jb_print.specs.Quoted.{quoted, escaped}
-use Rattle.jb_print.specs.Pieces.{pieces_text, member_piece}
+use Rattle.jb_print.specs.bridge.Pieces.{pieces_text, member_piece}
 use Rattle.jb_print.proofs.Compacts.{compact-Object}
 
 pub compact-String : (text : List ℕ) → compact (String text) ≡ quoted text

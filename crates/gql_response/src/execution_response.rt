@@ -1,7 +1,7 @@
 //! Responses: what an execution gives.
 
 ghost use Rattle.std.specs.Prelude.{◌≡◌, ◌++◌, ◌∷◌, [], false, List, Option, map, codes, IfOk, OnOk, string_bytes};
-ghost use Rattle.jb_print.specs.Pieces.{pieces_text, member_piece};
+ghost use Rattle.jb_print.specs.bridge.Pieces.{pieces_text, member_piece};
 ghost use Rattle.jb_print.specs.Compact.{compact};
 ghost use Rattle.jb_shape.specs.Outcome.{Answers};
 ghost use Rattle.gql_response.specs.Response.{Member, data_value, error_value, list_member, refusal_value, response_value};

@@ -5,7 +5,7 @@ ghost use Rattle.jb_tree.specs.declared.value.Value.{Value as JsonValue};
 ghost use Rattle.jb_tree.specs.declared.value.Value.TheVariants as json;
 ghost use Rattle.jb_print.specs.Compact.{compact};
 ghost use Rattle.jb_print.specs.Quoted.{quoted};
-ghost use Rattle.jb_print.specs.Pieces.{comma_after, pieces_text, member_piece};
+ghost use Rattle.jb_print.specs.bridge.Pieces.{comma_after, pieces_text, member_piece};
 ghost use Rattle.gql_response.specs.Response.{list_member, object_member};
 
 use jb_print::{append_object, append_string, append_value};

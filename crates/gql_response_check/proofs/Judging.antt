@@ -5,7 +5,8 @@ use Rattle.gql_collect.specs.Groups.{SameGroups, applying}
 use Rattle.gql_collect.specs.declared.group.Group.{Group as FieldsOfKey}
 use Rattle.gql_document_types.specs.Ranks.{AreRanked}
 use Rattle.gql_document_types.specs.declared.selection.Selection.{Selection}
-use Rattle.gql_exec.specs.Executing.{Resolving, request_of}
+use Rattle.gql_exec.specs.Executing.{Resolving}
+use Rattle.gql_exec.specs.bridge.Executing.{request_of}
 use Rattle.gql_exec.specs.Group.{Group}
 use Rattle.gql_exec.specs.Nesting.{nesting}
 use Rattle.gql_exec.specs.Request.{Request}
@@ -28,9 +29,9 @@ use Rattle.gql_checker_laws.proofs.AlikeFound.{views-keys, views-walk}
 use Rattle.gql_checker_laws.proofs.Finding.{found-as}
 use Rattle.gql_checker_laws.proofs.Judged.{judged}
 use Rattle.gql_checker_laws.proofs.Matching.{keys-given}
-use Rattle.gql_response_check.specs.Finds.{FindsParts}
+use Rattle.gql_response_check.specs.bridge.Finds.{FindsParts}
 use Rattle.gql_response_check.specs.Verdict.{IsVerdictOn, verdict_of}
-use Rattle.gql_response_check.specs.Views.{findings_of}
+use Rattle.gql_response_check.specs.bridge.Views.{findings_of}
 use Rattle.gql_response_check.specs.declared.findings.Findings.{Findings}
 use Rattle.gql_response_check.specs.declared.verdict.Verdict.{Verdict}
 

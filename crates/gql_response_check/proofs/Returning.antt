@@ -10,9 +10,10 @@ use Rattle.gql_collect.specs.Grouping.{groups_seen}
 use Rattle.gql_collect.specs.Groups.{SameGroups, applying, response_name}
 use Rattle.gql_collect.specs.declared.group.Group.{Group as FieldsOfKey}
 use Rattle.gql_document_types.specs.declared.selection.Selection.{Selection}
-use Rattle.gql_exec.specs.Asking.{outcome_of}
+use Rattle.gql_exec.specs.bridge.Asking.{outcome_of}
 use Rattle.gql_exec.specs.Asks as asks
-use Rattle.gql_exec.specs.Executing.{Resolving, request_of, world_of}
+use Rattle.gql_exec.specs.Executing.{Resolving}
+use Rattle.gql_exec.specs.bridge.Executing.{request_of, world_of}
 use Rattle.gql_exec.specs.Group.{Group}
 use Rattle.gql_exec.specs.RequestWorld.{setting_on}
 use Rattle.gql_exec.specs.declared.asking.Asked.{Asked}
@@ -40,8 +41,8 @@ use Rattle.gql_checker_laws.specs.Told.{any_told, told_numbers}
 use Rattle.gql_checker_laws.proofs.Ending.{idle-none, idle-not, outcome-fault, outcome-place, place-leaf, place-misfit, place-object, place-skip}
 use Rattle.gql_checker_laws.proofs.Finding.{found-as, found-nothing, found-told}
 use Rattle.gql_checker_laws.proofs.Inside.{list-found, typed-found}
-use Rattle.gql_response_check.specs.Finds.{FindsAnswer, FindsFault, FindsField, FindsItem, FindsItems, FindsMembers, FindsOwn, FindsParts}
-use Rattle.gql_response_check.specs.Views.{claims_in, findings_of, value_in}
+use Rattle.gql_response_check.specs.bridge.Finds.{FindsAnswer, FindsFault, FindsField, FindsItem, FindsItems, FindsMembers, FindsOwn, FindsParts}
+use Rattle.gql_response_check.specs.bridge.Views.{claims_in, findings_of, value_in}
 use Rattle.gql_response_check.specs.declared.findings.Findings.{Findings}
 use Rattle.gql_response_check.specs.declared.reported.Reported.{Reported}
 

@@ -1,4 +1,2 @@
-pub mod Views
-pub mod Finds
-pub mod Shares
 pub mod Verdict
+pub mod bridge

@@ -3,11 +3,11 @@
 ghost use Rattle.std.specs.Prelude.{◌≡◌, ◌&&◌, IfOk, OnOk};
 ghost use Rattle.gql_resolvers.specs.Fault.{told_at};
 ghost use Rattle.gql_resolvers.specs.Resolved.{fails_with, gives_leaf, gives_skip};
-ghost use Rattle.gql_resolvers.specs.Seen.{seen};
+ghost use Rattle.gql_resolvers.specs.bridge.Seen.{seen};
 ghost use Rattle.gql_exec.specs.Asks.{fault_of};
-ghost use Rattle.gql_exec.specs.Trails.{IsNamed, spot_of};
-ghost use Rattle.gql_response_check.specs.Finds.{FindsAnswer, FindsFault, FindsOwn, NotesValue};
-ghost use Rattle.gql_response_check.specs.Views.{fault_in};
+ghost use Rattle.gql_exec.specs.bridge.Trails.{IsNamed, spot_of};
+ghost use Rattle.gql_response_check.specs.bridge.Finds.{FindsAnswer, FindsFault, FindsOwn, NotesValue};
+ghost use Rattle.gql_response_check.specs.bridge.Views.{fault_in};
 
 use crate::error_at_place::tell_fault;
 use crate::findings::Findings;

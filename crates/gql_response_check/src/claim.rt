@@ -2,7 +2,7 @@
 
 ghost use Rattle.std.specs.Prelude.{◌≡◌, IfOk};
 ghost use Rattle.gql_checker_laws.specs.Claims.{claims_from};
-ghost use Rattle.gql_response_check.specs.Views.{claims_of};
+ghost use Rattle.gql_response_check.specs.bridge.Views.{claims_of};
 
 use gql_response::{GraphQLError, ResponseDataPathSegment};
 use jb_text::{Listed, Memory};

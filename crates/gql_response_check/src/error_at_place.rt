@@ -6,7 +6,7 @@ ghost use Rattle.gql_source.specs.File.{Files};
 ghost use Rattle.gql_checker_laws.specs.Shows as spec;
 ghost use Rattle.gql_checker_laws.specs.Findings.{with_all_told};
 ghost use Rattle.gql_checker_laws.specs.Told.{any_told, is_told, told_numbers};
-ghost use Rattle.gql_response_check.specs.Views.{claim_of, claims_of, fault_in, findings_of};
+ghost use Rattle.gql_response_check.specs.bridge.Views.{claim_of, claims_of, fault_in, findings_of};
 
 use crate::claim::Claim;
 use crate::findings::Findings;

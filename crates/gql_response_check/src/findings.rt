@@ -3,7 +3,7 @@
 ghost use Rattle.std.specs.Prelude.{◌≡◌, ◌||◌, IfOk, Some};
 ghost use Rattle.gql_checker_laws.specs.Claims.{first_missing, first_of};
 ghost use Rattle.gql_checker_laws.specs.Findings.{none_yet, with_told};
-ghost use Rattle.gql_response_check.specs.Views.{findings_of};
+ghost use Rattle.gql_response_check.specs.bridge.Views.{findings_of};
 
 use gql_response::ResponseDataPathSegment;
 use jb_text::{Listed, Memory};

@@ -3,7 +3,7 @@
 ghost use Rattle.std.specs.Prelude.{◌≡◌, IfOk};
 ghost use Rattle.gql_resolvers.specs.Spot.{trail};
 ghost use Rattle.gql_resolvers.specs.Trail.{path_of};
-ghost use Rattle.gql_exec.specs.Trails.{segment_of, spot_of, trail_of};
+ghost use Rattle.gql_exec.specs.bridge.Trails.{segment_of, spot_of, trail_of};
 
 use gql_ast_base::Copying;
 use gql_exec::{Path, Place, Step};

@@ -5,7 +5,7 @@ ghost use Rattle.std.specs.Option.{option_copied, option_map_or};
 ghost use Rattle.std.specs.Str.{bytes_eq};
 ghost use Rattle.gql_collect.specs.Plan.{group_in, groups_in};
 ghost use Rattle.gql_checker_laws.specs.Reported as spec;
-ghost use Rattle.gql_response_check.specs.Views.{claims_in, is_bad, value_in};
+ghost use Rattle.gql_response_check.specs.bridge.Views.{claims_in, is_bad, value_in};
 
 use crate::claim::Claim;
 use gql_collect::Part;

@@ -4,8 +4,8 @@ ghost use Rattle.std.specs.Prelude.{◌≡◌, ◌<◌, ℕ, List, [], ◌++◌,
 ghost use Rattle.gql_checker_laws.specs.Shares.{added};
 ghost use Rattle.gql_response.specs.declared.path.ResponseDataPathSegment.TheVariants.{ListIndex};
 ghost use Rattle.gql_checker_laws.specs.Claims.{share_one};
-ghost use Rattle.gql_response_check.specs.Shares as spec;
-ghost use Rattle.gql_response_check.specs.Views.{claim_of, claims_of};
+ghost use Rattle.gql_response_check.specs.bridge.Shares as spec;
+ghost use Rattle.gql_response_check.specs.bridge.Views.{claim_of, claims_of};
 
 use crate::claim::Claim;
 use gql_ast_base::Name;

@@ -8,12 +8,14 @@ ghost use Rattle.gql_document_types.specs.declared.selection.Selection.{Selectio
 ghost use Rattle.gql_resolvers.specs.Lists.{is_list};
 ghost use Rattle.gql_resolvers.specs.Meaning.{item_by, meaning_by, meanings_by};
 ghost use Rattle.gql_resolvers.specs.Resolved.{gives_list, gives_object};
-ghost use Rattle.gql_collect.specs.Plan.{AreNodes, ArePartsOf, HaveNodes, IsPlanned, IsTyped, fields_in, groups_in, sets_below};
-ghost use Rattle.gql_exec.specs.Planning.{ground_in};
-ghost use Rattle.gql_exec.specs.Trails.{IsNamed, group_of, spot_of, trail_of};
+ghost use Rattle.gql_collect.specs.Plan.{fields_in, groups_in};
+ghost use Rattle.gql_collect.specs.bridge.Plan.{AreNodes, ArePartsOf, HaveNodes, IsPlanned, IsTyped, sets_below};
+ghost use Rattle.gql_exec.specs.bridge.Planning.{ground_in};
+ghost use Rattle.gql_exec.specs.Trails.{group_of};
+ghost use Rattle.gql_exec.specs.bridge.Trails.{IsNamed, spot_of, trail_of};
 ghost use Rattle.gql_schema_types.specs.Schemas.{field_of};
-ghost use Rattle.gql_response_check.specs.Finds.{FindsAnswer, FindsField, FindsItem, FindsItems, FindsMembers, FindsParts};
-ghost use Rattle.gql_response_check.specs.Views.{claims_of};
+ghost use Rattle.gql_response_check.specs.bridge.Finds.{FindsAnswer, FindsField, FindsItem, FindsItems, FindsMembers, FindsParts};
+ghost use Rattle.gql_response_check.specs.bridge.Views.{claims_of};
 
 use crate::claim::Claim;
 use crate::findings::{Findings, either};

@@ -15,8 +15,9 @@ use Rattle.gql_rounds.specs.Table.{Table}
 use Rattle.gql_rounds.specs.Asked.{AreAsked}
 use Rattle.gql_rounds.specs.Wanted.{request_by_table}
 use Rattle.gql_rounds.specs.declared.ask.Ask.{Ask}
-use Rattle.gql_rounds.specs.Ready.{FindsCalled, FindsReady, IsReadyBy}
-use Rattle.gql_rounds.specs.Rounds.{AreAskedOf, AsksNothing, GivesToldAnswer}
+use Rattle.gql_rounds.specs.bridge.Ready.{FindsCalled, FindsReady, IsReadyBy}
+use Rattle.gql_rounds.specs.Rounds.{AreAskedOf, GivesToldAnswer}
+use Rattle.gql_rounds.specs.bridge.Rounds.{AsksNothing}
 use Rattle.gql_rounds.specs.declared.ready.Ready.{Ready as ReadyHere}
 
 -- what is answered is valid, so nothing is asked

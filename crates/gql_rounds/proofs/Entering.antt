@@ -8,8 +8,9 @@ use Rattle.gql_resolvers.specs.declared.resolve_error.FieldError.{FieldError}
 use Rattle.gql_resolvers.specs.declared.resolved_value.ResolvedValue.{ResolvedValue}
 use Rattle.gql_rounds.specs.Known.{entity_of}
 use Rattle.gql_rounds.specs.Levels.{all_given, given}
-use Rattle.gql_rounds.specs.Walked.{known_in}
-use Rattle.gql_rounds.specs.Wanted.{KnownStand, KnownWorld}
+use Rattle.gql_rounds.specs.bridge.Walked.{known_in}
+use Rattle.gql_rounds.specs.Wanted.{KnownStand}
+use Rattle.gql_rounds.specs.bridge.Wanted.{KnownWorld}
 use Rattle.gql_rounds.specs.declared.told.Told.{Told}
 
 abbrev pub Items : Type 0

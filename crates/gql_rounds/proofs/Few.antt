@@ -16,7 +16,8 @@ use Rattle.gql_rounds.specs.Known.{Known}
 use Rattle.gql_rounds.specs.Levels.{below_group, below_groups, below_stand, below_stands, level}
 use Rattle.gql_rounds.specs.Table.{Table}
 use Rattle.gql_rounds.specs.Telling.{IsNextRound, LacksNothing, Subject}
-use Rattle.gql_rounds.specs.Wanted.{KnownStand, KnownWorld, root_stand, wanted, wanted_by_groups}
+use Rattle.gql_rounds.specs.Wanted.{KnownStand, root_stand, wanted, wanted_by_groups}
+use Rattle.gql_rounds.specs.bridge.Wanted.{KnownWorld}
 use Rattle.gql_rounds.proofs.Noted.{Entries, all-append}
 use Rattle.gql_rounds.proofs.Rounds.{no-more}
 use Rattle.gql_rounds.proofs.TwoTables.{deeper}

@@ -3,9 +3,9 @@ use Rattle.std.proofs.Common.{◌≡◌, Bool, false, if◌then◌else◌, List,
 use Rattle.std.proofs.lemmas.List.{append-nil}
 use Rattle.gql_ast_base.specs.declared.type_ref.TypeRef.{TypeRef}
 use Rattle.gql_ast.specs.declared.field_definition.FieldDefinition.{FieldDefinition}
-use Rattle.gql_exec.specs.Asking.{outcome_of}
+use Rattle.gql_exec.specs.bridge.Asking.{outcome_of}
 use Rattle.gql_exec.specs.Asks.{asks, definition_on}
-use Rattle.gql_exec.specs.Executing.{request_of as executed}
+use Rattle.gql_exec.specs.bridge.Executing.{request_of as executed}
 use Rattle.gql_exec.specs.Group.{Group}
 use Rattle.gql_exec.specs.Request.{Request}
 use Rattle.gql_exec.specs.RequestWorld.{plain_world}
@@ -19,7 +19,8 @@ use Rattle.gql_rounds.specs.Levels.{below_group, brought, given}
 use Rattle.gql_rounds.specs.Table.{Table}
 use Rattle.gql_rounds.specs.ToldMeaning.{told}
 use Rattle.gql_rounds.specs.Walked.{request_in}
-use Rattle.gql_rounds.specs.Wanted.{KnownStand, KnownWorld, all_noted, ask_for, is_left_out, is_skip, wanted_by_group}
+use Rattle.gql_rounds.specs.Wanted.{KnownStand, ask_for, is_left_out, is_skip, wanted_by_group}
+use Rattle.gql_rounds.specs.bridge.Wanted.{KnownWorld, all_noted}
 use Rattle.gql_rounds.specs.declared.told.Told.{Told}
 use Rattle.gql_rounds.proofs.Meanings.{asks-known, known_outcome}
 use Rattle.gql_rounds.proofs.Noted.{Entries}

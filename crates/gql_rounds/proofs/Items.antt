@@ -2,7 +2,7 @@
 use Rattle.std.proofs.Common.{◌≡◌, ℕ, true, false, List, Option, Some, None, is_some, sym}
 use Rattle.std.specs.Option.{option_map}
 use Rattle.jb_tree.specs.declared.value.Value.{Value}
-use Rattle.gql_rounds.specs.Told.{seen}
+use Rattle.gql_rounds.specs.bridge.Told.{seen}
 use Rattle.gql_rounds.specs.declared.answers_json.Answer.{Answer}
 
 -- where the code finds no answer there is none

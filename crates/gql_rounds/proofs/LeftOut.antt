@@ -22,7 +22,8 @@ use Rattle.gql_schema_types.specs.declared.types.ObjectType.{ObjectType}
 use Rattle.gql_rounds.specs.Key.{key}
 use Rattle.gql_rounds.specs.Known.{Known}
 use Rattle.gql_rounds.specs.Table.{Table}
-use Rattle.gql_rounds.specs.ToldMeaning.{known_or_leaf, list_or_leaf, object_or_leaf, told_by, told_or_skip, told_value, unfailed, unfailed_at, unless_failed, value_at}
+use Rattle.gql_rounds.specs.ToldMeaning.{known_or_leaf, list_or_leaf, object_or_leaf, told_by, told_or_skip, told_value, unless_failed, value_at}
+use Rattle.gql_rounds.specs.bridge.ToldMeaning.{unfailed, unfailed_at}
 use Rattle.gql_rounds.specs.Wanted.{ask_for, ask_with, is_left_out, is_skip, request_by_table}
 use Rattle.gql_rounds.proofs.Values.{told-value-is}
 

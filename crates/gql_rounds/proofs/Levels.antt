@@ -7,8 +7,9 @@ use Rattle.gql_exec.specs.declared.executing.Executing.{Executing}
 use Rattle.gql_schema_types.specs.declared.types.ObjectType.{ObjectType}
 use Rattle.gql_rounds.specs.Known.{Known}
 use Rattle.gql_rounds.specs.Levels.{below_stands, level}
-use Rattle.gql_rounds.specs.Walked.{AreWithin, Grows, SameStands}
-use Rattle.gql_rounds.specs.Wanted.{KnownStand, KnownWorld, all_noted, root_stand, wanted, wanted_above}
+use Rattle.gql_rounds.specs.bridge.Walked.{AreWithin, Grows, SameStands}
+use Rattle.gql_rounds.specs.Wanted.{KnownStand, root_stand, wanted}
+use Rattle.gql_rounds.specs.bridge.Wanted.{KnownWorld, all_noted, wanted_above}
 use Rattle.gql_rounds.proofs.Noted.{Entries, noted-append}
 use Rattle.gql_rounds.proofs.Same.{same-refl, same-trans, stands-same, wanted-stands}
 

@@ -16,7 +16,7 @@ use Rattle.gql_schema_types.specs.declared.types.ObjectType.{ObjectType}
 use Rattle.gql_rounds.specs.Known.{Entity, Known, beside, type_of_entity}
 use Rattle.gql_rounds.specs.Table.{Table}
 use Rattle.gql_rounds.specs.ToldMeaning.{told, told_by}
-use Rattle.gql_rounds.specs.Walked.{known_in}
+use Rattle.gql_rounds.specs.bridge.Walked.{known_in}
 use Rattle.gql_rounds.specs.Wanted.{request_by_table}
 
 mutual

@@ -6,7 +6,8 @@ use Rattle.std.specs.Str.{bytes_eq}
 use Rattle.std.proofs.lemmas.Slice.Eq.{bytes_eq-Decides}
 use Rattle.gql_rounds.specs.Asked.{IsOneOf}
 use Rattle.gql_rounds.specs.Table.{has_key, with_answer}
-use Rattle.gql_rounds.specs.Wanted.{all_noted, key_of, noted}
+use Rattle.gql_rounds.specs.Wanted.{key_of}
+use Rattle.gql_rounds.specs.bridge.Wanted.{all_noted, noted}
 use Rattle.gql_rounds.specs.declared.ask.Ask.{Ask}
 
 abbrev pub Entries : Type 0

@@ -15,7 +15,7 @@ use Rattle.gql_parser.specs.SchemaText.{SchemaText}
 use Rattle.gql_resolvers.specs.Meaning.{Members}
 use Rattle.gql_response.specs.declared.request_error.RequestError.{RequestError}
 use Rattle.gql_schema_types.specs.declared.schema.Schema.{Schema}
-use Rattle.gql_rounds.specs.Ready.{FindsOperation, FindsReady, IsPassed}
+use Rattle.gql_rounds.specs.bridge.Ready.{FindsOperation, FindsReady, IsPassed}
 use Rattle.gql_rounds.specs.declared.ready.Ready.{Ready as ReadyHere}
 
 -- the same over this schema and this document

@@ -8,11 +8,13 @@ use Rattle.gql_document_types.specs.declared.selection.Selection.{Selection}
 use Rattle.gql_exec.specs.Request.{Request}
 use Rattle.gql_exec.specs.RequestWorld.{plain_world}
 use Rattle.gql_schema_types.specs.declared.types.ObjectType.{ObjectType}
-use Rattle.gql_rounds.specs.Asked.{AreAsked, AreFound, IsOneOf, IsWanted, wanted_on}
+use Rattle.gql_rounds.specs.Asked.{AreAsked, IsOneOf, IsWanted, wanted_on}
+use Rattle.gql_rounds.specs.bridge.Asked.{AreFound}
 use Rattle.gql_rounds.specs.Known.{Known}
 use Rattle.gql_rounds.specs.Levels.{below_stands, level}
 use Rattle.gql_rounds.specs.Table.{has_key}
-use Rattle.gql_rounds.specs.Wanted.{KnownStand, KnownWorld, key_of, root_stand, wanted, wanted_above}
+use Rattle.gql_rounds.specs.Wanted.{KnownStand, key_of, root_stand, wanted}
+use Rattle.gql_rounds.specs.bridge.Wanted.{KnownWorld, wanted_above}
 use Rattle.gql_rounds.specs.declared.ask.Ask.{Ask}
 use Rattle.gql_rounds.proofs.Noted.{Entries, all-append, all-back, all-entries, all-front, all-own, all-there, all-weaker}
 

@@ -15,8 +15,9 @@ use Rattle.gql_resolvers.specs.Types.{item_type}
 use Rattle.gql_schema_types.specs.declared.types.ObjectType.{ObjectType}
 use Rattle.gql_rounds.specs.Known.{Known}
 use Rattle.gql_rounds.specs.Levels.{if_fits, typed, given, all_given, brought, below_group, below_groups, below_stand, below_stands}
-use Rattle.gql_rounds.specs.Walked.{SameStand, SameStands}
-use Rattle.gql_rounds.specs.Wanted.{KnownStand, KnownWorld, wanted, wanted_at, wanted_by_group, wanted_by_groups}
+use Rattle.gql_rounds.specs.bridge.Walked.{SameStand, SameStands}
+use Rattle.gql_rounds.specs.Wanted.{KnownStand, wanted, wanted_at, wanted_by_group, wanted_by_groups}
+use Rattle.gql_rounds.specs.bridge.Wanted.{KnownWorld}
 
 abbrev Sets : Type 0
 Sets = List (List Selection)

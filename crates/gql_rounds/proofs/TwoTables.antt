@@ -20,7 +20,8 @@ use Rattle.gql_rounds.specs.Known.{Known}
 use Rattle.gql_rounds.specs.Levels.{if_fits, given, all_given, brought, below_group, below_groups, below_stand, below_stands, level}
 use Rattle.gql_rounds.specs.Table.{Table, has_key}
 use Rattle.gql_rounds.specs.Telling.{TellsMore}
-use Rattle.gql_rounds.specs.Wanted.{KnownStand, KnownWorld, ask_for, is_left_out, key_of, wanted, wanted_at, wanted_by_group}
+use Rattle.gql_rounds.specs.Wanted.{KnownStand, ask_for, is_left_out, key_of, wanted, wanted_at, wanted_by_group}
+use Rattle.gql_rounds.specs.bridge.Wanted.{KnownWorld}
 use Rattle.gql_rounds.specs.declared.ask.Ask.{Ask}
 use Rattle.gql_rounds.proofs.LeftOut.{IsFixed, IsTheirs, by, found, left-out, theirs-asked, theirs-told, told_of, which}
 use Rattle.gql_rounds.proofs.Noted.{all-append, all-back, all-front, all-own, all-weaker}

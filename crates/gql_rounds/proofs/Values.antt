@@ -13,7 +13,8 @@ use Rattle.gql_resolvers.specs.declared.resolve_error.FieldError.{FieldError}
 use Rattle.gql_resolvers.specs.declared.resolved_value.ResolvedValue.{ResolvedValue}
 use Rattle.gql_rounds.specs.Known.{Entity, Known, beside, entity_of}
 use Rattle.gql_rounds.specs.Table.{Table}
-use Rattle.gql_rounds.specs.ToldMeaning.{told_items, told_level, told_value, unfailed, unfailed_at, unfailed_level, unless_failed}
+use Rattle.gql_rounds.specs.ToldMeaning.{told_items, told_level, told_value, unfailed_level, unless_failed}
+use Rattle.gql_rounds.specs.bridge.ToldMeaning.{unfailed, unfailed_at}
 use Rattle.gql_rounds.specs.declared.told.Told.{Told}
 
 module _ (composite : Bool) where

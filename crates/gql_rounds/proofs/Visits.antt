@@ -6,14 +6,15 @@ use Rattle.std.specs.List.{AllByRecursion}
 use Rattle.gql_ast_base.specs.declared.type_ref.TypeRef.{TypeRef}
 use Rattle.gql_collect.specs.Grouping.{groups_seen}
 use Rattle.gql_collect.specs.Groups.{SameGroups, applying}
-use Rattle.gql_collect.specs.Plan.{HaveNodes, IsWithin, group_in, groups_in, sets_below}
+use Rattle.gql_collect.specs.Plan.{group_in, groups_in}
+use Rattle.gql_collect.specs.bridge.Plan.{HaveNodes, IsWithin, sets_below}
 use Rattle.gql_collect.specs.declared.group.Group.{Group as FieldsOfKey}
 use Rattle.gql_collect.specs.declared.plan.Part.{Part}
 use Rattle.gql_document_types.specs.declared.selection.Selection.{Selection}
 use Rattle.gql_exec.proofs.Alike.{AreAlike, groups-alike}
 use Rattle.gql_exec.proofs.Views.{views, views-from}
 use Rattle.gql_exec.specs.Group.{Group}
-use Rattle.gql_exec.specs.Planning.{ground_in}
+use Rattle.gql_exec.specs.bridge.Planning.{ground_in}
 use Rattle.gql_exec.specs.Request.{Request}
 use Rattle.gql_exec.specs.RequestWorld.{plain_world, setting_on}
 use Rattle.gql_exec.specs.Trails.{group_of}
@@ -24,9 +25,10 @@ use Rattle.gql_resolvers.specs.Types.{item_type}
 use Rattle.gql_schema_types.specs.declared.types.ObjectType.{ObjectType}
 use Rattle.gql_rounds.specs.Known.{Known}
 use Rattle.gql_rounds.specs.Levels.{if_fits, typed, given, all_given, brought, below_group, below_groups, below_stand, below_stands}
-use Rattle.gql_rounds.specs.Walked.{AreWithin, Grows, SameStands, stand_of, stands_of}
+use Rattle.gql_rounds.specs.bridge.Walked.{AreWithin, Grows, SameStands, stand_of, stands_of}
 use Rattle.gql_rounds.specs.declared.walk.Visit.{Visit}
-use Rattle.gql_rounds.specs.Wanted.{KnownStand, KnownWorld, all_noted, wanted, wanted_at, wanted_by_group, wanted_by_groups}
+use Rattle.gql_rounds.specs.Wanted.{KnownStand, wanted, wanted_at, wanted_by_group, wanted_by_groups}
+use Rattle.gql_rounds.specs.bridge.Wanted.{KnownWorld, all_noted}
 use Rattle.gql_rounds.proofs.Noted.{Entries, all-append, noted-append}
 use Rattle.gql_rounds.proofs.Same.{groups-same, same-append, wanted-same}
 

@@ -10,7 +10,7 @@ use Rattle.gql_schema_types.specs.declared.types.ObjectType.{ObjectType}
 use Rattle.gql_rounds.specs.Known.{Known}
 use Rattle.gql_rounds.specs.Levels.{level}
 use Rattle.gql_rounds.specs.Table.{has_key}
-use Rattle.gql_rounds.specs.Wanted.{all_noted, key_of, root_stand, wanted, wanted_above}
+use Rattle.gql_rounds.specs.Wanted.{key_of, root_stand, wanted}
 use Rattle.gql_rounds.specs.declared.ask.Ask.{Ask}
 
 abbrev pub IsOneOf : {A : Type 0} → A → List A → Type 0
@@ -33,9 +33,3 @@ module _ (r : Request Known) (root : ObjectType) (selections : List Selection) w
     pub whole : (depth : ℕ) → AllByRecursion (λ (ask : Ask). has_key (key_of ask) asks ≡ true) (wanted_on depth)
     pub wanted : AllByRecursion IsWanted asks
     pub distinct : IsDistinct bytes_eq (keys_of asks)
-
-  -- noted level by level, down to one that is empty
-  pub record AreFound (asks : List (List ℕ × Ask)) : Type 0 where
-    pub depth : ℕ
-    pub ends : level (plain_world r) (root_stand root selections) depth ≡ []
-    pub are : asks ≡ all_noted [] (wanted_above r (root_stand root selections) depth)

@@ -7,6 +7,6 @@ pub mod Wanted
 pub mod Asked
 pub mod Walked
 pub mod Telling
-pub mod Ready
 pub mod Rounds
 pub mod Told
+pub mod bridge

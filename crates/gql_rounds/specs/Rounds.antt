@@ -1,6 +1,6 @@
 -- What a step of a request gives.
-use Rattle.std.specs.Prelude.{◌≡◌, ◌≢◌, ℕ, List, [], Option, Some, None, Result, Ok, Err}
-use Rattle.gql_engine.specs.AnswerError.{Asks as AsksCall, Call, IsValid}
+use Rattle.std.specs.Prelude.{◌≢◌, ℕ, List, [], Result, Ok, Err}
+use Rattle.gql_engine.specs.AnswerError.{Asks as AsksCall, Call}
 use Rattle.gql_engine.specs.Answered.{IsRoot}
 use Rattle.gql_engine.specs.Answering.{GivesAnswer}
 use Rattle.gql_engine.specs.Ready.{Ready}
@@ -37,12 +37,3 @@ abbrev pub GivesRound : Table → Call → Result Round AnswerError → Type 0
 GivesRound table call (Ok (Asks asks)) = (asks ≢ []) × AsksCall call (λ wanted. AreAskedOf table wanted asks)
 GivesRound table call (Ok (Answer bytes)) = GivesToldAnswer table call (Ok bytes) × AsksCall call (λ wanted. AreAskedOf table wanted [])
 GivesRound table call (Err refusal) = GivesToldAnswer table call (Err refusal)
-
--- what is found asked: that, or that the call is not valid
-abbrev pub FindsAsks : Table → Call → Option (List (List ℕ × Ask)) → Type 0
-FindsAsks table call (Some asks) = AsksCall call (λ wanted. AreAskedOf table wanted asks)
-FindsAsks table call None = ¬ (IsValid call)
-
--- if the call is valid, nothing is asked
-abbrev pub AsksNothing : Table → Call → Type 0
-AsksNothing table call = IsValid call → AsksCall call (λ wanted. AreAskedOf table wanted [])

@@ -1,8 +1,6 @@
 -- The JSON of asks and of answers.
 use Rattle.std.specs.Prelude.{◌≡◌, ℕ, pos, List, [], ◌∷◌, map, take, Option, Some, None, option_and_then, IsSome, slice_get, codes}
-use Rattle.std.specs.Borrow.{Bor}
 use Rattle.std.specs.List.{AllByRecursion}
-use Rattle.std.specs.Option.{option_map_or}
 use Rattle.std.specs.Map.{lookup, values_of}
 use Rattle.std.specs.Str.{bytes_eq}
 use Rattle.jb_read.specs.Faults.{JsonFault}
@@ -18,7 +16,6 @@ use Rattle.gql_rounds.specs.Key.{key}
 use Rattle.gql_rounds.specs.Table.{Table, with_answer}
 use Rattle.gql_rounds.specs.ToldMeaning.{number_member}
 use Rattle.gql_rounds.specs.declared.ask.Ask.{Ask}
-use Rattle.gql_rounds.specs.declared.answers_json.Answer.{Answer}
 use Rattle.gql_rounds.specs.declared.answers_json.AnswersFault.{AnswersFault}
 use Rattle.gql_rounds.specs.declared.answers_json.AnswersFault.TheVariants.{Read, NotList, NotAnswer}
 
@@ -58,13 +55,6 @@ answer_of members =
 abbrev pub answer_in : Value → Option (List ℕ × Value)
 answer_in item = option_and_then answer_of (object_members item)
 
--- an answer as the code has it
-abbrev pub seen : Answer → List ℕ × Value
-seen answer = (key answer.object answer.field.now (option_map_or (λ (ms : Bor Members). ms.now) answer.arguments []), answer.value.now)
-
-abbrev pub arguments_seen : Option (Bor Members) → Members
-arguments_seen arguments = option_map_or (λ (ms : Bor Members). ms.now) arguments []
-
 abbrev pub IsAnswer : Value → Type 0
 IsAnswer item = IsSome (answer_in item)
 
@@ -102,12 +92,6 @@ pub record HasOther (text : List ℕ) (index : ℕ) : Type 0 where
   pub items : List Value
   pub read : JsonText text (json.Array items)
   pub first : IsFirstOther items index
-
-abbrev pub IsItemFault : List Value → Refused AnswersFault → Type 0
-IsItemFault items (Fault (NotAnswer index)) = IsFirstOther items index
-IsItemFault items (Fault (Read fault)) = ⊥
-IsItemFault items (Fault NotList) = ⊥
-IsItemFault items Memory = Unit {0}
 
 -- why a text tells no answers
 abbrev pub HasAnswersFault : List ℕ → Refused AnswersFault → Type 0

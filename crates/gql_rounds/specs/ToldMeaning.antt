@@ -4,7 +4,6 @@ use Rattle.std.specs.Map.{lookup}
 use Rattle.std.specs.Str.{bytes_eq}
 use Rattle.jb_tree.specs.declared.value.Value.{Value}
 use Rattle.jb_tree.specs.Value.{array_items, object_members, whole_number}
-use Rattle.gql_ast_base.specs.TypeParts.{item_type}
 use Rattle.gql_ast_base.specs.declared.type_ref.TypeRef.{TypeRef, fold-TypeRef}
 use Rattle.gql_ast_base.specs.declared.type_ref.TypeRef.TheOpen.{TypeRef-F}
 use Rattle.gql_ast.specs.declared.field_definition.FieldDefinition.{FieldDefinition}
@@ -67,14 +66,6 @@ module _ (composite : Bool) where
   -- a value at a type
   abbrev pub told_value : TypeRef → Value → Meaning Known
   told_value = fold-TypeRef (Value → Meaning Known) told_level
-
-  abbrev pub unfailed_at : Option TypeRef → Value → Meaning Known
-  unfailed_at (Some item) value = list_or_leaf (told_value item) value (array_items value)
-  unfailed_at None value = object_or_leaf composite value (object_members value)
-
-  -- the same of a value that is no failure
-  abbrev pub unfailed : TypeRef → Value → Meaning Known
-  unfailed ty value = unfailed_at (item_type ty) value
 
 -- a value at a field; where the type has no such field it is a leaf
 abbrev pub value_at : Schema → Option FieldDefinition → Value → Meaning Known

@@ -1,5 +1,5 @@
 -- What objects ask for that was not told.
-use Rattle.std.specs.Prelude.{ℕ, zero, suc, Bool, true, false, if◌then◌else◌, List, [], ◌∷◌, ◌++◌, Result, Ok, Err}
+use Rattle.std.specs.Prelude.{ℕ, Bool, true, false, if◌then◌else◌, List, [], ◌∷◌, Result, Ok, Err}
 use Rattle.std.specs.List.{flat_map}
 use Rattle.gql_coerce.specs.declared.told.ArgumentFault.{ArgumentFault}
 use Rattle.gql_document_types.specs.declared.document.ExecutableDocument.{ExecutableDocument}
@@ -11,13 +11,12 @@ use Rattle.gql_exec.specs.Group.{Group}
 use Rattle.gql_exec.specs.Request.{Members, Request}
 use Rattle.gql_exec.specs.RequestWorld.{plain_world}
 use Rattle.gql_resolvers.specs.Resolved.{Meaning, gives_leaf, gives_object, gives_list, gives_skip, fails_with, Outcome, answered, refused}
-use Rattle.gql_resolvers.specs.World.{World}
 use Rattle.gql_schema_types.specs.declared.schema.Schema.{Schema}
 use Rattle.gql_schema_types.specs.declared.types.ObjectType.{ObjectType}
 use Rattle.gql_rounds.specs.Key.{key}
 use Rattle.gql_rounds.specs.Known.{Known, type_of}
-use Rattle.gql_rounds.specs.Levels.{Stand, level}
-use Rattle.gql_rounds.specs.Table.{Table, with_answer}
+use Rattle.gql_rounds.specs.Levels.{Stand}
+use Rattle.gql_rounds.specs.Table.{Table}
 use Rattle.gql_rounds.specs.ToldMeaning.{told_by}
 use Rattle.gql_rounds.specs.declared.ask.Ask.{Ask}
 
@@ -36,9 +35,6 @@ is_left_out (refused fault) = false
 -- The request that the caller's objects answer by a table. Fields that tell of the schema are none of theirs.
 abbrev pub request_by_table : Schema → ExecutableDocument → Members → Table → Request Known
 request_by_table schema document variables table = request_by false schema document variables type_of (told_by table)
-
-abbrev pub KnownWorld : Type 0
-KnownWorld = World Known ObjectType Group (List (List Selection))
 
 abbrev pub KnownStand : Type 0
 KnownStand = Stand Known ObjectType (List (List Selection))
@@ -69,18 +65,5 @@ module _ (r : Request Known) where
   abbrev pub wanted : List KnownStand → List Ask
   wanted stands = flat_map wanted_at stands
 
-  -- at the levels above this one
-  abbrev pub wanted_above : KnownStand → ℕ → List Ask
-  wanted_above root zero = []
-  wanted_above root (suc n) = wanted_above root n ++ wanted (level (plain_world r) root n)
-
 abbrev pub key_of : Ask → List ℕ
 key_of ask = key ask.object ask.field ask.arguments
-
--- each once, by its key
-abbrev pub noted : List (List ℕ × Ask) → Ask → List (List ℕ × Ask)
-noted asks ask = with_answer asks (key_of ask) ask
-
-abbrev pub all_noted : List (List ℕ × Ask) → List Ask → List (List ℕ × Ask)
-all_noted asks [] = asks
-all_noted asks (ask ∷ more) = all_noted (noted asks ask) more

@@ -8,7 +8,8 @@ ghost use Rattle.std.specs.Str.{bytes_eq};
 ghost use Rattle.gql_rounds.specs.ToldMeaning.{number_member as object_number};
 ghost use Rattle.gql_resolvers.specs.DataMeaning.{text_member as member_text};
 ghost use Rattle.gql_rounds.specs.Told as spec;
-ghost use Rattle.gql_rounds.specs.Told.{HasAnswersFault, IsAnswer, IsFirstOther, IsItemFault, IsUnchanged, TellsAnswers, all_told, arguments_seen, seen, told_answer};
+ghost use Rattle.gql_rounds.specs.Told.{HasAnswersFault, IsAnswer, IsFirstOther, IsUnchanged, TellsAnswers, all_told, told_answer};
+ghost use Rattle.gql_rounds.specs.bridge.Told.{IsItemFault, arguments_seen, seen};
 
 use crate::Answers;
 use bytes::Bytes;

@@ -1,8 +1,10 @@
 //! What an operation asks for that was not told.
 
 ghost use Rattle.std.specs.Prelude.{◌≡◌, [], ◌∷◌, ℕ, false, IfOk};
-ghost use Rattle.gql_rounds.specs.Asked.{AreAsked, AreFound};
-ghost use Rattle.gql_rounds.specs.Walked.{request_in, stands_of};
+ghost use Rattle.gql_rounds.specs.Asked.{AreAsked};
+ghost use Rattle.gql_rounds.specs.bridge.Asked.{AreFound};
+ghost use Rattle.gql_rounds.specs.Walked.{request_in};
+ghost use Rattle.gql_rounds.specs.bridge.Walked.{stands_of};
 ghost use Rattle.gql_rounds.specs.Wanted.{root_stand};
 ghost use Rattle.gql_document_types.specs.Ranks.{AreRanked};
 ghost use Rattle.gql_document_types.specs.Spreads.{AreAcyclic};

@@ -7,7 +7,7 @@ ghost use Rattle.gql_engine.specs.Depths.{IsShallow};
 ghost use Rattle.gql_engine.specs.Service.{asked_of};
 ghost use Rattle.gql_parser.specs.DocumentText.{DocumentText as IsDocumentOfText};
 ghost use Rattle.gql_parser.specs.SchemaText.{SchemaText};
-ghost use Rattle.gql_rounds.specs.Ready.{FindsCalled, FindsOperation, FindsReady, IsPassed};
+ghost use Rattle.gql_rounds.specs.bridge.Ready.{FindsCalled, FindsOperation, FindsReady, IsPassed};
 
 use gql_collect::{Steps, check_max_depth, coerce_variable_values};
 use gql_document_types::{ExecutableDocument, Operation};

@@ -3,7 +3,8 @@
 ghost use Rattle.std.specs.Prelude.{◌≡◌, ◌<◌, IfOk};
 ghost use Rattle.gql_engine.specs.AtHand.{IsDocumentOver};
 ghost use Rattle.gql_engine.specs.Service.{asked_of};
-ghost use Rattle.gql_rounds.specs.Rounds.{AsksNothing, FindsAsks, GivesRound};
+ghost use Rattle.gql_rounds.specs.Rounds.{GivesRound};
+ghost use Rattle.gql_rounds.specs.bridge.Rounds.{AsksNothing, FindsAsks};
 
 use crate::ready::make_ready;
 use crate::round::Round;

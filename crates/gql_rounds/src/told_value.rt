@@ -5,9 +5,11 @@ ghost use Rattle.std.specs.Option.{option_copied};
 ghost use Rattle.jb_tree.specs.Value.{array_items, object_members};
 ghost use Rattle.gql_rounds.specs.Known.{beside, entity_of};
 ghost use Rattle.gql_rounds.specs.ToldMeaning as spec;
+ghost use Rattle.gql_rounds.specs.bridge.ToldMeaning as spec_bridge;
 ghost use Rattle.gql_exec.specs.Mapped.{all_mapped, mapped};
 ghost use Rattle.gql_resolvers.specs.DataMeaning.{failure_text as text_of_failure, text_member as member_text};
-ghost use Rattle.gql_resolvers.specs.Meaning.{Answers as Gives, IsFailure, item_by};
+ghost use Rattle.gql_resolvers.specs.Meaning.{Answers as Gives, item_by};
+ghost use Rattle.gql_resolvers.specs.bridge.Meaning.{IsFailure};
 ghost use Rattle.gql_resolvers.specs.Resolved.{gives_leaf, gives_list};
 
 use crate::answers::Answers;
@@ -58,7 +60,7 @@ impl<'t> ToldValue<'t> {
         ty: &TypeRef,
         value: &'t Value,
     ) -> Result<ResolvedValue<Told<'t>>, ResolveError>
-        ensures { Gives entity_of result (mapped (beside self.now.answers.now) (spec.unfailed self.now.composite ty.now value.now)) }
+        ensures { Gives entity_of result (mapped (beside self.now.answers.now) (spec_bridge.unfailed self.now.composite ty.now value.now)) }
     {
         match ty.item_type() {
             Some(item) => self.list_or_leaf(item, value),

@@ -2,10 +2,10 @@
 
 ghost use Rattle.std.specs.Prelude.{◌≡◌, ◌++◌, ℕ, false, true, if◌then◌else◌, List, [], is_some, IfOk, OnOk};
 ghost use Rattle.std.specs.Option.{option_copied};
-ghost use Rattle.gql_collect.specs.Plan.{IsPlanned, IsWithin};
+ghost use Rattle.gql_collect.specs.bridge.Plan.{IsPlanned, IsWithin};
 ghost use Rattle.gql_document_types.specs.Ranks.{AreRanked};
 ghost use Rattle.gql_exec.specs.Mapped.{all_mapped, mapped};
-ghost use Rattle.gql_exec.specs.Planning.{ground_in};
+ghost use Rattle.gql_exec.specs.bridge.Planning.{ground_in};
 ghost use Rattle.gql_exec.specs.Trails.{group_of};
 ghost use Rattle.gql_resolvers.specs.Meaning.{item_by, meanings_by};
 ghost use Rattle.gql_resolvers.specs.Resolved.{gives_list, gives_object};
@@ -13,8 +13,9 @@ ghost use Rattle.gql_resolvers.specs.Types as places;
 ghost use Rattle.gql_schema_types.specs.Schemas.{field_of, type_named};
 ghost use Rattle.gql_rounds.specs.Known.{entity_of};
 ghost use Rattle.gql_rounds.specs.Levels as levels;
-ghost use Rattle.gql_rounds.specs.Walked as spec;
+ghost use Rattle.gql_rounds.specs.bridge.Walked as spec;
 ghost use Rattle.gql_rounds.specs.Wanted as wanted;
+ghost use Rattle.gql_rounds.specs.bridge.Wanted as wanted_bridge;
 
 use crate::answers::Answers;
 use crate::ask::{Ask, Asks, answer_key};
@@ -58,7 +59,7 @@ impl<'s> Walk<'s> {
         requires hidden { self.now.executing.introspection ≡ false }
         requires within { spec.AreWithin self.now.executing (spec.stands_of level.now) }
         ensures below { IfOk result (λ below. spec.Grows [] (spec.stands_of below) (levels.below_stands (spec.world_of self.now) (spec.stands_of level.now))) }
-        ensures asks { OnOk result (asks.new ≡ wanted.all_noted asks.old (wanted.wanted (spec.request_of self.now) (spec.stands_of level.now))) }
+        ensures asks { OnOk result (asks.new ≡ wanted_bridge.all_noted asks.old (wanted.wanted (spec.request_of self.now) (spec.stands_of level.now))) }
         ensures within { IfOk result (λ below. spec.AreWithin self.now.executing (spec.stands_of below)) }
     {
         let mut below = Listed::new(self.executing.alloc);
@@ -85,7 +86,7 @@ impl<'s> Walk<'s> {
         requires within { IsWithin (ground_in self.now.executing) (spec.stand_of visit.now).selection }
         ensures below { OnOk result (spec.Grows (spec.stands_of below.old) (spec.stands_of below.new)
             (levels.below_stand (spec.world_of self.now) (spec.stand_of visit.now))) }
-        ensures asks { OnOk result (asks.new ≡ wanted.all_noted asks.old (wanted.wanted_at (spec.request_of self.now) (spec.stand_of visit.now))) }
+        ensures asks { OnOk result (asks.new ≡ wanted_bridge.all_noted asks.old (wanted.wanted_at (spec.request_of self.now) (spec.stand_of visit.now))) }
         ensures within { OnOk result (spec.AreWithin self.now.executing (spec.stands_of below.old) → spec.AreWithin self.now.executing (spec.stands_of below.new)) }
     {
         let planner = self.executing.planner();
@@ -113,7 +114,7 @@ impl<'s> Walk<'s> {
         requires defined { is_some (field_of self.now.executing.request.schema.now visit.now.object_type.now.name.text field.now.group.first.now.name.text) ≡ true }
         ensures below { OnOk result (spec.stands_of below.new ≡ spec.stands_of below.old
             ++ levels.below_group (spec.world_of self.now) visit.now.object_type.now (spec.stand_of visit.now).object (group_of field.now.group)) }
-        ensures asks { OnOk result (asks.new ≡ wanted.all_noted asks.old
+        ensures asks { OnOk result (asks.new ≡ wanted_bridge.all_noted asks.old
             (wanted.wanted_by_group (spec.request_of self.now) visit.now.object_type.now (spec.stand_of visit.now).object (group_of field.now.group))) }
     {
         let object = Told {
@@ -141,7 +142,7 @@ impl<'s> Walk<'s> {
         requires planned { IsPlanned (ground_in self.now.executing) visit.now.object_type.now field.now }
         ensures below { OnOk result (spec.stands_of below.new ≡ spec.stands_of below.old
             ++ levels.given (spec.world_of self.now) (group_of field.now.group).pieces field.now.definition.now.ty (spec.known_meaning resolved.now)) }
-        ensures asks { OnOk result (asks.new ≡ wanted.all_noted asks.old (if wanted.is_skip (spec.known_meaning resolved.now)
+        ensures asks { OnOk result (asks.new ≡ wanted_bridge.all_noted asks.old (if wanted.is_skip (spec.known_meaning resolved.now)
             then wanted.ask_for (spec.request_of self.now) visit.now.object_type.now (spec.stand_of visit.now).object field.now.group.first.now else [])) }
     {
         let ty = &field.definition.ty;
@@ -277,7 +278,7 @@ impl<'s> Walk<'s> {
         asks: &mut Asks,
     ) -> Result<(), Memory>
         requires planned { IsPlanned (ground_in self.now.executing) visit.now.object_type.now field.now }
-        ensures { OnOk result (asks.new ≡ wanted.all_noted asks.old
+        ensures { OnOk result (asks.new ≡ wanted_bridge.all_noted asks.old
             (wanted.ask_for (spec.request_of self.now) visit.now.object_type.now (spec.stand_of visit.now).object field.now.group.first.now)) }
     {
         match &field.arguments {
@@ -298,7 +299,7 @@ impl<'s> Walk<'s> {
         arguments: &Result<JsonMap, ArgumentFault>,
         asks: &mut Asks,
     ) -> Result<(), Memory>
-        ensures { OnOk result (asks.new ≡ wanted.all_noted asks.old
+        ensures { OnOk result (asks.new ≡ wanted_bridge.all_noted asks.old
             (wanted.ask_with (spec.request_of self.now) visit.now.object_type.now (spec.stand_of visit.now).object field.now.group.first.now arguments.now)) }
     {
         match arguments {
@@ -319,7 +320,7 @@ fn note_ask(
     arguments: &JsonMap,
     asks: &mut Asks,
 ) -> Result<(), Memory>
-    ensures { OnOk result (asks.new ≡ wanted.noted asks.old
+    ensures { OnOk result (asks.new ≡ wanted_bridge.noted asks.old
         (record { object = visit.now.number; type_name = visit.now.object_type.now.name.text; field = field.now; arguments = arguments.now })) }
 {
     let key = answer_key(alloc, visit.number, field, arguments)?;

@@ -3,7 +3,7 @@ use Rattle.std.proofs.Common.{◌≡◌, Bool, true, false, ◌||◌, if◌then�
 use Rattle.std.specs.List.{list_any, flat_map}
 use Rattle.std.specs.Option.{option_map_or}
 use Rattle.std.proofs.lemmas.List.Folds.{list_any-append}
-use Rattle.gql_rules.specs.Judged.{or_first}
+use Rattle.gql_rules.specs.bridge.Judged.{or_first}
 use Rattle.gql_rules.specs.VariableFaults.{or_else, first_told}
 
 -- the first of what is found

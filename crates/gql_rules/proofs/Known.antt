@@ -4,7 +4,7 @@ use Rattle.std.specs.Option.{option_map}
 use Rattle.std.proofs.lemmas.List.{map-append}
 use Rattle.gql_ast.specs.declared.operation.VariableDefinition.{VariableDefinition}
 use Rattle.gql_rules.proofs.Entries.{find-map, entry-joined}
-use Rattle.gql_rules.specs.Operations.{own_name, definition_of, definitions_of}
+use Rattle.gql_rules.specs.bridge.Operations.{own_name, definition_of, definitions_of}
 use Rattle.gql_rules.specs.UndefinedVariable.{variable_name, variable_called}
 use Rattle.gql_rules.specs.declared.variables.Variable.{Variable}
 use Rattle.gql_schema_types.proofs.Joins.{put_new-missing, put_new-found}

@@ -8,7 +8,7 @@ use Rattle.std.proofs.lemmas.Map.Made.{is_some-lookup}
 use Rattle.indexmap.proofs.MapLemmas.{some_index}
 use Rattle.std.specs.Map.{lookup, keys_of}
 use Rattle.gql_rules.proofs.Firsts.{or-false}
-use Rattle.gql_rules.specs.Operations.{with_name}
+use Rattle.gql_rules.specs.bridge.Operations.{with_name}
 
 or_assoc : (a b c : Bool) → ((a || b) || c) ≡ (a || (b || c))
 or_assoc true b c = refl

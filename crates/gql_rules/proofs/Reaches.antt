@@ -17,9 +17,9 @@ use Rattle.gql_rules_nodes.specs.Reached.{is_reached}
 use Rattle.gql_rules.proofs.Firsts.{or-false, any-one_more, first_of, first-one_more, any-told, any-all_told, first-told, none-first, none-told, flat-same}
 use Rattle.gql_rules.proofs.Noted.{is_some-position, noted}
 use Rattle.gql_rules.specs.DisallowedVariableUsage.{breaks, misfit, disallowed_type, types_fault}
-use Rattle.gql_rules.specs.Judged.{Judged, fresh, fresh_row, judged_in, row_judged, rows_judged, told, row_told}
+use Rattle.gql_rules.specs.bridge.Judged.{Judged, fresh, fresh_row, judged_in, row_judged, rows_judged, told, row_told}
 use Rattle.gql_rules.specs.OneOfVariable.{may_be_null, literal_told}
-use Rattle.gql_rules.specs.Operations.{with_use, rows_noted, fresh_rows, rows_told, own_row, names_after, operation_told}
+use Rattle.gql_rules.specs.bridge.Operations.{with_use, rows_noted, fresh_rows, rows_told, own_row, names_after, operation_told}
 use Rattle.gql_rules.specs.UndefinedVariable.{is_undefined, undefined_fault, variable_called}
 use Rattle.gql_rules.specs.UnusedVariable.{is_used, unless_used}
 use Rattle.gql_rules.specs.Uses.{Use, operation_uses, fragment_uses}

@@ -9,8 +9,8 @@ use Rattle.gql_document_types.specs.declared.document.ExecutableDocument.{Execut
 use Rattle.gql_document_types.specs.declared.fragment.Fragment.{Fragment}
 use Rattle.gql_document_types.specs.declared.operation.Operation.{Operation}
 use Rattle.gql_rules.proofs.Reaches.{rows_for, rows-fresh, rows-one_more, rows-told, operation-told}
-use Rattle.gql_rules.specs.Judged.{Judged}
-use Rattle.gql_rules.specs.Operations.{fresh_rows, rows_told, rows_after, operation_told, IsJudged}
+use Rattle.gql_rules.specs.bridge.Judged.{Judged}
+use Rattle.gql_rules.specs.bridge.Operations.{fresh_rows, rows_told, rows_after, operation_told, IsJudged}
 use Rattle.gql_rules.specs.VariableFaults.{Reach, IsReach, fragments_faults, operation_faults, AreVariableFaults}
 use Rattle.gql_schema_types.specs.declared.schema.Schema.{Schema}
 

@@ -1,13 +1,10 @@
 pub mod DisallowedVariableUsage
-pub mod Judged
 pub mod OneOfVariable
-pub mod Operations
 pub mod TypesInto
 pub mod UndefinedVariable
 pub mod UnusedVariable
 pub mod Uses
 pub mod VariableFaults
-pub mod Views
 pub mod DocumentFaults
 pub mod NoSchema
 pub mod StandaloneFaults
@@ -16,3 +13,4 @@ pub mod UniqueVariables
 pub mod UntypedDocument
 pub mod UntypedFaults
 pub mod UntypedSelections
+pub mod bridge

@@ -7,14 +7,10 @@ use Rattle.gql_diag_messages.specs.declared.rule.Rule.TheVariants.{UndefinedVari
 use Rattle.gql_diag_messages.specs.declared.diagnostic_data.DiagnosticData.{DiagnosticData}
 use Rattle.gql_rules_values.specs.Faults.{fault, only_if}
 use Rattle.gql_rules.specs.Uses.{Use}
-use Rattle.gql_schema_types.specs.Entries.{entry, joined}
+use Rattle.gql_schema_types.specs.Entries.{entry}
 
 abbrev pub variable_name : VariableDefinition → Named
 variable_name variable = variable.name
-
--- of each name the first: that is the one by which a use is judged
-abbrev pub first_variables : List VariableDefinition → List VariableDefinition
-first_variables variables = joined variable_name [] variables
 
 -- the variable that a name stands for: the first of the name
 abbrev pub variable_called : List VariableDefinition → List ℕ → Option VariableDefinition

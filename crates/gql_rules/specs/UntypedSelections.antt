@@ -1,9 +1,7 @@
 -- Selections as they stand in a document in which no type is known: sections 2.4 to 2.8 of GraphQL October 2021. All of them are
 -- there, each with what it says; a field's definition says nothing.
 use Rattle.std.specs.Prelude.{List, map}
-use Rattle.gql_ast.specs.declared.selection.Field.{Field}
 use Rattle.gql_ast.specs.declared.selection.FragmentSpread.{FragmentSpread}
-use Rattle.gql_ast.specs.declared.selection.InlineFragment.{InlineFragment}
 use Rattle.gql_ast.specs.declared.selection.Selection.{Selection, fold-Selection}
 use Rattle.gql_ast.specs.declared.selection.Selection.TheOpen.{Selection-F, Field-F, InlineFragment-F}
 use Rattle.gql_document_types.specs.declared.selection.Field.{Field as BuiltField}
@@ -48,24 +46,3 @@ untyped_selection = fold-Selection Built BuiltField BuiltInline selection_step f
 
 abbrev pub untyped_set : List Selection → SelectionSet
 untyped_set selections = set_of (map untyped_selection selections)
-
--- ---- the same of one field, and of one inline fragment
-
-abbrev pub untyped_field : Field → BuiltField
-untyped_field it = record {
-  alias = it.alias;
-  name = it.name;
-  arguments = it.arguments;
-  directives = it.directives;
-  selection_set = untyped_set it.selection_set;
-  location = it.location;
-  definition = unknown_field;
-}
-
-abbrev pub untyped_inline : InlineFragment → BuiltInline
-untyped_inline it = record {
-  type_condition = it.type_condition;
-  directives = it.directives;
-  selection_set = untyped_set it.selection_set;
-  location = it.location;
-}

@@ -38,10 +38,6 @@ pub record Use : Type 0 where
   pub place : Place
   pub location : Option Span
 
--- where a literal stands, if there is one
-abbrev pub literal_place : Option Value → Option Span
-literal_place literal = option_and_then (λ (value : Value). value.location) literal
-
 -- an argument or an input field, if it is defined
 abbrev pub input_place : Option InputValueDefinition → Option Named → Option Span → Place
 input_place None one_of literal = record { ty = None; has_default = false; one_of = one_of; literal = literal }

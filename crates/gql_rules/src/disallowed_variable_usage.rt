@@ -3,7 +3,7 @@
 ghost use Rattle.std.specs.Prelude.{◌≡◌, ◌++◌, [], OnOk};
 ghost use Rattle.std.specs.Option.{option_copied, option_map_or};
 ghost use Rattle.gql_rules.specs.DisallowedVariableUsage as spec;
-ghost use Rattle.gql_rules.specs.Views as seen;
+ghost use Rattle.gql_rules.specs.bridge.Views as seen;
 
 use crate::types_into::is_allowed;
 use crate::uses::{Place, Use};

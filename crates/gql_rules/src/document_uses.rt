@@ -3,8 +3,9 @@
 ghost use Rattle.std.specs.Prelude.{◌≡◌, ◌++◌, IfOk, OnOk};
 ghost use Rattle.std.specs.List.{flat_map};
 ghost use Rattle.gql_rules_nodes.specs.Nodes as nodes;
+ghost use Rattle.gql_rules_nodes.specs.bridge.Nodes as nodes_bridge;
 ghost use Rattle.gql_rules.specs.Uses as spec;
-ghost use Rattle.gql_rules.specs.Views as seen;
+ghost use Rattle.gql_rules.specs.bridge.Views as seen;
 
 use crate::uses::Use;
 use crate::value_uses::{add_arguments, add_directives};
@@ -104,7 +105,7 @@ fn add_field<'d>(
     field: &'d Field,
     uses: &mut Listed<Use<'d>>,
 ) -> Result<(), Memory>
-    ensures { OnOk result (seen.uses_of uses.new ≡ seen.uses_of uses.old ++ flat_map (spec.node_uses schema.now) (nodes.field_nodes ty.now field.now)) }
+    ensures { OnOk result (seen.uses_of uses.new ≡ seen.uses_of uses.old ++ flat_map (spec.node_uses schema.now) (nodes_bridge.field_nodes ty.now field.now)) }
 {
     add_arguments(
         alloc,
@@ -125,7 +126,7 @@ fn add_inline_fragment<'d>(
     fragment: &'d InlineFragment,
     uses: &mut Listed<Use<'d>>,
 ) -> Result<(), Memory>
-    ensures { OnOk result (seen.uses_of uses.new ≡ seen.uses_of uses.old ++ flat_map (spec.node_uses schema.now) (nodes.inline_nodes ty.now fragment.now)) }
+    ensures { OnOk result (seen.uses_of uses.new ≡ seen.uses_of uses.old ++ flat_map (spec.node_uses schema.now) (nodes_bridge.inline_nodes ty.now fragment.now)) }
 {
     add_directives(alloc, schema, &fragment.directives, uses)?;
     add_set(alloc, schema, &fragment.selection_set, uses)

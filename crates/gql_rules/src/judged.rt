@@ -1,9 +1,9 @@
 //! Uses of variables, judged for operations one after another.
 
 ghost use Rattle.std.specs.Prelude.{◌≡◌, ◌++◌, fold, IfOk, OnOk};
-ghost use Rattle.gql_rules.specs.Judged as spec;
-ghost use Rattle.gql_rules.specs.Operations.{with_use};
-ghost use Rattle.gql_rules.specs.Views as seen;
+ghost use Rattle.gql_rules.specs.bridge.Judged as spec;
+ghost use Rattle.gql_rules.specs.bridge.Operations.{with_use};
+ghost use Rattle.gql_rules.specs.bridge.Views as seen;
 
 use crate::disallowed_variable_usage::{list_disallowed_usage, misfit};
 use crate::one_of_variable::{is_nullable, list_one_of_variable};

@@ -3,8 +3,8 @@
 ghost use Rattle.std.specs.Prelude.{◌≡◌, ◌++◌, List, IfOk, OnOk};
 ghost use Rattle.gql_document_types.specs.Spreads.{spread_graph, spread_numbers};
 ghost use Rattle.gql_rules_nodes.specs.Reached.{AreReached};
-ghost use Rattle.gql_rules.specs.Operations as step;
-ghost use Rattle.gql_rules.specs.Views as seen;
+ghost use Rattle.gql_rules.specs.bridge.Operations as step;
+ghost use Rattle.gql_rules.specs.bridge.Views as seen;
 
 use crate::document_uses::operation_uses;
 use crate::judged::{JudgedUse, fresh_row, judge_row, list_row};

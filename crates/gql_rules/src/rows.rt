@@ -1,9 +1,9 @@
 //! The uses of variables in the fragments of a document, judged for operations one after another.
 
 ghost use Rattle.std.specs.Prelude.{◌≡◌, ◌++◌, IfOk, OnOk};
-ghost use Rattle.gql_rules.specs.Judged as spec;
-ghost use Rattle.gql_rules.specs.Operations as step;
-ghost use Rattle.gql_rules.specs.Views as seen;
+ghost use Rattle.gql_rules.specs.bridge.Judged as spec;
+ghost use Rattle.gql_rules.specs.bridge.Operations as step;
+ghost use Rattle.gql_rules.specs.bridge.Views as seen;
 
 use crate::document_uses::fragment_uses;
 use crate::judged::{JudgedUse, fresh_row, judge_row, list_row};

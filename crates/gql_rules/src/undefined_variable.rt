@@ -3,7 +3,7 @@
 ghost use Rattle.std.specs.Prelude.{◌≡◌, ◌++◌, OnOk};
 ghost use Rattle.gql_rules_values.specs.Faults as told;
 ghost use Rattle.gql_rules.specs.UndefinedVariable as spec;
-ghost use Rattle.gql_rules.specs.Views as seen;
+ghost use Rattle.gql_rules.specs.bridge.Views as seen;
 
 use crate::uses::Use;
 use gql_diag_messages::{DiagnosticData, Rule};

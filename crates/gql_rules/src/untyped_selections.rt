@@ -2,6 +2,7 @@
 
 ghost use Rattle.std.specs.Prelude.{◌≡◌, map, IfOk};
 ghost use Rattle.gql_rules.specs.UntypedSelections as spec;
+ghost use Rattle.gql_rules.specs.bridge.UntypedSelections as spec_bridge;
 
 use crate::no_schema::{unknown_field, unknown_type};
 use gql_ast as ast;
@@ -56,7 +57,7 @@ fn untyped_selection(alloc: Global, selection: ast::Selection) -> Result<Selecti
 
 #[cycle(untyped)]
 fn untyped_field(alloc: Global, field: ast::Field) -> Result<Field, Memory>
-    ensures { IfOk result (λ made. made ≡ spec.untyped_field field) }
+    ensures { IfOk result (λ made. made ≡ spec_bridge.untyped_field field) }
 {
     let (selection_set, definition) = both(
         untyped_set(alloc, field.selection_set),
@@ -75,7 +76,7 @@ fn untyped_field(alloc: Global, field: ast::Field) -> Result<Field, Memory>
 
 #[cycle(untyped)]
 fn untyped_inline(alloc: Global, fragment: ast::InlineFragment) -> Result<InlineFragment, Memory>
-    ensures { IfOk result (λ made. made ≡ spec.untyped_inline fragment) }
+    ensures { IfOk result (λ made. made ≡ spec_bridge.untyped_inline fragment) }
 {
     let selection_set = untyped_set(alloc, fragment.selection_set)?;
     Ok(InlineFragment {

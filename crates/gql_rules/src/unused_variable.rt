@@ -1,7 +1,7 @@
 //! A variable is used in its operation, or in a fragment that this reaches (GraphQL October 2021, section 5.8.4).
 
 ghost use Rattle.std.specs.Prelude.{◌≡◌, ◌++◌, OnOk};
-ghost use Rattle.gql_rules.specs.Operations.{not_noted};
+ghost use Rattle.gql_rules.specs.bridge.Operations.{not_noted};
 ghost use Rattle.gql_rules.specs.UnusedVariable as spec;
 
 use gql_ast::VariableDefinition;

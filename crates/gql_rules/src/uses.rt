@@ -3,7 +3,8 @@
 ghost use Rattle.std.specs.Prelude.{◌≡◌, None, map};
 ghost use Rattle.std.specs.Option.{option_copied};
 ghost use Rattle.gql_rules.specs.Uses as spec;
-ghost use Rattle.gql_rules.specs.Views as seen;
+ghost use Rattle.gql_rules.specs.bridge.Uses as spec_bridge;
+ghost use Rattle.gql_rules.specs.bridge.Views as seen;
 
 use gql_ast::InputValueDefinition;
 use gql_ast_base::{Name, TypeRef, Value};
@@ -43,7 +44,7 @@ impl<'d> Place<'d> {
         one_of: Option<&'d Name>,
         literal: Option<&'d Value>,
     ) -> Place<'d>
-        ensures { seen.place_of result ≡ spec.input_place (option_copied definition.entry) (option_copied one_of.entry) (spec.literal_place (option_copied literal.entry)) }
+        ensures { seen.place_of result ≡ spec.input_place (option_copied definition.entry) (option_copied one_of.entry) (spec_bridge.literal_place (option_copied literal.entry)) }
     {
         match definition {
             Some(definition) => Place {

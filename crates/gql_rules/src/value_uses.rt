@@ -2,7 +2,7 @@
 
 ghost use Rattle.std.specs.Prelude.{◌≡◌, ◌++◌, map, OnOk};
 ghost use Rattle.gql_rules.specs.Uses as spec;
-ghost use Rattle.gql_rules.specs.Views as seen;
+ghost use Rattle.gql_rules.specs.bridge.Views as seen;
 
 use crate::uses::{Place, Use, of_last};
 use gql_ast::InputValueDefinition;

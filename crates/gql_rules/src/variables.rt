@@ -3,8 +3,9 @@
 ghost use Rattle.std.specs.Prelude.{◌≡◌, ◌++◌, ◌∷◌, [], None, List, ℕ, IfOk, OnOk};
 ghost use Rattle.std.specs.Option.{option_copied, option_map};
 ghost use Rattle.gql_schema_types.specs.Entries.{entry, put_new};
-ghost use Rattle.gql_rules.specs.UndefinedVariable.{variable_name, first_variables, variable_called};
-ghost use Rattle.gql_rules.specs.Operations.{own_name, definition_of, definitions_of};
+ghost use Rattle.gql_rules.specs.UndefinedVariable.{variable_name, variable_called};
+ghost use Rattle.gql_rules.specs.bridge.UndefinedVariable.{first_variables};
+ghost use Rattle.gql_rules.specs.bridge.Operations.{own_name, definition_of, definitions_of};
 
 use gql_ast::VariableDefinition;
 use gql_ast_base::Name;

@@ -9,7 +9,7 @@ use Rattle.std.proofs.lemmas.Option.{slice_get_within, slice_get-map}
 use Rattle.gql_ast_base.specs.TypeParts.{named_type}
 use Rattle.gql_graph.proofs.Flooded.{none_contained, same_or_not}
 use Rattle.gql_graph.specs.Graph.{Graph}
-use Rattle.gql_graph.specs.Explored.{class_of, IsMet, same, other, IsExplored}
+use Rattle.gql_graph.specs.bridge.Explored.{class_of, IsMet, same, other, IsExplored}
 use Rattle.gql_graph.specs.Pairs.{Sets, IsField, IsSet, of_operation, of_fragment, of_field, IsCompared, in_set, below as under}
 use Rattle.gql_graph.specs.declared.pair.Pair.{Pair}
 use Rattle.gql_schema_types.specs.declared.types.ExtendedType.{ExtendedType}
@@ -18,11 +18,11 @@ use Rattle.gql_rules_merging.proofs.SameArguments.{arguments_on}
 use Rattle.gql_rules_merging.proofs.Truths.{both_true, either_true, one_text, text_refl, one_levels, levels_refl, one_got}
 use Rattle.gql_rules_merging.specs.ConflictingFieldArgument.{same_arguments}
 use Rattle.gql_rules_merging.specs.ConflictingFieldType.{levels, same_levels, same_named, same_shape, is_composite_name, are_known}
-use Rattle.gql_rules_merging.specs.Families.{agree, agrees_with, is_agreed, is_agreed_at, AreAgreed, row_of, IsGathered, sets_over}
+use Rattle.gql_rules_merging.specs.bridge.Families.{agree, agrees_with, is_agreed, is_agreed_at, AreAgreed, row_of, IsGathered, sets_over}
 use Rattle.gql_rules_merging.specs.FieldSelectionMerging.{below, below_fields, is_broken, are_apart, differ, items, sets_of}
 use Rattle.gql_rules_merging.specs.Numbering.{Selected, Numbered}
 use Rattle.gql_rules_merging.specs.ResponseKeys.{key_number, key_numbers}
-use Rattle.gql_rules_merging.specs.Telling.{NoneBreaks}
+use Rattle.gql_rules_merging.specs.bridge.Telling.{NoneBreaks}
 
 -- ---- agreement
 

@@ -6,10 +6,10 @@ use Rattle.std.specs.Prelude.{nat_le, nat_lt}
 use Rattle.std.proofs.lemmas.Bool.{eqb-true, eq-eqb, ltb-true, lt-ltb}
 use Rattle.std.proofs.lemmas.Option.{slice_get_within}
 use Rattle.gql_graph.proofs.Flooded.{same_or_not}
-use Rattle.gql_graph.specs.Explored.{class_of}
+use Rattle.gql_graph.specs.bridge.Explored.{class_of}
 use Rattle.gql_rules_merging.proofs.Truths.{both_true, either_true}
-use Rattle.gql_rules_merging.specs.Classes.{same_head, has_class, same_item, same_items, is_like, is_like_at}
-use Rattle.gql_rules_merging.specs.ClassSteps.{IsClassFor}
+use Rattle.gql_rules_merging.specs.bridge.Classes.{same_head, has_class, same_item, same_items, is_like, is_like_at}
+use Rattle.gql_rules_merging.specs.bridge.ClassSteps.{IsClassFor}
 use Rattle.gql_rules_merging.specs.Numbering.{Selected}
 
 got_before : {A : Type 0} (xs ys : List A) (i : ℕ) → i < length xs → slice_get (xs ++ ys) i ≡ slice_get xs i

@@ -7,11 +7,11 @@ use Rattle.std.proofs.lemmas.List.{length-set}
 use Rattle.std.proofs.lemmas.List.Elements.{Contains-append_left, Contains-append_right}
 use Rattle.std.proofs.lemmas.Option.{slice_get_within}
 use Rattle.gql_graph.proofs.Flooded.{get-set_other, get-set_same, none_contained, same_or_not}
-use Rattle.gql_graph.specs.Explored.{class_of}
+use Rattle.gql_graph.specs.bridge.Explored.{class_of}
 use Rattle.gql_rules_merging.proofs.Pairing.{got_within}
-use Rattle.gql_rules_merging.specs.Families.{AreSelected, IsGathered, row_of, with_items}
+use Rattle.gql_rules_merging.specs.bridge.Families.{AreSelected, IsGathered, row_of, with_items}
 use Rattle.gql_rules_merging.specs.FieldSelectionMerging.{items}
-use Rattle.gql_rules_merging.specs.Gathering.{fields_of}
+use Rattle.gql_rules_merging.specs.bridge.Gathering.{fields_of}
 use Rattle.gql_rules_merging.specs.Numbering.{Selected, Numbered}
 use Rattle.gql_rules_merging.specs.declared.numbering.Selected.{Selected as Held}
 

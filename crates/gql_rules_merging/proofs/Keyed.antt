@@ -5,7 +5,7 @@ use Rattle.std.specs.Option.{unwrap_or, option_map}
 use Rattle.std.specs.Str.{bytes_eq}
 use Rattle.std.proofs.lemmas.List.{append-nil}
 use Rattle.std.proofs.lemmas.Slice.Eq.{bytes_eq-Decides}
-use Rattle.gql_rules_merging.specs.Keying.{Noted, noted, with_key, with_field, with_fields}
+use Rattle.gql_rules_merging.specs.bridge.Keying.{Noted, noted, with_key, with_field, with_fields}
 use Rattle.gql_rules_merging.specs.Numbering.{Selected}
 use Rattle.gql_rules_merging.specs.ResponseKeys.{key_of, has_key, place_of, key_number, key_numbers}
 

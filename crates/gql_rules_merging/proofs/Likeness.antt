@@ -11,12 +11,12 @@ use Rattle.gql_graph.proofs.Flooded.{Contains-cons_cases, none_contained}
 use Rattle.gql_graph.proofs.Walks.{from_node}
 use Rattle.gql_graph.specs.Cycles.{Reaches, at_once, along}
 use Rattle.gql_graph.specs.Graph.{Graph}
-use Rattle.gql_graph.specs.Explored.{class_of}
+use Rattle.gql_graph.specs.bridge.Explored.{class_of}
 use Rattle.gql_graph.specs.Pairs.{IsField}
 use Rattle.gql_schema_types.specs.declared.types.ExtendedType.{ExtendedType}
 use Rattle.gql_rules_merging.proofs.SameArguments.{arguments_on}
 use Rattle.gql_rules_merging.proofs.Truths.{both_true, either_true, one_text, text_refl, text_turned, one_levels, levels_refl}
-use Rattle.gql_rules_merging.specs.Classes.{same_both_ways, same_head, has_class, same_item, same_items, is_like}
+use Rattle.gql_rules_merging.specs.bridge.Classes.{same_both_ways, same_head, has_class, same_item, same_items, is_like}
 use Rattle.gql_rules_merging.specs.ConflictingFieldArgument.{same_arguments}
 use Rattle.gql_rules_values.specs.Known.{is_known}
 use Rattle.gql_rules_merging.specs.ConflictingFieldType.{levels, same_levels, same_named, is_composite_name, are_known, types_conflict}

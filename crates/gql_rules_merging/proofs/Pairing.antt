@@ -2,7 +2,7 @@
 use Rattle.std.proofs.Common.{◌≡◌, ℕ, zero, suc, ◌<◌, Bool, cond, Some, List, [], ◌∷◌, length, refl, ap, arith}
 use Rattle.std.specs.List.{slice_get}
 use Rattle.std.proofs.lemmas.Bool.{lt-ltb}
-use Rattle.gql_graph.specs.Explored.{pair_of}
+use Rattle.gql_graph.specs.bridge.Explored.{pair_of}
 use Rattle.gql_graph.proofs.Inserted.{made}
 
 pub pair_of-low : (in_full : Bool) (a b : ℕ) → a < b → pair_of in_full a b ≡ record { first = a; second = b; in_full = in_full }

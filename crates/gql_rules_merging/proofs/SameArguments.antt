@@ -15,7 +15,7 @@ use Rattle.gql_graph.proofs.Flooded.{Contains-cons_cases, none_contained}
 use Rattle.gql_rules_merging.proofs.Truths.{both_true, one_text, beq-true, all_at}
 use Rattle.gql_rules_merging.specs.ConflictingFieldArgument.{same_arguments, is_given}
 use Rattle.gql_rules_merging.specs.SameValue.{KindTest, ValueTest, same_items, is_among, same_members, same_level, same_kind, same_value}
-use Rattle.gql_rules_merging.specs.Tests.{member_test}
+use Rattle.gql_rules_merging.specs.bridge.Tests.{member_test}
 
 -- ---- how deep a value is
 

@@ -7,12 +7,12 @@ use Rattle.std.proofs.lemmas.Bool.{eqb-true}
 use Rattle.std.proofs.lemmas.List.Elements.{Contains-append_left, Contains-append_right, Contains-append_cases}
 use Rattle.std.proofs.lemmas.Option.{slice_get_within, slice_get-map}
 use Rattle.gql_graph.specs.Graph.{Graph}
-use Rattle.gql_graph.specs.Explored.{pair_of, class_of, IsMet, same, other, IsExplored}
+use Rattle.gql_graph.specs.bridge.Explored.{pair_of, class_of, IsMet, same, other, IsExplored}
 use Rattle.gql_graph.specs.Pairs.{Sets, IsField, AreAlike, IsCompared, in_set, below as under, of_field, items_below}
 use Rattle.gql_graph.specs.declared.pair.Pair.{Pair}
 use Rattle.gql_schema_types.specs.declared.types.ExtendedType.{ExtendedType}
 use Rattle.gql_rules_merging.proofs.Pairing.{got_within}
-use Rattle.gql_rules_merging.specs.Classes.{is_like, AreClasses, turned, is_sound}
+use Rattle.gql_rules_merging.specs.bridge.Classes.{is_like, AreClasses, turned, is_sound}
 use Rattle.gql_rules_merging.specs.FieldSelectionMerging.{below, below_fields, is_broken, are_apart, items, sets_of}
 use Rattle.gql_rules_merging.specs.Numbering.{Selected, Numbered}
 use Rattle.gql_rules_merging.specs.ResponseKeys.{has_key, place_of, key_number, key_numbers}

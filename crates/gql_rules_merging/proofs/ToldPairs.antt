@@ -8,17 +8,17 @@ use Rattle.std.proofs.lemmas.Map.Keys.{IsDistinct-head, IsDistinct-tail, IsDisti
 use Rattle.std.proofs.lemmas.List.Elements.{Contains-append_right}
 use Rattle.std.proofs.lemmas.Bool.{eqb-true, eq-eqb}
 use Rattle.gql_graph.proofs.Flooded.{Contains-cons_cases, none_contained}
-use Rattle.gql_graph.specs.Explored.{pair_of, IsMet, same, other, IsExplored}
+use Rattle.gql_graph.specs.bridge.Explored.{pair_of, IsMet, same, other, IsExplored}
 use Rattle.gql_graph.specs.Pairs.{Sets, IsCompared, in_set, below as under}
-use Rattle.gql_graph.specs.Steps.{is_pair}
+use Rattle.gql_graph.specs.bridge.Steps.{is_pair}
 use Rattle.gql_graph.specs.declared.pair.Pair.{Pair}
 use Rattle.gql_schema_types.specs.declared.types.ExtendedType.{ExtendedType}
 use Rattle.gql_rules_merging.specs.ConflictingFieldType.{types_conflict}
 use Rattle.gql_rules_merging.specs.FieldSelectionMerging.{below, below_fields, conflict_of, same_fields, sets_of, are_apart, differ, items, AreConflicts}
 use Rattle.gql_rules_merging.specs.Numbering.{Selected, Numbered}
-use Rattle.gql_rules_merging.specs.Classes.{AreClasses, is_sound}
+use Rattle.gql_rules_merging.specs.bridge.Classes.{AreClasses, is_sound}
 use Rattle.gql_rules_merging.specs.ResponseKeys.{key_numbers}
-use Rattle.gql_rules_merging.specs.Telling.{in_full, is_told, told_of, AreConflictsOf, NoneBreaks}
+use Rattle.gql_rules_merging.specs.bridge.Telling.{in_full, is_told, told_of, AreConflictsOf, NoneBreaks}
 use Rattle.gql_graph.proofs.Inserted.{found_by}
 use Rattle.gql_rules_merging.proofs.Pairing.{pair_of-low}
 use Rattle.gql_rules_merging.proofs.Screened.{none_breaks}

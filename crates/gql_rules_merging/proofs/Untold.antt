@@ -7,7 +7,7 @@ use Rattle.gql_diag_messages.specs.declared.diagnostic_data.DiagnosticData.{Diag
 use Rattle.gql_graph.specs.declared.pair.Pair.{Pair}
 use Rattle.gql_schema_types.specs.declared.types.ExtendedType.{ExtendedType}
 use Rattle.gql_rules_merging.specs.FieldSelectionMerging.{conflict, conflict_of}
-use Rattle.gql_rules_merging.specs.Gathering.{fields_of, selected_of}
+use Rattle.gql_rules_merging.specs.bridge.Gathering.{fields_of, selected_of}
 use Rattle.gql_rules_merging.specs.Numbering.{Selected}
 use Rattle.gql_rules_merging.specs.declared.numbering.Selected.{Selected as Held}
 

@@ -1,14 +1,8 @@
-pub mod Classes
-pub mod ClassSteps
 pub mod ConflictingFieldArgument
 pub mod ConflictingFieldName
 pub mod ConflictingFieldType
-pub mod Families
 pub mod FieldSelectionMerging
-pub mod Gathering
-pub mod Keying
 pub mod Numbering
 pub mod ResponseKeys
 pub mod SameValue
-pub mod Telling
-pub mod Tests
+pub mod bridge

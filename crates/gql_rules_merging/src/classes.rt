@@ -3,9 +3,9 @@
 
 ghost use Rattle.std.specs.Prelude.{◌≡◌, true, IfOk};
 ghost use Rattle.std.specs.Option.{option_copied};
-ghost use Rattle.gql_rules_merging.specs.Classes as spec;
-ghost use Rattle.gql_rules_merging.specs.ClassSteps as step;
-ghost use Rattle.gql_rules_merging.specs.Gathering.{fields_of, selected_of};
+ghost use Rattle.gql_rules_merging.specs.bridge.Classes as spec;
+ghost use Rattle.gql_rules_merging.specs.bridge.ClassSteps as step;
+ghost use Rattle.gql_rules_merging.specs.bridge.Gathering.{fields_of, selected_of};
 
 use crate::conflicting_field_argument::have_same_arguments;
 use crate::conflicting_field_type::same_levels;

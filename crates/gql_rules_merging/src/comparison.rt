@@ -2,7 +2,7 @@
 
 ghost use Rattle.std.specs.Prelude.{◌≡◌, ◌++◌, [], ◌∷◌, Option, OnOk};
 ghost use Rattle.gql_rules_merging.specs.FieldSelectionMerging as spec;
-ghost use Rattle.gql_rules_merging.specs.Gathering.{fields_of, selected_of};
+ghost use Rattle.gql_rules_merging.specs.bridge.Gathering.{fields_of, selected_of};
 
 use crate::conflicting_field_argument::{have_same_arguments, list_conflicting_arguments};
 use crate::conflicting_field_name::{list_conflicting_names, names_conflict};
@@ -24,7 +24,7 @@ pub(crate) struct Comparison<'a, 'd> {
 
 impl Compares for Comparison<'_, '_> {
     ghost use Rattle.gql_rules_merging.specs.FieldSelectionMerging.{items as items_of, below as below_of};
-    ghost use Rattle.gql_rules_merging.specs.Gathering.{fields_of};
+    ghost use Rattle.gql_rules_merging.specs.bridge.Gathering.{fields_of};
 
     ghost items = { λ it. items_of (fields_of it.fields.now) };
 

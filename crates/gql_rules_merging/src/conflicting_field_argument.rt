@@ -3,7 +3,7 @@
 ghost use Rattle.std.specs.Prelude.{◌≡◌, ◌++◌, ◌∷◌, [], OnOk};
 ghost use Rattle.std.specs.List.{list_all};
 ghost use Rattle.gql_rules_merging.specs.ConflictingFieldArgument as spec;
-ghost use Rattle.gql_rules_merging.specs.Gathering.{selected_of};
+ghost use Rattle.gql_rules_merging.specs.bridge.Gathering.{selected_of};
 
 use crate::numbering::Selected;
 use crate::same_value::same_value;

@@ -2,7 +2,7 @@
 
 ghost use Rattle.std.specs.Prelude.{◌≡◌, ◌++◌, ◌∷◌, [], OnOk};
 ghost use Rattle.gql_rules_merging.specs.ConflictingFieldName as spec;
-ghost use Rattle.gql_rules_merging.specs.Gathering.{selected_of};
+ghost use Rattle.gql_rules_merging.specs.bridge.Gathering.{selected_of};
 
 use crate::numbering::Selected;
 use gql_diag_messages::{DiagnosticData, Rule};

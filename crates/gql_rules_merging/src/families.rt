@@ -2,10 +2,10 @@
 //! arguments and of one shape, none of its pairs breaks the rule.
 
 ghost use Rattle.std.specs.Prelude.{◌≡◌, true, [], IfOk};
-ghost use Rattle.gql_rules_merging.specs.Families as spec;
-ghost use Rattle.gql_rules_merging.specs.Gathering.{fields_of, selected_of, numbered_of};
-ghost use Rattle.gql_rules_merging.specs.Telling as telling;
-ghost use Rattle.gql_graph.specs.Explored.{IsExplored};
+ghost use Rattle.gql_rules_merging.specs.bridge.Families as spec;
+ghost use Rattle.gql_rules_merging.specs.bridge.Gathering.{fields_of, selected_of, numbered_of};
+ghost use Rattle.gql_rules_merging.specs.bridge.Telling as telling;
+ghost use Rattle.gql_graph.specs.bridge.Explored.{IsExplored};
 
 use crate::classes::class_of;
 use crate::comparison::{Comparison, differ};

@@ -1,9 +1,9 @@
 //! The sets of families: what their fields select, taken together.
 
 ghost use Rattle.std.specs.Prelude.{◌≡◌, ◌++◌, length, IfOk, OnOk};
-ghost use Rattle.gql_rules_merging.specs.Families as spec;
+ghost use Rattle.gql_rules_merging.specs.bridge.Families as spec;
 ghost use Rattle.gql_rules_merging.specs.FieldSelectionMerging.{items};
-ghost use Rattle.gql_rules_merging.specs.Gathering.{fields_of, numbered_of};
+ghost use Rattle.gql_rules_merging.specs.bridge.Gathering.{fields_of, numbered_of};
 
 use crate::classes::class_of;
 use crate::numbering::{Numbered, Selected};

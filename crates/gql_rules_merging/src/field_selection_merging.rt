@@ -3,10 +3,10 @@
 ghost use Rattle.std.specs.Prelude.{◌≡◌, ◌++◌, List, true, length, IfOk, OnOk};
 ghost use Rattle.std.specs.List.{flat_map, list_all};
 ghost use Rattle.gql_diag_messages.specs.declared.diagnostic_data.DiagnosticData.{DiagnosticData};
-ghost use Rattle.gql_rules_merging.specs.Classes.{AreClasses, is_sound as is_sound_pair};
+ghost use Rattle.gql_rules_merging.specs.bridge.Classes.{AreClasses, is_sound as is_sound_pair};
 ghost use Rattle.gql_rules_merging.specs.FieldSelectionMerging as spec;
-ghost use Rattle.gql_rules_merging.specs.Gathering.{fields_of, numbered_of};
-ghost use Rattle.gql_rules_merging.specs.Telling as telling;
+ghost use Rattle.gql_rules_merging.specs.bridge.Gathering.{fields_of, numbered_of};
+ghost use Rattle.gql_rules_merging.specs.bridge.Telling as telling;
 
 use crate::classes::classes_of;
 use crate::comparison::Comparison;

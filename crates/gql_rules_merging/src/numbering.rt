@@ -1,7 +1,7 @@
 //! The fields of a document by numbers, and its sets of selections.
 
 ghost use Rattle.std.specs.Prelude.{◌≡◌, ◌++◌, IfOk, OnOk};
-ghost use Rattle.gql_rules_merging.specs.Gathering as seen;
+ghost use Rattle.gql_rules_merging.specs.bridge.Gathering as seen;
 ghost use Rattle.gql_rules_merging.specs.Numbering as spec;
 ghost use Rattle.gql_rules_merging.specs.ResponseKeys.{key_of};
 

@@ -1,8 +1,8 @@
 //! Response keys by numbers.
 
 ghost use Rattle.std.specs.Prelude.{◌≡◌, IfOk, OnOk};
-ghost use Rattle.gql_rules_merging.specs.Gathering.{fields_of, selected_of};
-ghost use Rattle.gql_rules_merging.specs.Keying as keying;
+ghost use Rattle.gql_rules_merging.specs.bridge.Gathering.{fields_of, selected_of};
+ghost use Rattle.gql_rules_merging.specs.bridge.Keying as keying;
 ghost use Rattle.gql_rules_merging.specs.ResponseKeys as spec;
 
 use crate::numbering::Selected;

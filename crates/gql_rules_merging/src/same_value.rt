@@ -3,7 +3,7 @@
 ghost use Rattle.std.specs.Prelude.{◌≡◌, map};
 ghost use Rattle.std.specs.Option.{option_copied};
 ghost use Rattle.gql_rules_merging.specs.SameValue as spec;
-ghost use Rattle.gql_rules_merging.specs.Tests as seen;
+ghost use Rattle.gql_rules_merging.specs.bridge.Tests as seen;
 
 use gql_ast_base::{Name, Value, ValueKind};
 

@@ -1,7 +1,8 @@
 -- What a flood from some nodes leaves marked.
 use Rattle.std.proofs.Common.{refl, ◌≡◌, ℕ, zero, suc, ◌<◌, inl, inr, Some, List, length, replicate, sym, ap, ◌∙◌, arith}
 use Rattle.std.specs.List.{slice_get}
-use Rattle.gql_graph.specs.Graph.{Graph, IsFlooded}
+use Rattle.gql_graph.specs.Graph.{Graph}
+use Rattle.gql_graph.specs.bridge.Graph.{IsFlooded}
 use Rattle.gql_graph.proofs.Walks.{lift, forget, inside}
 use Rattle.gql_rules_nodes.specs.Reached.{AreReached}
 

@@ -1,9 +1,6 @@
 -- What is wrong with each node of a document by itself: sections 5.3 to 5.8 of GraphQL October 2021.
-use Rattle.std.specs.Prelude.{false, List, [], ◌++◌, Option}
+use Rattle.std.specs.Prelude.{false, List, ◌++◌}
 use Rattle.std.specs.List.{flat_map}
-use Rattle.std.specs.Option.{option_map_or}
-use Rattle.gql_source.specs.Span.{Span}
-use Rattle.gql_ast_base.specs.Names.{Named}
 use Rattle.gql_ast_base.specs.declared.operation_type.OperationType.{OperationType}
 use Rattle.gql_ast_base.specs.declared.operation_type.OperationType.TheVariants.{Query, Mutation, Subscription}
 use Rattle.gql_ast.specs.declared.schema_definition.DirectiveLocation.{DirectiveLocation}
@@ -12,17 +9,14 @@ use Rattle.gql_ast_base.specs.declared.directive.Directive.{Directive}
 use Rattle.gql_diag_messages.specs.declared.diagnostic_data.DiagnosticData.{DiagnosticData}
 use Rattle.gql_document_types.specs.declared.document.ExecutableDocument.{ExecutableDocument}
 use Rattle.gql_document_types.specs.declared.fragment.Fragment.{Fragment}
-use Rattle.gql_document_types.specs.declared.selection.Field.{Field}
-use Rattle.gql_document_types.specs.declared.selection.InlineFragment.{InlineFragment}
 use Rattle.gql_rules_values.specs.declared.known.Defined.TheVariants.{Types}
 use Rattle.gql_rules_nodes.specs.Nodes.{Node, operation, fragment, field, spread, inline_fragment, nodes}
 use Rattle.gql_rules_nodes.specs.Nodes.{OperationNode, FragmentNode, FieldNode, SpreadNode, InlineNode}
 use Rattle.gql_rules_values.specs.Arguments.{argument_faults}
 use Rattle.gql_rules_values.specs.Directives.{directive_faults}
 use Rattle.gql_schema_types.specs.declared.schema.Schema.{Schema}
-use Rattle.gql_schema_types.specs.declared.types.ExtendedType.{ExtendedType}
-use Rattle.gql_rules_nodes.specs.InvalidFragmentSpread.{fragment_spread, inline_spread, invalid_spread}
-use Rattle.gql_rules_nodes.specs.InvalidFragmentTarget.{fragment_target, inline_target, invalid_target}
+use Rattle.gql_rules_nodes.specs.InvalidFragmentSpread.{fragment_spread, inline_spread}
+use Rattle.gql_rules_nodes.specs.InvalidFragmentTarget.{fragment_target, inline_target}
 use Rattle.gql_rules_nodes.specs.MissingSubselection.{missing_subselection}
 use Rattle.gql_rules_nodes.specs.Variables.{variables_faults}
 
@@ -31,14 +25,6 @@ abbrev pub operation_location : OperationType → DirectiveLocation
 operation_location Query = at.Query
 operation_location Mutation = at.Mutation
 operation_location Subscription = at.Subscription
-
--- a condition of an inline fragment in a set on this type
-module _ (types : List ExtendedType) (parent : Named) where
-  abbrev pub one_condition : Option Span → Named → List DiagnosticData
-  one_condition place condition = invalid_target types [] condition.text place ++ invalid_spread types [] parent.text condition.text place
-
-  abbrev pub condition_at : InlineFragment → List DiagnosticData
-  condition_at it = option_map_or (one_condition it.location) it.type_condition []
 
 module _ (schema : Schema) where
   abbrev pub directives_at : DirectiveLocation → List Directive → List DiagnosticData
@@ -49,10 +35,6 @@ module _ (schema : Schema) where
 
   abbrev pub fragment_faults : FragmentNode → List DiagnosticData
   fragment_faults node = directives_at at.FragmentDefinition node.directives ++ fragment_target schema.types node
-
-  -- the arguments of a field
-  abbrev pub arguments_at : Field → List DiagnosticData
-  arguments_at it = argument_faults Types schema.types false it.name.text it.location it.definition.arguments it.arguments
 
   abbrev pub field_faults : FieldNode → List DiagnosticData
   field_faults node =

@@ -6,10 +6,9 @@ use Rattle.gql_ast.specs.TypeText.{type_text}
 use Rattle.gql_ast_base.specs.declared.type_ref.TypeRef.{TypeRef}
 use Rattle.gql_diag_messages.specs.declared.rule.Rule.TheVariants.{MissingSubselection}
 use Rattle.gql_diag_messages.specs.declared.diagnostic_data.DiagnosticData.{DiagnosticData}
-use Rattle.gql_document_types.specs.declared.selection.Field.{Field}
 use Rattle.gql_rules_values.specs.Faults.{fault, only_if}
 use Rattle.gql_ast_base.specs.TypeParts.{named_type}
-use Rattle.gql_rules_nodes.specs.Nodes.{FieldNode, is_nonempty}
+use Rattle.gql_rules_nodes.specs.Nodes.{FieldNode}
 use Rattle.gql_schema_types.specs.declared.types.ExtendedType.{ExtendedType}
 use Rattle.gql_rules_nodes.specs.Composite.{is_composite_name}
 
@@ -21,7 +20,3 @@ module _ (types : List ExtendedType) where
   -- a field whose type has selections and that has none
   abbrev pub missing_subselection : FieldNode → List DiagnosticData
   missing_subselection node = lacking node.name node.selects node.definition.ty node.location
-
-  -- the same of a field with what is selected in it
-  abbrev pub missing_at : Field → List DiagnosticData
-  missing_at it = lacking it.name (is_nonempty it.selection_set.selections) it.definition.ty it.location

@@ -12,9 +12,7 @@ use Rattle.gql_ast_base.specs.declared.directive.Directive.{Directive}
 use Rattle.gql_document_types.specs.declared.document.ExecutableDocument.{ExecutableDocument}
 use Rattle.gql_document_types.specs.declared.fragment.Fragment.{Fragment}
 use Rattle.gql_document_types.specs.declared.operation.Operation.{Operation}
-use Rattle.gql_document_types.specs.declared.selection.Field.{Field}
 use Rattle.gql_document_types.specs.declared.selection.FragmentSpread.{FragmentSpread}
-use Rattle.gql_document_types.specs.declared.selection.InlineFragment.{InlineFragment}
 use Rattle.gql_document_types.specs.declared.selection.Selection.{Selection, fold-Selection}
 use Rattle.gql_document_types.specs.declared.selection.Selection.TheOpen.{Selection-F, Field-F, InlineFragment-F, SelectionSet-F}
 use Rattle.gql_document_types.specs.declared.selection.SelectionSet.{SelectionSet}
@@ -86,24 +84,8 @@ operation_at it = operation (record {
 abbrev pub fragment_at : Fragment → Node
 fragment_at it = fragment (record { name = it.name; directives = it.directives; ty = it.selection_set.ty; location = it.location })
 
-abbrev pub field_at : Named → Field → Node
-field_at parent it = field (record {
-  parent = parent;
-  alias = it.alias;
-  name = it.name;
-  arguments = it.arguments;
-  directives = it.directives;
-  selects = is_nonempty it.selection_set.selections;
-  location = it.location;
-  definition = it.definition;
-})
-
 abbrev pub spread_at : Named → FragmentSpread → Node
 spread_at parent it = spread (record { parent = parent; fragment_name = it.fragment_name; directives = it.directives; location = it.location })
-
-abbrev pub inline_at : Named → InlineFragment → Node
-inline_at parent it =
-    inline_fragment (record { parent = parent; type_condition = it.type_condition; directives = it.directives; location = it.location })
 
 -- ---- those of a set of selections: each selection before what is selected in it
 
@@ -155,13 +137,6 @@ selections_nodes ty selections = nodes_in ty (map selection_nodes selections)
 
 abbrev pub set_nodes : SelectionSet → List Node
 set_nodes set = selections_nodes set.ty set.selections
-
--- those of one field, and of one inline fragment
-abbrev pub field_nodes : Named → Field → List Node
-field_nodes parent it = field_at parent it ∷ set_nodes it.selection_set
-
-abbrev pub inline_nodes : Named → InlineFragment → List Node
-inline_nodes parent it = inline_at parent it ∷ set_nodes it.selection_set
 
 -- ---- those of a document: its operations and then its fragments, each with its selections
 

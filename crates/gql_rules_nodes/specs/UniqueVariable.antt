@@ -5,7 +5,7 @@ use Rattle.gql_ast_base.specs.Names.{Named}
 use Rattle.gql_ast.specs.declared.operation.VariableDefinition.{VariableDefinition}
 use Rattle.gql_diag_messages.specs.declared.rule.Rule.TheVariants.{UniqueVariable}
 use Rattle.gql_diag_messages.specs.declared.diagnostic_data.DiagnosticData.{DiagnosticData}
-use Rattle.gql_rules_values.specs.Seconds.{Seen, with_seen, second_here, seconds_after}
+use Rattle.gql_rules_values.specs.Seconds.{seconds_after}
 use Rattle.gql_rules_values.specs.UniqueInputValue.{each}
 
 abbrev pub variable_name : VariableDefinition → Named
@@ -13,14 +13,6 @@ variable_name variable = variable.name
 
 abbrev pub variable_place : VariableDefinition → Option Span
 variable_place variable = variable.location
-
--- the names that came before, with this variable's
-abbrev pub with_variable : Seen → VariableDefinition → Seen
-with_variable seen variable = with_seen variable_name variable_place seen variable
-
--- a variable whose name came before
-abbrev pub second_variable : Seen → VariableDefinition → List DiagnosticData
-second_variable seen variable = second_here variable_name variable_place each UniqueVariable seen variable
 
 -- each variable whose name came before
 abbrev pub unique_variable : List VariableDefinition → List DiagnosticData

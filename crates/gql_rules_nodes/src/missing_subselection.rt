@@ -4,7 +4,7 @@ ghost use Rattle.std.specs.Prelude.{◌≡◌, ◌++◌, OnOk, ◌∷◌, [], No
 ghost use Rattle.gql_ast.specs.TypeText.{type_text};
 ghost use Rattle.gql_diag_messages.specs.declared.rule.Rule.TheVariants.{MissingSubselection};
 ghost use Rattle.gql_rules_values.specs.Faults as told;
-ghost use Rattle.gql_rules_nodes.specs.MissingSubselection as spec;
+ghost use Rattle.gql_rules_nodes.specs.bridge.MissingSubselection as spec;
 
 use crate::composite::is_composite;
 use gql_ast::print_type;

@@ -2,6 +2,7 @@
 
 ghost use Rattle.std.specs.Prelude.{◌≡◌, ◌++◌, OnOk};
 ghost use Rattle.gql_rules_nodes.specs.DocumentNodes as spec;
+ghost use Rattle.gql_rules_nodes.specs.bridge.DocumentNodes as spec_bridge;
 
 use crate::invalid_fragment_spread::{list_invalid_fragment_spread, list_invalid_spread};
 use crate::invalid_fragment_target::list_invalid_fragment_target;
@@ -144,7 +145,7 @@ impl NodeRules<'_> {
         field: &Field,
         faults: &mut Listed<DiagnosticData>,
     ) -> Result<(), Memory>
-        ensures { OnOk result (faults.new ≡ faults.old ++ spec.arguments_at self.now.known.now.schema.now field.now) }
+        ensures { OnOk result (faults.new ≡ faults.old ++ spec_bridge.arguments_at self.now.known.now.schema.now field.now) }
     {
         let call = Call {
             directive: false,
@@ -169,7 +170,7 @@ impl NodeRules<'_> {
         fragment: &InlineFragment,
         faults: &mut Listed<DiagnosticData>,
     ) -> Result<(), Memory>
-        ensures { OnOk result (faults.new ≡ faults.old ++ spec.condition_at self.now.known.now.schema.now.types ty.now fragment.now) }
+        ensures { OnOk result (faults.new ≡ faults.old ++ spec_bridge.condition_at self.now.known.now.schema.now.types ty.now fragment.now) }
     {
         match &fragment.type_condition {
             Some(condition) => self.list_present_condition(ty, fragment, condition, faults),
@@ -185,7 +186,7 @@ impl NodeRules<'_> {
         condition: &Name,
         faults: &mut Listed<DiagnosticData>,
     ) -> Result<(), Memory>
-        ensures { OnOk result (faults.new ≡ faults.old ++ spec.one_condition self.now.known.now.schema.now.types ty.now fragment.now.location condition.now) }
+        ensures { OnOk result (faults.new ≡ faults.old ++ spec_bridge.one_condition self.now.known.now.schema.now.types ty.now fragment.now.location condition.now) }
     {
         list_invalid_fragment_target(
             self.alloc,

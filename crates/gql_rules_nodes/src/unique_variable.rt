@@ -2,6 +2,7 @@
 
 ghost use Rattle.std.specs.Prelude.{◌≡◌, ◌++◌, OnOk};
 ghost use Rattle.gql_rules_nodes.specs.UniqueVariable as spec;
+ghost use Rattle.gql_rules_nodes.specs.bridge.UniqueVariable as spec_bridge;
 
 use gql_ast::VariableDefinition;
 use gql_diag_messages::{DiagnosticData, Rule};
@@ -34,8 +35,8 @@ fn meet(
     seen: &mut Pairs<Option<SourceSpan>>,
     faults: &mut Listed<DiagnosticData>,
 ) -> Result<(), Memory>
-    ensures seen { OnOk result (seen.new ≡ spec.with_variable seen.old variable.now) }
-    ensures faults { OnOk result (faults.new ≡ faults.old ++ spec.second_variable seen.old variable.now) }
+    ensures seen { OnOk result (seen.new ≡ spec_bridge.with_variable seen.old variable.now) }
+    ensures faults { OnOk result (faults.new ≡ faults.old ++ spec_bridge.second_variable seen.old variable.now) }
 {
     match seen.get(variable.name.as_str()) {
         Some(first) => {

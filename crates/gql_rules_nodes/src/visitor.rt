@@ -2,6 +2,7 @@
 
 ghost use Rattle.std.specs.Prelude.{◌≡◌, ◌++◌, List, OnOk};
 ghost use Rattle.gql_rules_nodes.specs.Nodes as spec;
+ghost use Rattle.gql_rules_nodes.specs.bridge.Nodes as spec_bridge;
 
 use gql_ast_base::Name;
 use gql_document_types::{Field, Fragment, FragmentSpread, InlineFragment, Operation};
@@ -31,7 +32,7 @@ pub trait Visitor {
 
     /// Looks at a field (section 2.5) in a set on this type.
     fn field(&self, ty: &Name, field: &Field, found: &mut Listed<Self::Found>) -> Result<(), Memory>
-        ensures { OnOk result (found.new ≡ found.old ++ at self.now (spec.field_at ty.now field.now)) };
+        ensures { OnOk result (found.new ≡ found.old ++ at self.now (spec_bridge.field_at ty.now field.now)) };
 
     /// Looks at a spread of a fragment (section 2.8) in a set on this type.
     fn spread(
@@ -49,5 +50,5 @@ pub trait Visitor {
         fragment: &InlineFragment,
         found: &mut Listed<Self::Found>,
     ) -> Result<(), Memory>
-        ensures { OnOk result (found.new ≡ found.old ++ at self.now (spec.inline_at ty.now fragment.now)) };
+        ensures { OnOk result (found.new ≡ found.old ++ at self.now (spec_bridge.inline_at ty.now fragment.now)) };
 }

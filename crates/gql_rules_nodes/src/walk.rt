@@ -3,6 +3,7 @@
 ghost use Rattle.std.specs.Prelude.{◌≡◌, ◌++◌, OnOk};
 ghost use Rattle.std.specs.List.{flat_map};
 ghost use Rattle.gql_rules_nodes.specs.Nodes as spec;
+ghost use Rattle.gql_rules_nodes.specs.bridge.Nodes as spec_bridge;
 
 use crate::visitor::Visitor;
 use gql_ast_base::Name;
@@ -122,7 +123,7 @@ fn walk_field<V: Visitor>(
     field: &Field,
     found: &mut Listed<V::Found>,
 ) -> Result<(), Memory>
-    ensures { OnOk result (found.new ≡ found.old ++ flat_map (V.at visitor.now) (spec.field_nodes ty.now field.now)) }
+    ensures { OnOk result (found.new ≡ found.old ++ flat_map (V.at visitor.now) (spec_bridge.field_nodes ty.now field.now)) }
 {
     visitor.field(ty, field, found)?;
     walk_set(visitor, &field.selection_set, found)
@@ -135,7 +136,7 @@ fn walk_inline_fragment<V: Visitor>(
     fragment: &InlineFragment,
     found: &mut Listed<V::Found>,
 ) -> Result<(), Memory>
-    ensures { OnOk result (found.new ≡ found.old ++ flat_map (V.at visitor.now) (spec.inline_nodes ty.now fragment.now)) }
+    ensures { OnOk result (found.new ≡ found.old ++ flat_map (V.at visitor.now) (spec_bridge.inline_nodes ty.now fragment.now)) }
 {
     visitor.inline_fragment(ty, fragment, found)?;
     walk_set(visitor, &fragment.selection_set, found)

@@ -10,7 +10,7 @@ use Rattle.std.proofs.lemmas.List.{length-take-le, take_more}
 use Rattle.std.proofs.lemmas.Option.{slice_get_read}
 use Rattle.std.proofs.lemmas.Slice.Eq.{bytes_eq-Decides}
 use Rattle.gql_ast_base.specs.Names.{Named}
-use Rattle.gql_rules_values.specs.ByName.{Places, with_place}
+use Rattle.gql_rules_values.specs.bridge.ByName.{Places, with_place}
 use Rattle.gql_schema_types.specs.Entries.{is_called}
 
 -- what is found first

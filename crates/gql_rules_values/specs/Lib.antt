@@ -1,4 +1,3 @@
-pub mod ByName
 pub mod Faults
 pub mod Known
 pub mod Seconds
@@ -22,3 +21,4 @@ pub mod UniqueInputValue
 pub mod UnsupportedLocation
 pub mod UnsupportedValueType
 pub mod ValueTypes
+pub mod bridge

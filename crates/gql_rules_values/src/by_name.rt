@@ -5,7 +5,7 @@ ghost use Rattle.std.specs.Option.{option_copied};
 ghost use Rattle.std.specs.List.{list_any};
 ghost use Rattle.std.specs.Map.{lookup};
 ghost use Rattle.std.specs.Str.{bytes_eq};
-ghost use Rattle.gql_rules_values.specs.ByName as spec;
+ghost use Rattle.gql_rules_values.specs.bridge.ByName as spec;
 ghost use Rattle.gql_schema_types.specs.Entries.{is_called, entry};
 
 use crate::seconds::Placed;

@@ -3,7 +3,8 @@ use Rattle.std.proofs.Common.{◌≡◌, Bool, true, false, ◌&&◌, if◌then�
 use Rattle.std.specs.Prelude.{slice_range, option_and_then}
 use Rattle.gql_source.specs.declared.file_id.FileId.{FileId}
 use Rattle.gql_ast_base.specs.Names.{Named, is_name}
-use Rattle.gql_ast_base.specs.Parts.{Text, is_boundary, piece, name_in}
+use Rattle.gql_ast_base.specs.Parts.{Text, is_boundary, piece}
+use Rattle.gql_ast_base.specs.bridge.Parts.{name_in}
 use Rattle.gql_schema.specs.Rows.{name_at}
 use Rattle.gql_schema.specs.declared.built_in_row.Place.{Place}
 

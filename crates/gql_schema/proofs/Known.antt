@@ -35,13 +35,15 @@ use Rattle.gql_grammar.specs.Row.{Row, nothing, node}
 use Rattle.gql_grammar.specs.Rule.{kind_of}
 use Rattle.gql_grammar.specs.Sentence.{Sentence}
 use Rattle.gql_cst.specs.TreeOf.{IsTreeOf}
-use Rattle.gql_lexer.specs.Lex.{lex, run_len, blank_len, string_len, string, quoted}
+use Rattle.gql_lexer.specs.Lex.{run_len, blank_len, string_len}
+use Rattle.gql_lexer.specs.bridge.Lex.{lex, string, quoted}
 use Rattle.gql_lexer.specs.Value.{values}
 use Rattle.gql_schema_build.specs.declared.built_in.BuiltIn.{BuiltIn}
 use Rattle.gql_schema.specs.declared.built_in_rows.TheConstants.{DIRECTIVES, TYPES}
 use Rattle.gql_schema.specs.declared.built_in_text.TheConstants.{BUILT_IN_TEXT}
 use Rattle.gql_schema.specs.BuiltInSchema.{IsBuiltIn, built_in_file}
 use Rattle.gql_schema.specs.Rows as rows
+use Rattle.gql_schema.specs.bridge.Rows as rows_bridge
 use Rattle.gql_ast_laws.proofs.Forests.{planted}
 use Rattle.gql_ast_laws.proofs.Found.{the}
 use Rattle.gql_ast_laws.proofs.Readings.{ReadAs, read}
@@ -117,7 +119,7 @@ unfolding string_text description named_type_of location interfaces fields field
 parts_computed = tt
 
 abbrev pub by_rows : BuiltIn
-by_rows = rows.built_in_of BUILT_IN_TEXT.now built_in_file DIRECTIVES.now TYPES.now
+by_rows = rows_bridge.built_in_of BUILT_IN_TEXT.now built_in_file DIRECTIVES.now TYPES.now
 
 pub is_built_in : SoundLaw → IsBuiltIn by_rows
 unfolding tokens_computed trees_computed parts_computed

@@ -19,9 +19,6 @@ use Rattle.gql_ast.specs.declared.type_definition.ObjectTypeDefinition.{ObjectTy
 use Rattle.gql_ast.specs.declared.type_definition.EnumTypeDefinition.{EnumTypeDefinition}
 use Rattle.gql_ast.specs.declared.schema_definition.DirectiveDefinition.{DirectiveDefinition}
 use Rattle.gql_ast.specs.declared.schema_definition.DirectiveLocation.{DirectiveLocation}
-use Rattle.gql_schema_build.specs.declared.type_definition.TypeDefinition.{TypeDefinition}
-use Rattle.gql_schema_build.specs.declared.type_definition.TypeDefinition.TheVariants as type
-use Rattle.gql_schema_build.specs.declared.built_in.BuiltIn.{BuiltIn}
 use Rattle.gql_schema.specs.declared.built_in_row.Place.{Place}
 use Rattle.gql_schema.specs.declared.built_in_row.Run.{Run}
 use Rattle.gql_schema.specs.declared.built_in_row.TypeForm.{TypeForm}
@@ -35,8 +32,6 @@ use Rattle.gql_schema.specs.declared.built_in_row.FieldRow.{FieldRow}
 use Rattle.gql_schema.specs.declared.built_in_row.ObjectRow.{ObjectRow}
 use Rattle.gql_schema.specs.declared.built_in_row.EnumRow.{EnumRow}
 use Rattle.gql_schema.specs.declared.built_in_row.ScalarRow.{ScalarRow}
-use Rattle.gql_schema.specs.declared.built_in_row.DefinitionRow.{DefinitionRow}
-use Rattle.gql_schema.specs.declared.built_in_row.DefinitionRow.TheVariants as definition
 use Rattle.gql_schema.specs.declared.built_in_row.DirectiveRow.{DirectiveRow}
 use Rattle.gql_schema.specs.declared.built_in_field_rows.TheConstants.{ARGUMENTS, FIELDS}
 use Rattle.gql_schema.specs.declared.built_in_rows.TheConstants.{VALUES, LOCATIONS}
@@ -129,11 +124,6 @@ module _ (text : Text) (file : FileId) where
   unfoldable pub scalar_of : ScalarRow → ScalarTypeDefinition
   scalar_of row = record { description = None; name = name_at row.name; directives = []; location = Some (span file row.place) }
 
-  abbrev pub definition_of : DefinitionRow → TypeDefinition
-  definition_of (definition.Object row) = type.Object (object_of row)
-  definition_of (definition.Enum row) = type.Enum (enum_of row)
-  definition_of (definition.Scalar row) = type.Scalar (scalar_of row)
-
   unfoldable pub directive_of : DirectiveRow → DirectiveDefinition
   directive_of row = record {
     description = None;
@@ -143,7 +133,3 @@ module _ (text : Text) (file : FileId) where
     locations = locations_at row.locations;
     location = Some (span file row.place);
   }
-
-  -- what the rows stand for
-  abbrev pub built_in_of : List DirectiveRow → List DefinitionRow → BuiltIn
-  built_in_of directives types = record { directives = map directive_of directives; types = map definition_of types }

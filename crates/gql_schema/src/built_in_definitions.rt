@@ -2,6 +2,7 @@
 
 ghost use Rattle.std.specs.Prelude.{◌≡◌, IfOk};
 ghost use Rattle.gql_schema.specs.Rows as spec;
+ghost use Rattle.gql_schema.specs.bridge.Rows as spec_bridge;
 
 use crate::built_in_making::{FromRow, all_of, name_at, span};
 use crate::built_in_row::{DefinitionRow, DirectiveRow, EnumRow, ObjectRow, ScalarRow};
@@ -69,7 +70,7 @@ impl FromRow<ScalarRow> for ScalarTypeDefinition {
 }
 
 impl FromRow<DefinitionRow> for TypeDefinition {
-    ghost meaning = { spec.definition_of };
+    ghost meaning = { spec_bridge.definition_of };
 
     fn of(source: &Source<'_>, row: &DefinitionRow) -> Result<TypeDefinition, Memory> {
         match row {

@@ -2,7 +2,7 @@
 
 ghost use Rattle.std.specs.Prelude.{◌≡◌, [], ◌∷◌, IfOk};
 ghost use Rattle.gql_schema.specs.BuiltInSchema as spec;
-ghost use Rattle.gql_schema.specs.Rows as rows;
+ghost use Rattle.gql_schema.specs.bridge.Rows as rows;
 
 use crate::built_in_making::all_of;
 use crate::built_in_row::{DefinitionRow, DirectiveRow};

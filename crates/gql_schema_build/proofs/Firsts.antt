@@ -6,8 +6,10 @@ use Rattle.std.specs.Str.{bytes_eq}
 use Rattle.std.proofs.lemmas.List.{map-append}
 use Rattle.gql_schema_types.specs.Entries.{entry, put_new, repeat}
 use Rattle.gql_schema_build.specs.DefinitionNames.{definition_name}
-use Rattle.gql_schema_build.specs.Merged.{Types, named, with_type}
-use Rattle.gql_schema_build.specs.TypeDefinitionCollision.{second, second_of}
+use Rattle.gql_schema_build.specs.Merged.{Types, named}
+use Rattle.gql_schema_build.specs.bridge.Merged.{with_type}
+use Rattle.gql_schema_build.specs.TypeDefinitionCollision.{second}
+use Rattle.gql_schema_build.specs.bridge.TypeDefinitionCollision.{second_of}
 use Rattle.gql_schema_build.specs.declared.type_definition.TypeDefinition.{TypeDefinition}
 
 pub defined-entry : (name : List ℕ) (ds : List TypeDefinition) → lookup (bytes_eq name) (map named ds) ≡ entry definition_name name ds

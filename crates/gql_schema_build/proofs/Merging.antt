@@ -10,7 +10,8 @@ use Rattle.gql_schema_types.specs.Entries.{texts, is_called}
 use Rattle.gql_schema_build.specs.DefinitionNames.{definition_name}
 use Rattle.gql_schema_build.specs.ExtensionNames.{extension_name}
 use Rattle.gql_schema_build.specs.Extended.{extended}
-use Rattle.gql_schema_build.specs.Merged.{Types, named, with_extension}
+use Rattle.gql_schema_build.specs.Merged.{Types, named}
+use Rattle.gql_schema_build.specs.bridge.Merged.{with_extension}
 use Rattle.gql_schema_build.specs.TypeTable.{all_extended}
 use Rattle.gql_schema_build.specs.declared.type_definition.TypeDefinition.{TypeDefinition}
 use Rattle.gql_schema_build.specs.declared.type_definition.TypeDefinition.TheVariants as type

@@ -8,7 +8,8 @@ use Rattle.gql_schema_build.specs.Built.{built, part_faults}
 use Rattle.gql_schema_build.specs.DefinitionNames.{definition_name}
 use Rattle.gql_schema_build.specs.ExtensionNames.{extension_name}
 use Rattle.gql_schema_build.specs.Extended.{extended}
-use Rattle.gql_schema_build.specs.Merged.{Types, named, firsts, with_extension}
+use Rattle.gql_schema_build.specs.Merged.{Types, named, firsts}
+use Rattle.gql_schema_build.specs.bridge.Merged.{with_extension}
 use Rattle.gql_schema_build.specs.OrphanTypeExtension.{orphan_type_extension}
 use Rattle.gql_schema_build.specs.TypeDefinitionCollision.{type_definition_collisions}
 use Rattle.gql_schema_build.specs.TypeExtensionKindMismatch.{type_extension_kind_mismatch}

@@ -31,3 +31,4 @@ pub mod TypeDefinitionCollision
 pub mod TypeExtensionKindMismatch
 pub mod TypeSystems
 pub mod TypeTable
+pub mod bridge

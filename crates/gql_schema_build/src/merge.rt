@@ -1,7 +1,7 @@
 //! Definitions of types with all that extensions add to them.
 
 ghost use Rattle.std.specs.Prelude.{◌≡◌, OnOk, fold};
-ghost use Rattle.gql_schema_build.specs.Merged as spec;
+ghost use Rattle.gql_schema_build.specs.bridge.Merged as spec;
 
 use crate::extend::extend;
 use crate::type_definition::TypeDefinition;

@@ -2,7 +2,9 @@
 
 ghost use Rattle.std.specs.Prelude.{◌≡◌, ◌++◌, IfOk, OnOk, map};
 ghost use Rattle.gql_schema_build.specs.Merged as merged;
+ghost use Rattle.gql_schema_build.specs.bridge.Merged as merged_bridge;
 ghost use Rattle.gql_schema_build.specs.TypeDefinitionCollision as spec;
+ghost use Rattle.gql_schema_build.specs.bridge.TypeDefinitionCollision as spec_bridge;
 
 use crate::fault::list_name;
 use crate::type_definition::TypeDefinition;
@@ -35,8 +37,8 @@ fn add_first(
     definition: TypeDefinition,
     faults: &mut Listed<DiagnosticData>,
 ) -> Result<(), Memory>
-    ensures types { OnOk result (types.new ≡ merged.with_type types.old definition) }
-    ensures faults { OnOk result (faults.new ≡ faults.old ++ spec.second_of types.old definition) }
+    ensures types { OnOk result (types.new ≡ merged_bridge.with_type types.old definition) }
+    ensures faults { OnOk result (faults.new ≡ faults.old ++ spec_bridge.second_of types.old definition) }
 {
     match types.get(definition.own_name().as_str()) {
         Some(first) => {

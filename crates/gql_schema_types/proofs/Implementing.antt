@@ -12,7 +12,8 @@ use Rattle.std.proofs.lemmas.Map.{lookup-set_value}
 use Rattle.std.proofs.lemmas.Slice.Eq.{bytes_eq-Decides}
 use Rattle.gql_ast_base.specs.Names.{Named}
 use Rattle.gql_schema_types.specs.Entries.{texts}
-use Rattle.gql_schema_types.specs.Implementers.{Found, implements, is_object, is_interface, implementers_in, implementers_of, is_last, with_last, no_implementers, with_implementer, with_listing}
+use Rattle.gql_schema_types.specs.Implementers.{Found, implements, is_object, is_interface, implementers_in, implementers_of}
+use Rattle.gql_schema_types.specs.bridge.Implementers.{is_last, with_last, no_implementers, with_implementer, with_listing}
 use Rattle.gql_schema_types.specs.Types.{type_name, interfaces_of}
 use Rattle.gql_schema_types.proofs.Indexed.{absent_from_position}
 use Rattle.gql_schema_types.proofs.Lookups.{new_text}

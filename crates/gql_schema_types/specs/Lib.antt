@@ -4,3 +4,4 @@ pub mod Implementers
 pub mod MetaFields
 pub mod Schemas
 pub mod Types
+pub mod bridge

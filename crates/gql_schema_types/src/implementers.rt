@@ -5,6 +5,7 @@ ghost use Rattle.std.specs.Map.{lookup};
 ghost use Rattle.std.specs.Option.{option_copied};
 ghost use Rattle.std.specs.Str.{bytes_eq};
 ghost use Rattle.gql_schema_types.specs.Implementers as spec;
+ghost use Rattle.gql_schema_types.specs.bridge.Implementers as spec_bridge;
 ghost use Rattle.gql_schema_types.specs.Types.{interfaces_of};
 
 use crate::named::Named;
@@ -79,7 +80,7 @@ impl Schema {
 
 /// Adds a type at each of its interfaces.
 fn add_type(alloc: Global, found: &mut Pairs<Implementers>, ty: &ExtendedType) -> Result<(), Memory>
-    ensures { OnOk result (found.new ≡ fold (spec.with_listing ty.now) found.old (interfaces_of ty.now)) }
+    ensures { OnOk result (found.new ≡ fold (spec_bridge.with_listing ty.now) found.old (interfaces_of ty.now)) }
 {
     for interface in ty.implements_interfaces() {
         add_listing(alloc, found, interface, ty)?;
@@ -94,7 +95,7 @@ fn add_listing(
     interface: &Name,
     ty: &ExtendedType,
 ) -> Result<(), Memory>
-    ensures { OnOk result (found.new ≡ spec.with_listing ty.now found.old interface.now) }
+    ensures { OnOk result (found.new ≡ spec_bridge.with_listing ty.now found.old interface.now) }
 {
     match found.get_mut(interface.as_str()) {
         Some(known) => add_implementer(alloc, known, ty),
@@ -110,7 +111,7 @@ fn first_implementer(
     ty: &ExtendedType,
 ) -> Result<(), Memory>
     requires { lookup (bytes_eq interface.now.text) found.old ≡ None }
-    ensures { OnOk result (found.new ≡ found.old ++ (interface.now.text, spec.with_implementer ty.now spec.no_implementers) ∷ []) }
+    ensures { OnOk result (found.new ≡ found.old ++ (interface.now.text, spec_bridge.with_implementer ty.now spec_bridge.no_implementers) ∷ []) }
 {
     let mut first = Implementers {
         objects: Listed::new(alloc),
@@ -123,7 +124,7 @@ fn first_implementer(
 
 /// Adds a type to those of one interface, unless it was added last.
 fn add_implementer(alloc: Global, known: &mut Implementers, ty: &ExtendedType) -> Result<(), Memory>
-    ensures { OnOk result (known.new ≡ spec.with_implementer ty.now known.old) }
+    ensures { OnOk result (known.new ≡ spec_bridge.with_implementer ty.now known.old) }
 {
     match ty {
         ExtendedType::Object(object) => add_last(alloc, &mut known.objects, &object.name),
@@ -136,7 +137,7 @@ fn add_implementer(alloc: Global, known: &mut Implementers, ty: &ExtendedType) -
 
 /// Adds a name last, unless it stands there already.
 fn add_last(alloc: Global, names: &mut Listed<Name>, name: &Name) -> Result<(), Memory>
-    ensures { OnOk result (names.new ≡ spec.with_last names.old name.now) }
+    ensures { OnOk result (names.new ≡ spec_bridge.with_last names.old name.now) }
 {
     if is_last(names, name) {
         return Ok(());
@@ -146,7 +147,7 @@ fn add_last(alloc: Global, names: &mut Listed<Name>, name: &Name) -> Result<(), 
 
 /// Whether the last of the names is this one.
 fn is_last(names: &Listed<Name>, name: &Name) -> bool
-    ensures { result ≡ spec.is_last name.now.text names.now }
+    ensures { result ≡ spec_bridge.is_last name.now.text names.now }
 {
     match names.as_slice().last() {
         Some(last) => name.as_str() == last.as_str(),

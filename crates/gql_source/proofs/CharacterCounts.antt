@@ -6,7 +6,7 @@ use Rattle.std.proofs.lemmas.List.Sums.{sum_by-append, count_by-le-length}
 use Rattle.std.specs.Prelude.{slice_range, cond}
 use Rattle.std.specs.List.{count_by}
 use Rattle.gql_source.specs.Lines.{begins_character}
-use Rattle.gql_source.specs.Characters.{characters_before, step, counts_at_marks}
+use Rattle.gql_source.specs.bridge.Characters.{characters_before, step, counts_at_marks}
 
 front : (text : List ℕ) (a b : ℕ) → a ≤ b → take b text ≡ take a text ++ slice_range text a b
 front text a b h =

@@ -1,4 +1,4 @@
 pub mod File
 pub mod Lines
-pub mod Characters
 pub mod Span
+pub mod bridge

@@ -3,7 +3,7 @@
 ghost use Rattle.std.specs.Prelude.{◌≡◌, ◌≤◌, ◌/◌, IfOk, length};
 ghost use Rattle.std.specs.List.{count_by};
 ghost use Rattle.gql_source.specs.Lines as lines;
-ghost use Rattle.gql_source.specs.Characters as spec;
+ghost use Rattle.gql_source.specs.bridge.Characters as spec;
 
 use crate::Memory;
 use std::alloc::Global;

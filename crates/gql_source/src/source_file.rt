@@ -1,7 +1,7 @@
 //! A source file, and the lines of its text.
 
 ghost use Rattle.std.specs.Prelude.{◌≡◌, ◌+◌, ◌-◌, ◌/◌, ◌<◌, ◌≤◌, IfOk, length, slice_index, Some, None, Option};
-ghost use Rattle.gql_source.specs.Characters.{counts_at_marks as counts_at_marks_of, step};
+ghost use Rattle.gql_source.specs.bridge.Characters.{counts_at_marks as counts_at_marks_of, step};
 ghost use Rattle.gql_source.specs.Lines as lines;
 
 use crate::LineColumn;
@@ -50,7 +50,7 @@ impl Drop for Contents {
 
 impl Model for SourceFile {
     ghost use Rattle.std.specs.Prelude.{◌≡◌, ◌/◌, length, string_bytes};
-    ghost use Rattle.gql_source.specs.Characters.{counts_at_marks, step};
+    ghost use Rattle.gql_source.specs.bridge.Characters.{counts_at_marks, step};
     ghost use Rattle.gql_source.specs.File.{File};
     ghost use Rattle.gql_source.specs.Lines as lines;
 

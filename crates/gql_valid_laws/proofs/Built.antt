@@ -18,7 +18,7 @@ use Rattle.gql_document.specs.Build.{operation_on, built_operation, built_operat
 use Rattle.gql_document.specs.Builders.{Taken}
 use Rattle.gql_document.specs.BuiltSelections.{makes_of, built_set, spread_of}
 use Rattle.gql_document.specs.FragmentNameCollision.{first_fragments}
-use Rattle.gql_document.specs.Made as made
+use Rattle.gql_document.specs.bridge.Made as made
 use Rattle.gql_document.specs.Nodes.{is_open, is_defined, type_inside}
 use Rattle.gql_document.specs.OperationNameCollision.{first_operations}
 use Rattle.gql_document.specs.UndefinedRootOperation.{root_type}

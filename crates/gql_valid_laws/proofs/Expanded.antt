@@ -15,7 +15,8 @@ use Rattle.gql_schema_types.specs.declared.schema.Schema.{Schema}
 use Rattle.gql_schema_types.specs.declared.types.ObjectType.{ObjectType}
 use Rattle.gql_schema_types.proofs.Lookups.{place_within}
 use Rattle.gql_document_types.specs.Contents.{HaveContents}
-use Rattle.gql_document_types.specs.Expanded.{in_place, contents, expanded, expanded_one, expanded_field, expanded_inline}
+use Rattle.gql_document_types.specs.Expanded.{in_place, contents, expanded}
+use Rattle.gql_document_types.specs.bridge.Expanded.{expanded_one, expanded_field, expanded_inline}
 use Rattle.gql_document_types.proofs.Counts.{entry-there, one-field, one-spread, one-inline, spread-defined, spread-undefined}
 use Rattle.gql_collect.specs.Applies.{applies, applies_if}
 use Rattle.gql_collect.specs.Flat.{Shape, when, contents as contents_of, field_of, opened, enough, flat, flat_within}

@@ -19,7 +19,7 @@ use Rattle.gql_document_types.specs.declared.selection.Selection.TheVariants as 
 use Rattle.gql_graph.specs.Cycles.{at_once, along}
 use Rattle.gql_graph.specs.Graph.{Graph}
 use Rattle.gql_graph.specs.Pairs.{IsField}
-use Rattle.gql_rules_merging.specs.Gathering.{selected_as}
+use Rattle.gql_rules_merging.specs.bridge.Gathering.{selected_as}
 use Rattle.gql_rules_merging.specs.Numbering.{Items, numbered}
 use Rattle.gql_schema_types.proofs.Lookups.{found, missing}
 use Rattle.gql_schema_types.specs.Entries.{entry, is_called}

@@ -13,7 +13,7 @@ use Rattle.gql_document_types.specs.declared.selection.Selection.{Selection, the
 use Rattle.gql_document_types.specs.declared.selection.Selection.TheVariants as selection
 use Rattle.gql_document_types.specs.declared.selection.SelectionSet.{SelectionSet}
 use Rattle.gql_schema_types.specs.Entries.{is_called}
-use Rattle.gql_rules_merging.specs.Gathering.{selected_as, with_field}
+use Rattle.gql_rules_merging.specs.bridge.Gathering.{selected_as, with_field}
 use Rattle.gql_rules_merging.specs.Numbering.{Items, Selected, Gathered, number_of, with_spread, with_last, with_selection, with_selections, with_set}
 use Rattle.gql_valid_laws.proofs.Selections.{all-inside}
 

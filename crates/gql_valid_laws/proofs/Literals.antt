@@ -12,7 +12,8 @@ use Rattle.gql_coerce.specs.LiteralValue.{greatest, greatest_member, depth_of, d
 use Rattle.gql_coerce.specs.Messages.{float_overflow}
 use Rattle.gql_coerce.specs.Outcome.{Outcome, mapped, and_then, all_of}
 use Rattle.gql_coerce.specs.Faults.{fault_at}
-use Rattle.gql_coerce.specs.Translation.{number_or, whole_of, translated, translated_kind, translated_member}
+use Rattle.gql_coerce.specs.Translation.{number_or, whole_of, translated, translated_kind}
+use Rattle.gql_coerce.specs.bridge.Translation.{translated_member}
 use Rattle.gql_coerce.proofs.Translated.{translated-List, translated-Object}
 use Rattle.gql_ast_laws.specs.Constants.{all_true, all_members_true, is_constant_kind, is_constant}
 use Rattle.gql_ast_laws.proofs.Constants.{constant-Variable, constant-List, judged, constant-Object, both-true}

@@ -23,7 +23,7 @@ use Rattle.gql_graph.specs.Pairs.{Sets, IsField, IsPairIn, IsSet, of_operation, 
 use Rattle.gql_graph.specs.declared.pair.Pair.{Pair}
 use Rattle.gql_rules_merging.specs.ConflictingFieldType.{are_known, same_shape}
 use Rattle.gql_rules_merging.specs.FieldSelectionMerging.{items, sets_of, AreConflicts}
-use Rattle.gql_rules_merging.specs.Gathering.{selected_as}
+use Rattle.gql_rules_merging.specs.bridge.Gathering.{selected_as}
 use Rattle.gql_rules_merging.specs.Numbering.{Items, Selected, numbered}
 use Rattle.gql_rules_merging.specs.ResponseKeys.{has_key, place_of, key_number, key_numbers}
 use Rattle.gql_schema_types.specs.Schemas.{field_of}

@@ -19,6 +19,7 @@ use Rattle.gql_schema.proofs.TypeRows.{type_rows}
 use Rattle.gql_schema.specs.BuiltInSchema.{IsBuiltIn, built_in_file}
 use Rattle.gql_schema.specs.Builders.{Taken, built as schema_of}
 use Rattle.gql_schema.specs.Rows as rows
+use Rattle.gql_schema.specs.bridge.Rows as rows_bridge
 use Rattle.gql_schema.specs.declared.built_in_row.DefinitionRow.{DefinitionRow}
 use Rattle.gql_schema.specs.declared.built_in_row.DefinitionRow.TheVariants as row
 use Rattle.gql_schema.specs.declared.built_in_text.TheConstants.{BUILT_IN_TEXT}
@@ -180,13 +181,13 @@ module _ (file : FileId) (user : (file.number == 1) ≡ false) where
 abbrev its_text : List ℕ
 its_text = BUILT_IN_TEXT.now
 
-of-row : (d : DefinitionRow) → OfDefinition (rows.definition_of its_text built_in_file d)
+of-row : (d : DefinitionRow) → OfDefinition (rows_bridge.definition_of its_text built_in_file d)
 unfolding rows.object_of rows.enum_of rows.scalar_of
 of-row (row.Object it) = tt
 of-row (row.Enum it) = tt
 of-row (row.Scalar it) = tt
 
-of-rows : (ds : List DefinitionRow) → Each OfDefinition (map (rows.definition_of its_text built_in_file) ds)
+of-rows : (ds : List DefinitionRow) → Each OfDefinition (map (rows_bridge.definition_of its_text built_in_file) ds)
 of-rows [] = tt
 of-rows (d ∷ ds) = (of-row d, of-rows ds)
 

@@ -5,7 +5,8 @@ use Rattle.std.specs.Map.{keys_of}
 use Rattle.std.specs.Str.{IsUtf8, bytes_eq}
 use Rattle.jb_tree.specs.Tree.{Tree, Trees, Members, member_then}
 use Rattle.jb_tree.specs.declared.value.Value.{Value}
-use Rattle.jb_io.specs.Proper.{IsProper, AreProperItems, AreProperMembers, depth, depth_of_items, depth_of_members, keys, members_tree}
+use Rattle.jb_io.specs.Proper.{IsProper, AreProperItems, AreProperMembers, depth, depth_of_items, depth_of_members, keys}
+use Rattle.jb_io.specs.bridge.Proper.{members_tree}
 
 -- what is left of a list nests within so many levels just where all of it does, and all of it is proper where what is left is
 abbrev pub ItemsLeft : ℕ → Trees → Trees → Type 0

@@ -7,3 +7,4 @@ pub mod Memory
 pub mod Reply
 pub mod Run
 pub mod Levels
+pub mod bridge

@@ -1,9 +1,8 @@
 -- The values that JSON texts can hold (RFC 8259), and how deep their texts nest.
-use Rattle.std.specs.Prelude.{ℕ, suc, max, List, [], ◌∷◌, ⊤, map}
+use Rattle.std.specs.Prelude.{ℕ, suc, max, List, [], ◌∷◌, ⊤}
 use Rattle.std.specs.List.{IsDistinct}
 use Rattle.std.specs.Str.{IsUtf8, bytes_eq}
-use Rattle.jb_tree.specs.Tree.{Tree, Trees, Members, null, boolean, number, text, array, object, no_trees, tree_then, no_members, member_then, members_of, tree}
-use Rattle.jb_tree.specs.declared.value.Value.{Value}
+use Rattle.jb_tree.specs.Tree.{Tree, Trees, Members, null, boolean, number, text, array, object, no_trees, tree_then, no_members, member_then}
 use Rattle.jb_read.specs.Spelling.{IsWhole}
 
 abbrev pub keys : Members → List (List ℕ)
@@ -45,7 +44,3 @@ abbrev mutual
   pub depth_of_members : Members → ℕ
   depth_of_members no_members = 0
   depth_of_members (member_then key item members) = max (depth item) (depth_of_members members)
-
--- the tree of an object's pairs
-abbrev pub members_tree : List (List ℕ × Value) → Members
-members_tree members = members_of (map (λ member. (member.0, tree member.1)) members)

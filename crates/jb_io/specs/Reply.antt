@@ -7,15 +7,7 @@ use Rattle.jb_io.specs.declared.command.Reply.TheVariants.{Answer, Refusal}
 abbrev pub line : List ℕ → List ℕ
 line text = text ++ 10 ∷ []
 
-abbrev pub text_of : Reply → List ℕ
-text_of (Answer text) = text
-text_of (Refusal text) = text
-
 -- the text is one that answers the bytes, or one that says why they are refused
 abbrev pub IsReply : (answers refuses : List ℕ → List ℕ → Type 0) → List ℕ → Reply → Type 0
 IsReply answers refuses bytes (Answer text) = answers bytes text
 IsReply answers refuses bytes (Refusal text) = refuses bytes text
-
-abbrev pub status_of : Reply → ℕ
-status_of (Answer text) = 0
-status_of (Refusal text) = 1

@@ -1,7 +1,8 @@
 //! What a program's words ask for, and what it replies.
 
 ghost use Rattle.std.specs.Prelude.{◌≡◌, IfOk};
-ghost use Rattle.jb_io.specs.Reply.{line as line_of, text_of};
+ghost use Rattle.jb_io.specs.Reply.{line as line_of};
+ghost use Rattle.jb_io.specs.bridge.Reply.{text_of};
 
 use bytes::{Bytes, BytesMut};
 use jb_tree::Memory;

@@ -2,7 +2,8 @@
 
 ghost use Rattle.std.specs.Prelude.{◌↔◌, ◌≤◌, IsTrue, map};
 ghost use Rattle.std.specs.Str.{IsUtf8};
-ghost use Rattle.jb_io.specs.Proper.{IsProper, AreProperItems, depth, depth_of_items, depth_of_members, members_tree};
+ghost use Rattle.jb_io.specs.Proper.{IsProper, AreProperItems, depth, depth_of_items, depth_of_members};
+ghost use Rattle.jb_io.specs.bridge.Proper.{members_tree};
 ghost use Rattle.jb_read.specs.Spelling.{IsWhole};
 ghost use Rattle.jb_tree.specs.Tree.{object, tree, trees_of};
 

@@ -1,7 +1,7 @@
 //! The run of a program: its words, its input, its reply.
 
 ghost use Rattle.std.specs.Prelude.{◌≡◌, ℕ, List, Some};
-ghost use Rattle.jb_io.specs.Reply.{status_of};
+ghost use Rattle.jb_io.specs.bridge.Reply.{status_of};
 ghost use Rattle.jb_io.specs.Run.{IsServed};
 
 use crate::command::{Command, Reply};

@@ -9,7 +9,7 @@ use Rattle.std.proofs.lemmas.Bool.Decides.{nat_tests}
 use Rattle.indexmap.proofs.ReorderLemmas.{exchange, get_or-swap}
 use Rattle.std.proofs.Common.{IfSome, Box}
 use Rattle.std.specs.declared.alloc.Global.{Global}
-use Rattle.jb_map.specs.Covers.{Covers}
+use Rattle.jb_map.specs.bridge.Covers.{Covers}
 use Rattle.jb_map.proofs.Positions.{absent_from_position, none_any}
 use Rattle.jb_map.proofs.TextOrder.{same_text}
 

@@ -5,7 +5,7 @@ use Rattle.std.specs.Str.{bytes_eq}
 use Rattle.std.specs.List.{AllByRecursion, filter}
 use Rattle.std.specs.Map.{keys_of, lookup}
 use Rattle.jb_map.specs.ByKey.{is_below, by_key}
-use Rattle.jb_map.specs.NextByKey.{is_after, lesser_key, next_key}
+use Rattle.jb_map.specs.bridge.NextByKey.{is_after, lesser_key, next_key}
 use Rattle.jb_map.proofs.TextOrder.{below_trans, below_one_way, not_below_itself, same_text}
 use Rattle.std.specs.Map.{values_of}
 use Rattle.std.specs.List.{IsDistinct}

@@ -2,7 +2,7 @@
 ghost use Rattle.std.specs.Prelude.{◌≡◌, ◌<◌, ℕ, List, Some, IfSome, length, slice_get};
 ghost use Rattle.std.specs.Option.{ForSome};
 ghost use Rattle.std.specs.Map.{keys_of};
-ghost use Rattle.jb_map.specs.NextByKey.{key_of, is_after, is_before, lesser_key, next_key};
+ghost use Rattle.jb_map.specs.bridge.NextByKey.{key_of, is_after, is_before, lesser_key, next_key};
 
 use crate::pairs::Pairs;
 

@@ -2,7 +2,7 @@
 ghost use Rattle.std.specs.Prelude.{◌≡◌, ◌<◌, ℕ, List, None, [], ◌∷◌, ◌++◌, IfOk, OnOk, OnErr, length, position, remove, swap_remove, swap, take, slice_index_or, true, false};
 ghost use Rattle.std.specs.Str.{bytes_eq};
 ghost use Rattle.std.specs.List.{IsDistinct, list_any};
-ghost use Rattle.jb_map.specs.Covers.{Covers};
+ghost use Rattle.jb_map.specs.bridge.Covers.{Covers};
 
 use indexmap::IndexSet;
 use jb_text::{ByteString, Memory};

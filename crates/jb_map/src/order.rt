@@ -7,7 +7,7 @@ ghost use Rattle.std.specs.Ordering.{nat_cmp};
 ghost use Rattle.std.specs.Cmp.Lexicographic.{slice_cmp};
 ghost use Rattle.std.specs.Map.{keys_of};
 ghost use Rattle.jb_map.specs.ByKey.{by_key};
-ghost use Rattle.jb_map.specs.Covers.{Covers};
+ghost use Rattle.jb_map.specs.bridge.Covers.{Covers};
 ghost use Rattle.jb_map.specs.Retained.{Keeps, Retains};
 
 use crate::columns::{join, keep_pairs, split};

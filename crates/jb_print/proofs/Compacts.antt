@@ -4,7 +4,7 @@ use Rattle.std.specs.List.{flat_map}
 use Rattle.jb_tree.specs.declared.value.Value.{Value, Array, Object}
 use Rattle.jb_tree.specs.Tree.{trees_of, tree}
 use Rattle.jb_print.specs.Compact.{compact, compact_tree, compact_items, compact_members, comma_separated}
-use Rattle.jb_print.specs.Pieces.{pieces_text, member_piece}
+use Rattle.jb_print.specs.bridge.Pieces.{pieces_text, member_piece}
 use Rattle.jb_print.proofs.Trees.{Member, members_tree, tree-Array, tree-Object}
 
 later_pieces : (pieces : List (List ℕ)) → flat_map (λ piece. codes "," ++ piece) pieces ≡ pieces_text true pieces

@@ -4,7 +4,7 @@ use Rattle.jb_tree.specs.declared.value.Value.{Value, Array, Object}
 use Rattle.jb_tree.specs.Tree.{array, object, trees_of, tree}
 use Rattle.jb_print.specs.Compact.{comma_separated}
 use Rattle.jb_print.specs.Pretty.{pretty_at, pretty_tree, pretty_items, pretty_members, deeper}
-use Rattle.jb_print.specs.Pieces.{pieces_text, item_line, member_line, pretty_list, pretty_object}
+use Rattle.jb_print.specs.bridge.Pieces.{pieces_text, item_line, member_line, pretty_list, pretty_object}
 use Rattle.jb_print.proofs.Trees.{Member, members_tree, tree-Array, tree-Object}
 use Rattle.jb_print.proofs.Compacts.{comma_separated-pieces}
 

@@ -1,4 +1,4 @@
 pub mod Quoted
 pub mod Compact
 pub mod Pretty
-pub mod Pieces
+pub mod bridge

@@ -4,7 +4,7 @@ ghost use Rattle.std.specs.Prelude.{◌≡◌, ◌++◌, false, codes, map, OnOk
 ghost use Rattle.std.specs.Fmt.{signed_decimal};
 ghost use Rattle.jb_print.specs.Compact.{compact};
 ghost use Rattle.jb_print.specs.Quoted.{quoted};
-ghost use Rattle.jb_print.specs.Pieces.{comma_after, pieces_text, member_piece};
+ghost use Rattle.jb_print.specs.bridge.Pieces.{comma_after, pieces_text, member_piece};
 
 use crate::text::write_text;
 use itoa::Buffer;

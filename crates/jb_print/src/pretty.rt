@@ -3,7 +3,7 @@
 ghost use Rattle.std.specs.Prelude.{◌≡◌, ◌++◌, [], false, codes, map, IfOk, OnOk, string_bytes};
 ghost use Rattle.jb_print.specs.Quoted.{quoted};
 ghost use Rattle.jb_print.specs.Pretty.{pretty_at, deeper};
-ghost use Rattle.jb_print.specs.Pieces.{pieces_text, item_line, member_line, pretty_list, pretty_object};
+ghost use Rattle.jb_print.specs.bridge.Pieces.{pieces_text, item_line, member_line, pretty_list, pretty_object};
 
 use crate::compact::{write_comma, write_value};
 use crate::text::write_text;

@@ -8,7 +8,8 @@ use Rattle.std.proofs.lemmas.Bool.Decides.{nat_tests}
 use Rattle.std.proofs.lemmas.Str.{IsUtf8-from_ascii}
 use Rattle.std.proofs.lemmas.Str.Ascii.{IsAscii-nil}
 use Rattle.std.proofs.lemmas.List.{take-take, take_all, length-drop}
-use Rattle.jb_read.specs.Strings.{is_special, is_plain_ascii, plain_length, text_at}
+use Rattle.jb_read.specs.Strings.{is_special, plain_length, text_at}
+use Rattle.jb_read.specs.bridge.Strings.{is_plain_ascii}
 use Rattle.jb_read.proofs.Plain.{text_is_plain}
 
 -- what passes behind what passes

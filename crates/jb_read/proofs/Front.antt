@@ -1,6 +1,7 @@
 -- The front of what is left, by its first byte.
 use Rattle.std.proofs.Common.{◌≡◌, ℕ, false, List, [], ◌∷◌, Some, None, refl}
-use Rattle.jb_read.specs.Bytes.{first, is_white, is_digit, skip_white}
+use Rattle.jb_read.specs.Bytes.{is_white, is_digit, skip_white}
+use Rattle.jb_read.specs.bridge.Bytes.{first}
 use Rattle.jb_read.specs.Numbers.{digits_from}
 
 pub first_none : (at : List ℕ) → first at ≡ None → at ≡ []

@@ -8,8 +8,10 @@ use Rattle.jb_tree.specs.declared.value.Value.{Value}
 use Rattle.jb_tree.specs.declared.value.Value.TheVariants as value
 use Rattle.jb_read.specs.declared.fault.Broken.{Broken}
 use Rattle.jb_read.specs.declared.fault.FaultKind.TheVariants.{Depth}
-use Rattle.jb_read.specs.Bytes.{first, skip_white}
-use Rattle.jb_read.specs.Reading.{◌>>=◌, broken, Fails}
+use Rattle.jb_read.specs.Bytes.{skip_white}
+use Rattle.jb_read.specs.bridge.Bytes.{first}
+use Rattle.jb_read.specs.Reading.{◌>>=◌, broken}
+use Rattle.jb_read.specs.bridge.Reading.{Fails}
 use Rattle.jb_read.specs.Values.{begins_with, item_at, member_at, array_at, object_at, scalar_at, value_at}
 use Rattle.jb_read.proofs.Turns.{Goes, Goes-start}
 

@@ -10,7 +10,7 @@ use Rattle.jb_text.specs.Plain.{is_plain}
 use Rattle.std.proofs.lemmas.List.Sums.{prefix_len-le-length}
 use Rattle.std.specs.Str.{IsUtf8, is_utf8}
 use Rattle.std.proofs.lemmas.Str.{is_utf8-from_IsUtf8, IsUtf8-from_is_utf8}
-use Rattle.jb_read.specs.Bytes.{first}
+use Rattle.jb_read.specs.bridge.Bytes.{first}
 use Rattle.jb_read.specs.declared.fault.Broken.{Broken}
 use Rattle.jb_read.specs.declared.fault.FaultKind.TheVariants.{Syntax}
 use Rattle.jb_read.specs.Reading.{broken}

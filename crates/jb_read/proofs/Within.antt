@@ -12,11 +12,13 @@ use Rattle.jb_tree.specs.declared.value.Value.TheVariants as value
 use Rattle.jb_read.specs.declared.fault.Broken.{Broken}
 use Rattle.jb_read.specs.declared.fault.FaultKind.TheVariants.{Syntax, Float, NumberRange, Depth}
 use Rattle.jb_read.specs.Bytes.{is_white, is_digit, begins, skip_white}
-use Rattle.jb_read.specs.Reading.{◌>>=◌, broken, fails, byte_at, word_at, turns, Fails}
+use Rattle.jb_read.specs.Reading.{◌>>=◌, broken, fails, byte_at, word_at, turns}
+use Rattle.jb_read.specs.bridge.Reading.{Fails}
 use Rattle.jb_read.specs.Numbers.{digits_from, whole_part_at, number_of, is_minus, is_mark, checked_number, number_at}
 use Rattle.jb_read.specs.Strings.{plain_length, plain_front, behind_plain, ill_formed_at, run_at, hex_value, hex_digit_at, hex_at, is_high, is_low, pair_char, low_at, pair_at, unicode_at, short_escape, escape_at, piece_end, piece_at, text_at}
 use Rattle.jb_read.specs.Values.{begins_with, next_at, item_at, key_at, member_at, within_brackets, array_at, object_at, scalar_at, value_at, first_value, ended, whole_value}
-use Rattle.jb_read.specs.Texts.{front_value, IsWithin}
+use Rattle.jb_read.specs.Texts.{front_value}
+use Rattle.jb_read.specs.bridge.Texts.{IsWithin}
 
 abbrev pub Tame : {A : Type 0} → ℕ → Result (A × List ℕ) Broken → Type 0
 Tame n (Ok x) = length x.1 ≤ n

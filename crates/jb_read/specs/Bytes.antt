@@ -1,15 +1,6 @@
 -- Bytes at the front of what is left, and the rest of a text.
-use Rattle.std.specs.Prelude.{◌≡◌, ℕ, ◌-◌, ◌≤◌, Bool, false, ◌||◌, ◌==◌, nat_le, ◌&&◌, if◌then◌else◌, List, []}
-use Rattle.std.specs.Prelude.{◌∷◌, length, drop, Option}
-use Rattle.std.specs.List.{slice_get}
-
--- the first byte, if there is one
-abbrev pub first : List ℕ → Option ℕ
-first at = slice_get at 0
-
--- what is left of a text is its end
-abbrev pub IsEnd : List ℕ → List ℕ → Type 0
-IsEnd rest text = (length rest ≤ length text) × (rest ≡ drop (length text - length rest) text)
+use Rattle.std.specs.Prelude.{ℕ, Bool, false, ◌||◌, ◌==◌, nat_le, ◌&&◌, if◌then◌else◌, List, []}
+use Rattle.std.specs.Prelude.{◌∷◌}
 
 -- space, tab, line feed, carriage return (RFC 8259, section 2)
 abbrev pub is_white : ℕ → Bool

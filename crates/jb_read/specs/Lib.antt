@@ -10,3 +10,4 @@ pub mod StringFaults
 pub mod ScalarFaults
 pub mod Faults
 pub mod KindName
+pub mod bridge

@@ -18,14 +18,6 @@ whole_part_at (b ∷ at) = if b == 48
     then (if begins is_digit at then fails Syntax at else Ok (0, at))
     else (if is_digit b then Ok (digits_from 0 (b ∷ at)) else fails Syntax (b ∷ at))
 
--- a magnitude where 64 bits hold it
-abbrev pub within : ℕ → Option ℕ
-within n = if nat_lt n (2 ^ 64) then Some n else None
-
--- the same of the digits of a number
-abbrev pub bounded_whole_at : List ℕ → Result (Option ℕ × List ℕ) Broken
-bounded_whole_at at = whole_part_at at >>= λ read. Ok (within read.0, read.1)
-
 -- the number of a sign and a magnitude, where it is one of -2^63 to 2^64-1
 abbrev pub number_of : Bool → ℕ → Option ℤ
 number_of false n = if nat_lt n (2 ^ 64) then Some (pos n) else None

@@ -1,5 +1,5 @@
 -- Strings (RFC 8259, section 7), from behind the quote that opens them.
-use Rattle.std.specs.Prelude.{ℕ, suc, ◌+◌, ◌-◌, ◌*◌, Bool, true, false, not, ◌&&◌, ◌||◌, ◌==◌, nat_lt, nat_le}
+use Rattle.std.specs.Prelude.{ℕ, suc, ◌+◌, ◌-◌, ◌*◌, Bool, true, false, ◌&&◌, ◌||◌, ◌==◌, nat_lt, nat_le}
 use Rattle.std.specs.Prelude.{if◌then◌else◌, List, [], ◌∷◌, ◌++◌, length, take, drop, Option, Some, None, is_none, Result, Ok, Err}
 use Rattle.std.specs.Prelude.{encode_utf8}
 use Rattle.std.specs.List.{position_or_len}
@@ -12,10 +12,6 @@ use Rattle.jb_read.specs.Reading.{broken, fails, ◌>>=◌, byte_at, turns}
 -- a quote, a backslash or a control: what doesn't stand for itself
 abbrev pub is_special : ℕ → Bool
 is_special b = (b == 34) || (b == 92) || nat_lt b 32
-
--- a byte that stands for itself, and is ASCII
-abbrev pub is_plain_ascii : ℕ → Bool
-is_plain_ascii b = not (is_special b) && nat_lt b 128
 
 -- how many bytes at the front stand for themselves, they, and what is left
 abbrev pub plain_length : List ℕ → ℕ

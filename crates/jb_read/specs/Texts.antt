@@ -1,11 +1,11 @@
 -- Texts: one value between white space (RFC 8259, section 2), of at most 127 levels.
-use Rattle.std.specs.Prelude.{◌≡◌, ℕ, ◌-◌, ◌≤◌, List, length, Result, Ok, Err}
+use Rattle.std.specs.Prelude.{◌≡◌, ℕ, ◌-◌, List, length, Result, Ok, Err}
 use Rattle.jb_text.specs.declared.refused.Refused.{Refused}
 use Rattle.jb_text.specs.declared.refused.Refused.TheVariants as refused
 use Rattle.jb_tree.specs.declared.value.Value.{Value}
 use Rattle.jb_read.specs.declared.fault.Broken.{Broken}
 use Rattle.jb_read.specs.declared.fault.ReadFault.{ReadFault}
-use Rattle.jb_read.specs.Reading.{◌>>=◌, Fails}
+use Rattle.jb_read.specs.Reading.{◌>>=◌}
 use Rattle.jb_read.specs.Values.{first_value, whole_value}
 
 -- a fault in a text of this length, by the bytes that are left where it stands
@@ -32,17 +32,3 @@ abbrev pub Answers : Result Value (Refused ReadFault) → Result Value ReadFault
 Answers (Ok v) read = read ≡ Ok v
 Answers (Err (refused.Fault e)) read = read ≡ Err e
 Answers (Err refused.Memory) read = Unit {0}
-
--- the same where the fault isn't placed yet
-abbrev pub GivesValue : Result Value (Refused Broken) → Result Value Broken → Type 0
-GivesValue (Ok v) read = read ≡ Ok v
-GivesValue (Err e) read = Fails e read
-
--- a fault stands within so many bytes
-abbrev pub IsWithin : ℕ → Refused Broken → Type 0
-IsWithin len (refused.Fault e) = e.left ≤ len
-IsWithin len refused.Memory = Unit {0}
-
-abbrev pub placed_stop : ℕ → Refused Broken → Refused ReadFault
-placed_stop len (refused.Fault e) = refused.Fault (place_of len e)
-placed_stop len refused.Memory = refused.Memory

@@ -2,7 +2,7 @@
 
 ghost use Rattle.std.specs.Prelude.{◌≡◌, ◌≤◌, length, take, true};
 ghost use Rattle.std.specs.List.{list_all};
-ghost use Rattle.jb_read.specs.Strings.{is_plain_ascii};
+ghost use Rattle.jb_read.specs.bridge.Strings.{is_plain_ascii};
 
 /// How many bytes are looked at one by one before runs are, and how many are looked at in one step then.
 const RUN: usize = 8;

@@ -2,7 +2,7 @@
 
 ghost use Rattle.std.specs.Prelude.{◌≡◌, ◌≤◌, ℕ, length, take, drop, slice_get, IfOk};
 ghost use Rattle.std.specs.Str.{IsUtf8};
-ghost use Rattle.jb_read.specs.Bytes.{first};
+ghost use Rattle.jb_read.specs.bridge.Bytes.{first};
 ghost use Rattle.jb_read.specs.Reading.{broken};
 
 use crate::fault::{Broken, FaultKind};
@@ -20,7 +20,7 @@ pub struct Cursor<'a> {
 
 impl<'a> Model for Cursor<'a> {
     ghost use Rattle.std.specs.Prelude.{List, ℕ};
-    ghost use Rattle.jb_read.specs.Bytes.{IsEnd};
+    ghost use Rattle.jb_read.specs.bridge.Bytes.{IsEnd};
 
     ghost Value = { List ℕ };
 

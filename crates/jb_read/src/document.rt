@@ -6,7 +6,8 @@ ghost use Rattle.jb_read.specs.Faults.{FrontFault, JsonFault, IsFaultOf, IsFront
 ghost use Rattle.jb_tree.specs.declared.value.Value.{Value};
 ghost use Rattle.jb_read.specs.Spelling.{JsonText, JsonFront};
 ghost use Rattle.jb_read.specs.Values.{whole_value};
-ghost use Rattle.jb_read.specs.Texts.{text_value, text_front, Answers, GivesValue, IsWithin, placed_stop, front_value};
+ghost use Rattle.jb_read.specs.Texts.{text_value, text_front, Answers, front_value};
+ghost use Rattle.jb_read.specs.bridge.Texts.{GivesValue, IsWithin, placed_stop};
 
 use crate::cursor::Cursor;
 use crate::fault::{FaultKind, ReadFault, Stop};

@@ -1,7 +1,7 @@
 //! Escapes of strings (RFC 8259, section 7).
 
 ghost use Rattle.std.specs.Prelude.{◌≡◌, ◌<◌, ◌+◌, ◌^◌, length, IsTrue, IfOk, OnOk};
-ghost use Rattle.jb_read.specs.Reading.{Tells};
+ghost use Rattle.jb_read.specs.bridge.Reading.{Tells};
 ghost use Rattle.jb_read.specs.Strings.{hex_value, hex_digit_at, hex_at, is_high, is_low, pair_char, low_at, pair_at, unicode_at, short_escape, escape_at};
 
 use crate::cursor::Cursor;

@@ -2,8 +2,9 @@
 
 ghost use Rattle.std.specs.Prelude.{◌≡◌, drop, ◌+◌, ◌-◌, ◌*◌, ◌≤◌, ◌<◌, ◌^◌, ℕ, length, IsTrue, OnOk};
 ghost use Rattle.jb_read.specs.Bytes.{is_digit, begins};
-ghost use Rattle.jb_read.specs.Reading.{Tells};
-ghost use Rattle.jb_read.specs.Numbers.{digits_from, bounded_whole_at, within, number_of, is_mark, number_at};
+ghost use Rattle.jb_read.specs.bridge.Reading.{Tells};
+ghost use Rattle.jb_read.specs.Numbers.{digits_from, number_of, is_mark, number_at};
+ghost use Rattle.jb_read.specs.bridge.Numbers.{bounded_whole_at, within};
 
 use crate::cursor::Cursor;
 use crate::fault::{Broken, FaultKind};

@@ -3,7 +3,7 @@
 ghost use Rattle.std.specs.Prelude.{◌≡◌, ◌<◌, ◌≤◌, length, IfOk, OnOk, OnSome, Ok, MatchOption, is_none, ◌&&◌, ◌==◌};
 ghost use Rattle.std.specs.Str.{error_len};
 ghost use Rattle.std.specs.String.{string_bytes};
-ghost use Rattle.jb_read.specs.Reading.{Tells, Gives, GivesTurn, told_text};
+ghost use Rattle.jb_read.specs.bridge.Reading.{Tells, Gives, GivesTurn, told_text};
 ghost use Rattle.jb_read.specs.Strings.{plain_length, run_at, piece_at, text_at};
 
 use crate::ascii::ascii_length;

@@ -3,7 +3,8 @@
 ghost use Rattle.std.specs.Prelude.{◌≡◌, ◌<◌, ◌≤◌, ◌+◌, length, drop, OnOk, if◌then◌else◌};
 ghost use Rattle.jb_read.specs.Bytes.{is_white, skip_white};
 ghost use Rattle.std.specs.Bool.{OnTrue};
-ghost use Rattle.jb_read.specs.Reading.{Tells, byte_at, word_at};
+ghost use Rattle.jb_read.specs.Reading.{byte_at, word_at};
+ghost use Rattle.jb_read.specs.bridge.Reading.{Tells};
 ghost use Rattle.jb_read.specs.Values.{begins_with, next_at};
 
 use crate::cursor::Cursor;

@@ -3,7 +3,8 @@
 ghost use Rattle.std.specs.Prelude.{◌≡◌, ◌<◌, suc, length, drop, OnOk, MatchResult};
 ghost use Rattle.std.specs.Str.{bytes_eq};
 ghost use Rattle.indexmap.specs.IndexMap.{insert_entry};
-ghost use Rattle.jb_read.specs.Reading.{broken, Gives, GivesTurn};
+ghost use Rattle.jb_read.specs.Reading.{broken};
+ghost use Rattle.jb_read.specs.bridge.Reading.{Gives, GivesTurn};
 ghost use Rattle.jb_read.specs.Values.{scalar_at, key_at, item_at, member_at, array_at, object_at, value_at};
 ghost use Rattle.jb_read.specs.declared.fault.FaultKind.TheVariants.{Depth};
 

@@ -5,3 +5,4 @@ pub mod ByteString
 pub mod Number
 pub mod Numeral
 pub mod formers
+pub mod bridge

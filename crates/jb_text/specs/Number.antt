@@ -7,11 +7,6 @@ abbrev pub whole_value : Whole → ℤ
 whole_value (Unsigned n) = pos n
 whole_value (Negative z) = z
 
--- the form of a number: unsigned from zero on
-abbrev pub whole_of : ℤ → Whole
-whole_of (pos n) = Unsigned n
-whole_of (negsuc n) = Negative (negsuc n)
-
 -- the number itself where it is not below zero, else nothing
 abbrev pub IsUnsigned : Option ℕ → ℤ → Type 0
 IsUnsigned found (pos n) = found ≡ Some n

@@ -22,7 +22,8 @@ enum Whole {
 
 impl Model for Number {
     ghost use Rattle.std.specs.Prelude.{◌≡◌, ℤ};
-    ghost use Rattle.jb_text.specs.Number.{whole_value, whole_of};
+    ghost use Rattle.jb_text.specs.Number.{whole_value};
+    ghost use Rattle.jb_text.specs.bridge.Number.{whole_of};
 
     ghost Value = { ℤ };
 

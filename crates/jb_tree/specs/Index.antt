@@ -69,11 +69,6 @@ IsMade (Ok _) old new made = made ≡ Ok new
 IsMade (Err (Fault fault)) old new made = (made ≡ Err fault) × (new ≡ old)
 IsMade (Err Memory) old new made = new ≡ old
 
--- whether a value has a place, by what making it would give
-abbrev pub HasPlace : Result ⊤ IndexError → Result Value IndexError → Value → Type 0
-HasPlace (Ok _) made value = made ≡ Ok value
-HasPlace (Err fault) made value = made ≡ Err fault
-
 -- what making and lending a place answers
 abbrev pub IsLent : Result (MutBor Value) (Refused IndexError) → Result Value IndexError → (Value → Option Value) → Type 0
 IsLent (Ok found) made finds = (new : Value) × (made ≡ Ok new) × (finds new ≡ Some found.now)

@@ -5,3 +5,4 @@ pub mod Rows
 pub mod Same
 pub mod Tree
 pub mod Value
+pub mod bridge

@@ -6,7 +6,8 @@ ghost use Rattle.std.specs.Map.{lookup, set_value};
 ghost use Rattle.jb_tree.specs.declared.index.IndexError.{IndexError as Fault};
 ghost use Rattle.jb_tree.specs.declared.value.Value.{Value as Tree, Null};
 ghost use Rattle.jb_tree.specs.Places.{item_put_found, item_made_found, item_found_kept, member_put_found, member_made_found, member_found_kept};
-ghost use Rattle.jb_tree.specs.Index.{item_at, member_at, with_item, with_member, with_key, item_put, member_put, HasPlace, IsMade, IsLent, IsPut};
+ghost use Rattle.jb_tree.specs.Index.{item_at, member_at, with_item, with_member, with_key, item_put, member_put, IsMade, IsLent, IsPut};
+ghost use Rattle.jb_tree.specs.bridge.Index.{HasPlace};
 
 use crate::value::{Map, Value};
 use jb_map::Pairs;

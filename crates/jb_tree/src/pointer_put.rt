@@ -4,7 +4,8 @@ ghost use Rattle.std.specs.Option.{option_copied};
 ghost use Rattle.std.specs.Str.{bytes_eq};
 ghost use Rattle.std.specs.Map.{lookup, set_value};
 ghost use Rattle.jb_tree.specs.Index.{IsPut};
-ghost use Rattle.jb_tree.specs.Pointer.{decoded, item_named, item_named_put, named, named_put, pointed, pointed_put, tokens_from, tokens_left, IsPutBelow};
+ghost use Rattle.jb_tree.specs.Pointer.{decoded, item_named, item_named_put, named, named_put, pointed, pointed_put, tokens_from};
+ghost use Rattle.jb_tree.specs.bridge.Pointer.{tokens_left, IsPutBelow};
 
 use crate::pointer::{item_place, member_place};
 use crate::value::{Map, Value};

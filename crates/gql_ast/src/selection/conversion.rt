@@ -1,7 +1,8 @@
 //! What concrete trees stand for as selections.
 
 ghost use Rattle.std.specs.Prelude.{◌≡◌, ◌++◌, IfOk, OnOk, is_some, option_to_list};
-ghost use Rattle.gql_ast_base.specs.Forest.{plain, forest};
+ghost use Rattle.gql_ast_base.specs.Forest.{plain};
+ghost use Rattle.gql_ast_base.specs.bridge.Forest.{forest};
 ghost use Rattle.gql_ast_base.specs.Parts as parts;
 ghost use Rattle.gql_ast.specs.Selections as spec;
 

@@ -2,7 +2,8 @@
 
 ghost use Rattle.std.specs.Prelude.{◌≡◌, ◌++◌, IfOk, OnOk, Option, List, is_some, option_to_list};
 ghost use Rattle.std.specs.Option.{option_map};
-ghost use Rattle.gql_ast_base.specs.Forest.{plain, forest};
+ghost use Rattle.gql_ast_base.specs.Forest.{plain};
+ghost use Rattle.gql_ast_base.specs.bridge.Forest.{forest};
 ghost use Rattle.gql_ast_base.specs.Values as spec;
 
 use crate::convert::{Convert, first, push_found};

@@ -3,10 +3,10 @@
 ghost use Rattle.std.specs.Prelude.{◌≡◌, true, Some, OnOk};
 ghost use Rattle.std.specs.Option.{option_map};
 ghost use Rattle.gql_ast.specs.declared.definition.Definition.TheVariants as definition;
-ghost use Rattle.gql_ast_reader.specs.Items as kinds;
-ghost use Rattle.gql_ast_reader.specs.Extending as extending;
-ghost use Rattle.gql_ast_reader.specs.Making as spec;
-ghost use Rattle.gql_ast_reader.specs.Taking as taking;
+ghost use Rattle.gql_ast_reader.specs.bridge.Items as kinds;
+ghost use Rattle.gql_ast_reader.specs.bridge.Extending as extending;
+ghost use Rattle.gql_ast_reader.specs.bridge.Making as spec;
+ghost use Rattle.gql_ast_reader.specs.bridge.Taking as taking;
 ghost use Rattle.gql_ast_reader.specs.declared.part.Item.TheVariants as item;
 ghost use Rattle.gql_ast_reader.specs.declared.part.Part.TheVariants as part;
 

@@ -1,8 +1,8 @@
 //! Variables, input values, fields and enum values, in the rows around them.
 
 ghost use Rattle.std.specs.Prelude.{◌≡◌, OnOk};
-ghost use Rattle.gql_ast_reader.specs.Making as spec;
-ghost use Rattle.gql_ast_reader.specs.Taking as taking;
+ghost use Rattle.gql_ast_reader.specs.bridge.Making as spec;
+ghost use Rattle.gql_ast_reader.specs.bridge.Taking as taking;
 ghost use Rattle.gql_ast_reader.specs.declared.part.Item.TheVariants as item;
 ghost use Rattle.gql_ast_reader.specs.declared.part.Part.TheVariants as part;
 

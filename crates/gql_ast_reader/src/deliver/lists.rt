@@ -1,9 +1,9 @@
 //! Nodes that are lists, in the rows around them.
 
 ghost use Rattle.std.specs.Prelude.{◌≡◌, true, None};
-ghost use Rattle.gql_ast_reader.specs.Items as kinds;
-ghost use Rattle.gql_ast_reader.specs.Making as spec;
-ghost use Rattle.gql_ast_reader.specs.Taking as taking;
+ghost use Rattle.gql_ast_reader.specs.bridge.Items as kinds;
+ghost use Rattle.gql_ast_reader.specs.bridge.Making as spec;
+ghost use Rattle.gql_ast_reader.specs.bridge.Taking as taking;
 ghost use Rattle.gql_ast_reader.specs.declared.part.Group.TheVariants as group;
 ghost use Rattle.gql_ast_reader.specs.declared.part.Part.TheVariants as part;
 

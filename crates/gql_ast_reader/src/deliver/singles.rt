@@ -4,8 +4,8 @@ ghost use Rattle.std.specs.Prelude.{◌≡◌, OnOk};
 ghost use Rattle.std.specs.Option.{option_map};
 ghost use Rattle.gql_ast_base.specs.Types.{non_null};
 ghost use Rattle.gql_ast_base.specs.declared.type_ref.TypeRef.{List as ListOf};
-ghost use Rattle.gql_ast_reader.specs.Making as spec;
-ghost use Rattle.gql_ast_reader.specs.Taking as taking;
+ghost use Rattle.gql_ast_reader.specs.bridge.Making as spec;
+ghost use Rattle.gql_ast_reader.specs.bridge.Taking as taking;
 ghost use Rattle.gql_ast_reader.specs.declared.part.Part.TheVariants as part;
 
 use crate::make_root_operation::{make_operation, make_root_operation};

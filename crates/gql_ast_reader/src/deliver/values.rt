@@ -3,8 +3,8 @@
 ghost use Rattle.std.specs.Prelude.{◌≡◌, Some, OnOk};
 ghost use Rattle.gql_ast_base.specs.declared.value.ValueKind.{List as ListKind, Object as ObjectKind};
 ghost use Rattle.gql_ast_base.specs.declared.value.ValueKind.TheVariants.{Null};
-ghost use Rattle.gql_ast_reader.specs.Making as spec;
-ghost use Rattle.gql_ast_reader.specs.Taking as taking;
+ghost use Rattle.gql_ast_reader.specs.bridge.Making as spec;
+ghost use Rattle.gql_ast_reader.specs.bridge.Taking as taking;
 ghost use Rattle.gql_ast_reader.specs.declared.part.Item.TheVariants as item;
 ghost use Rattle.gql_ast_reader.specs.declared.part.Part.TheVariants as part;
 

@@ -1,7 +1,7 @@
 //! Literals and names as contents of values, texts of descriptions and names of a list.
 
 ghost use Rattle.std.specs.Prelude.{◌≡◌, IfOk, OnOk};
-ghost use Rattle.gql_ast_reader.specs.Taking as taking;
+ghost use Rattle.gql_ast_reader.specs.bridge.Taking as taking;
 
 use crate::part::Role;
 use crate::place::{Place, name_there, text_at};

@@ -1,7 +1,7 @@
 //! The nodes of a row that are lists, one by one.
 
 ghost use Rattle.std.specs.Prelude.{◌≡◌};
-ghost use Rattle.gql_ast_reader.specs.Fresh as fresh;
+ghost use Rattle.gql_ast_reader.specs.bridge.Fresh as fresh;
 
 use crate::row::Groups;
 use crate::row::keeping::clear_slot;

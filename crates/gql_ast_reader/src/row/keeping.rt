@@ -1,7 +1,7 @@
 //! What stays of a slot or a list where something more is found.
 
 ghost use Rattle.std.specs.Prelude.{◌≡◌, [], None, Some, OnOk};
-ghost use Rattle.gql_ast_reader.specs.Taking as taking;
+ghost use Rattle.gql_ast_reader.specs.bridge.Taking as taking;
 
 use jb_text::{Listed, Memory};
 

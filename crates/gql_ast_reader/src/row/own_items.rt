@@ -1,7 +1,7 @@
 //! What comes to what only rows of one sort of node keep, sort by sort.
 
 ghost use Rattle.std.specs.Prelude.{◌≡◌, OnOk};
-ghost use Rattle.gql_ast_reader.specs.Taking as taking;
+ghost use Rattle.gql_ast_reader.specs.bridge.Taking as taking;
 ghost use Rattle.gql_ast_reader.specs.declared.part.Item.TheVariants as item;
 
 use crate::row::Own;

@@ -1,8 +1,8 @@
 //! What only rows of one sort of node keep.
 
 ghost use Rattle.std.specs.Prelude.{◌≡◌, OnOk};
-ghost use Rattle.gql_ast_reader.specs.Taking as taking;
-ghost use Rattle.gql_ast_reader.specs.Fresh as fresh;
+ghost use Rattle.gql_ast_reader.specs.bridge.Taking as taking;
+ghost use Rattle.gql_ast_reader.specs.bridge.Fresh as fresh;
 
 use crate::part::Role;
 use crate::place::Place;

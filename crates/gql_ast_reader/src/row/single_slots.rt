@@ -1,8 +1,8 @@
 //! The nodes of a row of which it has one of a sort.
 
 ghost use Rattle.std.specs.Prelude.{◌≡◌, OnOk};
-ghost use Rattle.gql_ast_reader.specs.Taking as taking;
-ghost use Rattle.gql_ast_reader.specs.Fresh as fresh;
+ghost use Rattle.gql_ast_reader.specs.bridge.Taking as taking;
+ghost use Rattle.gql_ast_reader.specs.bridge.Fresh as fresh;
 
 use crate::part::Role;
 use crate::place::{Place, name_there};

@@ -1,9 +1,9 @@
 //! Rows that begin, and the tokens and names that come to them.
 
 ghost use Rattle.std.specs.Prelude.{◌≡◌, OnOk};
-ghost use Rattle.gql_ast_reader.specs.Taking as taking;
-ghost use Rattle.gql_ast_reader.specs.Fresh as fresh;
-ghost use Rattle.gql_ast_reader.specs.Places.{token_part_at};
+ghost use Rattle.gql_ast_reader.specs.bridge.Taking as taking;
+ghost use Rattle.gql_ast_reader.specs.bridge.Fresh as fresh;
+ghost use Rattle.gql_ast_reader.specs.bridge.Places.{token_part_at};
 ghost use Rattle.gql_ast_reader.specs.declared.part.Part.TheVariants as part;
 
 use crate::part::Role;

@@ -1,8 +1,8 @@
 //! The names among the tokens of a row, one by one.
 
 ghost use Rattle.std.specs.Prelude.{◌≡◌, Some, OnOk};
-ghost use Rattle.gql_ast_reader.specs.Taking as taking;
-ghost use Rattle.gql_ast_reader.specs.Fresh as fresh;
+ghost use Rattle.gql_ast_reader.specs.bridge.Taking as taking;
+ghost use Rattle.gql_ast_reader.specs.bridge.Fresh as fresh;
 
 use crate::place::{Place, text_at};
 use crate::row::Words;

@@ -1,5 +1,5 @@
 use Rattle.std.proofs.Common.{◌≡◌, drop}
-use Rattle.gql_cst.specs.Forest.{forest}
+use Rattle.gql_cst.specs.bridge.Forest.{forest}
 use Rattle.gql_ast.specs.Documents.{choice_of}
 use Rattle.gql_ast_base.specs.Parts.{first}
 use Rattle.gql_ast.proofs.definition.first_choice.Given as goal

@@ -1,6 +1,7 @@
 use Rattle.std.proofs.Common.{◌≡◌, ◌++◌, false, map, drop, codes, string_bytes}
-use Rattle.gql_ast.specs.ValueText.{value_text, member_text}
-use Rattle.gql_ast.specs.Pieces.{pieces_text}
+use Rattle.gql_ast.specs.ValueText.{value_text}
+use Rattle.gql_ast.specs.bridge.ValueText.{member_text}
+use Rattle.gql_ast.specs.bridge.Pieces.{pieces_text}
 use Rattle.gql_ast.proofs.value_text.+write.Given as goal
 
 -- what is written and what is left make the whole text

@@ -1,5 +1,5 @@
 use Rattle.std.proofs.Common.{◌≡◌, ◌++◌, drop}
-use Rattle.gql_cst.specs.Forest.{forest}
+use Rattle.gql_cst.specs.bridge.Forest.{forest}
 use Rattle.gql_ast_base.specs.Parts.{gather}
 use Rattle.gql_ast_base.specs.NamedTypes.{named_type_of}
 use Rattle.gql_ast_base.proofs.named_type.named_types.Given as goal

@@ -1,5 +1,5 @@
 use Rattle.std.proofs.Common.{◌+◌, ◌-◌, length, take, sym, ap, ◌∙◌, arith}
-use Rattle.gql_cst.specs.Forest.{forest}
+use Rattle.gql_cst.specs.bridge.Forest.{forest}
 use Rattle.gql_ast_base.specs.Parts.{or_else, end_of}
 use Rattle.gql_ast_base.proofs.Rows.{size-item, end_of-back}
 use Rattle.gql_ast_base.proofs.node.+end_of.Goals as goal

@@ -1,5 +1,5 @@
 use Rattle.std.proofs.Common.{◌≡◌, drop}
-use Rattle.gql_cst.specs.Forest.{forest}
+use Rattle.gql_cst.specs.bridge.Forest.{forest}
 use Rattle.gql_ast_base.specs.Parts as parts
 use Rattle.gql_ast_base.proofs.node.child.Given as goal
 

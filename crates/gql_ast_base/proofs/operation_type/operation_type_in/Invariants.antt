@@ -1,5 +1,5 @@
 use Rattle.std.proofs.Common.{◌≡◌, drop}
-use Rattle.gql_cst.specs.Forest.{forest}
+use Rattle.gql_cst.specs.bridge.Forest.{forest}
 use Rattle.gql_ast_base.specs.Parts.{first}
 use Rattle.gql_ast_base.specs.OperationTypes.{operation_type_of}
 use Rattle.gql_ast_base.proofs.operation_type.operation_type_in.Given as goal

@@ -1,6 +1,8 @@
 use Rattle.std.proofs.Common.{◌≡◌, ◌+◌, ◌*◌, drop}
-use Rattle.gql_ast_base.specs.Forest.{plain, forest}
-use Rattle.gql_ast_base.specs.Parts.{size, head}
+use Rattle.gql_ast_base.specs.Forest.{plain}
+use Rattle.gql_ast_base.specs.bridge.Forest.{forest}
+use Rattle.gql_ast_base.specs.Parts.{head}
+use Rattle.gql_ast_base.specs.bridge.Parts.{size}
 use Rattle.gql_ast_base.specs.Types.{types, forms}
 use Rattle.gql_ast_base.proofs.type_ref.+type_reference.Given as goal
 

@@ -1,8 +1,8 @@
 use Rattle.std.proofs.Common.{ℕ, List, ◌++◌, sym, subst, ◌∙◌}
-use Rattle.gql_cst.specs.Machine.{node_of}
+use Rattle.gql_cst.specs.bridge.Machine.{node_of}
 use Rattle.gql_ast_base.specs.SyntaxKind.TheVariants as kind
 use Rattle.gql_grammar.specs.declared.rule.Rule.TheVariants.{Document}
-use Rattle.gql_cst.specs.Going.{told_of}
+use Rattle.gql_cst.specs.bridge.Going.{told_of}
 use Rattle.gql_cst.specs.Parses.{Reports}
 use Rattle.gql_ast_reader.proofs.Comes.{told}
 use Rattle.gql_ast_reader.proofs.read.read_told.Goals as goal

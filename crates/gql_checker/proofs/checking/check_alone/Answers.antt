@@ -1,5 +1,5 @@
 use Rattle.std.proofs.Common.{Bool, subst}
-use Rattle.gql_engine.specs.Phases.{ready_as}
+use Rattle.gql_engine.specs.bridge.Phases.{ready_as}
 use Rattle.gql_engine.specs.Wanted.{wanted_over}
 use Rattle.gql_response.specs.Reading.{response_read}
 use Rattle.gql_response_check.specs.Verdict.{IsVerdictBy}

@@ -2,7 +2,8 @@ use Rattle.std.proofs.Common.{◌-◌, codes, arith}
 use Rattle.std.specs.Map.{lookup}
 use Rattle.std.specs.Str.{bytes_eq}
 use Rattle.gql_client_schema.specs.Reading.{both, gives}
-use Rattle.gql_client_schema.specs.References.{head_of, inner, inside, joined_head}
+use Rattle.gql_client_schema.specs.References.{head_of, inner, joined_head}
+use Rattle.gql_client_schema.specs.bridge.References.{inside}
 use Rattle.gql_client_schema.proofs.Levels.{inner_more}
 use Rattle.gql_client_schema.proofs.Readings.{goes, mapped_stops}
 use Rattle.gql_client_schema.proofs.reference.+levels.Goals as goal

@@ -1,4 +1,4 @@
-use Rattle.gql_coerce.specs.Subject.{subject_text}
+use Rattle.gql_coerce.specs.bridge.Subject.{subject_text}
 use Rattle.gql_coerce.proofs.Translated.{translated-List, translated-Object}
 use Rattle.gql_coerce.proofs.Steps.{answered}
 use Rattle.gql_coerce.proofs.translation.+translate.Goals as goal

@@ -1,6 +1,6 @@
 use Rattle.std.proofs.Common.{◌≡◌, ◌++◌}
 use Rattle.gql_collect.specs.Collected.{sets_of}
-use Rattle.gql_collect.specs.Walk.{lists_of}
+use Rattle.gql_collect.specs.bridge.Walk.{lists_of}
 use Rattle.gql_collect.proofs.collecting.laid_aside.Given as goal
 
 -- the sets that are left, and those laid aside, make the whole

@@ -5,7 +5,8 @@ use Rattle.gql_collect.specs.Flat.{flat_sets}
 use Rattle.gql_collect.specs.Same.{SameFirst}
 use Rattle.gql_collect.specs.Sizes.{sets_size, outer_size}
 use Rattle.gql_collect.specs.Standing.{NoneMoreOften, fields_in_all, fields_in_fragments}
-use Rattle.gql_collect.specs.Walk.{WalksAll, lists_of, fields_of}
+use Rattle.gql_collect.specs.Walk.{fields_of}
+use Rattle.gql_collect.specs.bridge.Walk.{WalksAll, lists_of}
 use Rattle.gql_collect.proofs.Enough.{walk-same}
 use Rattle.gql_collect.proofs.Once.{walk-once}
 use Rattle.gql_collect.proofs.collecting.selected_fields.Goals as goal

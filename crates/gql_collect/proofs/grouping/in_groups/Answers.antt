@@ -1,5 +1,5 @@
 use Rattle.std.proofs.Common.{arith, ◌≡◌, ◌<◌, length, take, get_or, sym, ap, ◌∙◌}
-use Rattle.gql_collect.specs.Grouping.{added}
+use Rattle.gql_collect.specs.bridge.Grouping.{added}
 use Rattle.gql_collect.specs.Groups.{groups_of}
 use Rattle.gql_collect.specs.Walk.{fields_of}
 use Rattle.gql_collect.proofs.GroupFacts.{groups-more, fields-more}

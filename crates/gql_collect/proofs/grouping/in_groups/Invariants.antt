@@ -1,5 +1,6 @@
 use Rattle.std.proofs.Common.{◌≡◌, take}
-use Rattle.gql_collect.specs.Grouping.{groups_seen, key_texts, group_keys}
+use Rattle.gql_collect.specs.Grouping.{groups_seen}
+use Rattle.gql_collect.specs.bridge.Grouping.{key_texts, group_keys}
 use Rattle.gql_collect.specs.Groups.{groups_of}
 use Rattle.gql_collect.specs.Walk.{fields_of}
 use Rattle.gql_collect.proofs.grouping.in_groups.Given as goal

@@ -2,8 +2,8 @@ use Rattle.std.proofs.Common.{arith, ◌≡◌, ℕ, List, length, replicate, So
 use Rattle.std.proofs.lemmas.List.{length-map}
 use Rattle.gql_document_types.specs.Spreads.{spread_graph}
 use Rattle.gql_document_types.specs.declared.fragment.Fragment.{Fragment}
-use Rattle.gql_collect.specs.Check.{Memo}
-use Rattle.gql_collect.specs.Checked.{Accepted, Refused}
+use Rattle.gql_collect.specs.bridge.Check.{Memo}
+use Rattle.gql_collect.specs.bridge.Checked.{Accepted, Refused}
 use Rattle.gql_collect.specs.Nested.{Nested, Fragments, Place}
 use Rattle.gql_collect.specs.View.{nested, body_nested, fragments_nested}
 use Rattle.gql_collect.proofs.DepthFacts.{accepts-low, refuses-high, accepts-cost, refuses-cost}

@@ -2,7 +2,7 @@ use Rattle.std.proofs.Common.{arith, suc, Some, None, refl, sym, ◌∙◌, subs
 use Rattle.gql_document_types.specs.Contents.{HaveContents}
 use Rattle.gql_document_types.specs.Spreads.{spread_graph}
 use Rattle.gql_document_types.specs.declared.document.ExecutableDocument.{ExecutableDocument}
-use Rattle.gql_cost.specs.Walked.{HaveSums}
+use Rattle.gql_cost.specs.bridge.Walked.{HaveSums}
 use Rattle.gql_cost.proofs.Walks.{right-start}
 use Rattle.gql_cost.proofs.Whole.{have-sums, walked-in, looks-all, cost-is, cost-within, cost-above}
 use Rattle.gql_cost.proofs.costing.cost.Goals as goal

@@ -1,4 +1,4 @@
-use Rattle.gql_engine.specs.Phases.{ready_as}
+use Rattle.gql_engine.specs.bridge.Phases.{ready_as}
 use Rattle.gql_cost.proofs.Bounded.{answered-within}
 use Rattle.gql_cost.proofs.responding.execute_within.Goals as goal
 

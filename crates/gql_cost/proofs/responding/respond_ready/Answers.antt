@@ -1,4 +1,4 @@
-use Rattle.gql_engine.specs.Phases.{ready_as}
+use Rattle.gql_engine.specs.bridge.Phases.{ready_as}
 use Rattle.gql_cost.proofs.CostRefusals.{memory-refused, memory-unexecuted, refused-cost, unexecuted-cost}
 use Rattle.gql_cost.proofs.responding.respond_ready.Goals as goal
 

@@ -1,5 +1,5 @@
 use Rattle.std.proofs.Common.{◌++◌}
-use Rattle.gql_cst.specs.Machine.{node_of}
+use Rattle.gql_cst.specs.bridge.Machine.{node_of}
 use Rattle.gql_cst.specs.Sentences.{root_kind}
 use Rattle.gql_cst.proofs.check.check.Goals as goal
 

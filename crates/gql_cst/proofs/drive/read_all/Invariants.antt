@@ -1,5 +1,5 @@
 use Rattle.std.proofs.Common.{◌≡◌, ◌-◌, length}
-use Rattle.gql_cst.specs.Going.{IsGoing, SameText}
+use Rattle.gql_cst.specs.bridge.Going.{IsGoing, SameText}
 use Rattle.gql_cst.proofs.drive.read_all.Given as goal
 
 abbrev pub invariant-loop-found : goal.invariant-loop-found

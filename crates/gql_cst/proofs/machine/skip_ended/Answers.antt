@@ -1,6 +1,6 @@
 use Rattle.std.proofs.Common.{◌≡◌, [], ◌∷◌, None, reverse, subst, rules, arith}
 use Rattle.std.proofs.lemmas.Grind.{common_steps}
-use Rattle.gql_cst.specs.Frames.{IsSame}
+use Rattle.gql_cst.specs.bridge.Frames.{IsSame}
 use Rattle.gql_cst.proofs.Frames.{same-then, same-skipped, reverse-pushed}
 use Rattle.gql_cst.proofs.machine.skip_ended.Goals as goal
 

@@ -1,5 +1,5 @@
 use Rattle.std.proofs.Common.{◌∷◌, reverse, length}
-use Rattle.gql_cst.specs.Frames.{IsSame}
+use Rattle.gql_cst.specs.bridge.Frames.{IsSame}
 use Rattle.gql_cst.proofs.machine.skip_ended.Given as goal
 
 abbrev pub invariant-loop-top : goal.invariant-loop-top

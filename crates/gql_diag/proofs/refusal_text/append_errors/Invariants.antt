@@ -1,6 +1,6 @@
 use Rattle.std.proofs.Common.{◌≡◌, ◌++◌, false, map, drop, codes, string_bytes}
 use Rattle.jb_print.specs.Compact.{compact}
-use Rattle.jb_print.specs.Pieces.{pieces_text}
+use Rattle.jb_print.specs.bridge.Pieces.{pieces_text}
 use Rattle.gql_response.specs.Response.{error_value}
 use Rattle.gql_diag.specs.Refusal.{error_of}
 use Rattle.gql_diag.proofs.refusal_text.append_errors.Given as goal

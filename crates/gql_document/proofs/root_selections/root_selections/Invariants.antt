@@ -1,4 +1,4 @@
-use Rattle.gql_document.specs.RootWalk.{walk_of}
+use Rattle.gql_document.specs.bridge.RootWalk.{walk_of}
 use Rattle.gql_document.proofs.RootMeasure.{weight}
 use Rattle.gql_document.proofs.RootWay.{IsOnTheWay}
 use Rattle.gql_document.proofs.root_selections.root_selections.Given as goal

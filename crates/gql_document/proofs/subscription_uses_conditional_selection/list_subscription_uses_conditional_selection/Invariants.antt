@@ -1,5 +1,5 @@
 use Rattle.std.proofs.Common.{◌≡◌, ◌++◌, drop}
-use Rattle.gql_document.specs.RootWalk.{selections_of}
+use Rattle.gql_document.specs.bridge.RootWalk.{selections_of}
 use Rattle.gql_document.specs.SubscriptionUsesConditionalSelection as spec
 use Rattle.gql_document.proofs.subscription_uses_conditional_selection.list_subscription_uses_conditional_selection.Given as goal
 

@@ -1,5 +1,5 @@
 use Rattle.std.proofs.Common.{◌≡◌, ◌++◌, drop}
-use Rattle.gql_document.specs.RootWalk.{selections_of}
+use Rattle.gql_document.specs.bridge.RootWalk.{selections_of}
 use Rattle.gql_document.specs.SubscriptionUsesIntrospection as spec
 use Rattle.gql_document.proofs.subscription_uses_introspection.list_subscription_uses_introspection.Given as goal
 

@@ -1,5 +1,5 @@
 use Rattle.std.proofs.Common.{subst}
-use Rattle.gql_document_types.specs.RootWalk.{walk_of}
+use Rattle.gql_document_types.specs.bridge.RootWalk.{walk_of}
 use Rattle.gql_document_types.proofs.RootWalk.{goes_on, weighs_less, way_ends, IsOnTheWay}
 use Rattle.gql_document_types.proofs.root_fields.fields_at_root.Goals as goal
 

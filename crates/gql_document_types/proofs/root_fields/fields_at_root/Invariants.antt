@@ -1,4 +1,4 @@
-use Rattle.gql_document_types.specs.RootWalk.{walk_of}
+use Rattle.gql_document_types.specs.bridge.RootWalk.{walk_of}
 use Rattle.gql_document_types.proofs.Measure.{weight}
 use Rattle.gql_document_types.proofs.RootWalk.{IsOnTheWay}
 use Rattle.gql_document_types.proofs.root_fields.fields_at_root.Given as goal

@@ -1,5 +1,5 @@
 -- Where a cause holds its refusal comes, and what is valid has no cause of one.
-use Rattle.gql_engine.specs.AnswerError.{call_over}
+use Rattle.gql_engine.specs.bridge.AnswerError.{call_over}
 use Rattle.gql_engine.proofs.Responses.{answers_by, exact_by, valid_by}
 use Rattle.gql_engine.proofs.answering.answer_call.Goals as goal
 

@@ -1,4 +1,4 @@
-use Rattle.gql_engine.specs.AnswerError.{call_over}
+use Rattle.gql_engine.specs.bridge.AnswerError.{call_over}
 use Rattle.gql_engine.proofs.Causes.{unread_cause}
 use Rattle.gql_engine.proofs.Responses.{answered_from, refused_from}
 use Rattle.gql_engine.proofs.answering.answer_or_refuse.Goals as goal

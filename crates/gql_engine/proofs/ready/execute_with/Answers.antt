@@ -5,7 +5,7 @@ use Rattle.gql_exec.specs.Running.{IsPrintedIn}
 use Rattle.gql_exec.specs.declared.execution.Execution.{Execution}
 use Rattle.gql_exec.specs.declared.execution.Given.TheVariants.{Coerced}
 use Rattle.gql_response.specs.declared.execution_response.ExecutionResponse.{ExecutionResponse}
-use Rattle.gql_engine.specs.Answered.{IsPrint}
+use Rattle.gql_engine.specs.bridge.Answered.{IsPrint}
 use Rattle.gql_engine.proofs.Responses.{executed_bytes, never_refused}
 use Rattle.gql_engine.proofs.Runs.{rooted}
 use Rattle.gql_engine.proofs.ready.execute_with.Goals as goal

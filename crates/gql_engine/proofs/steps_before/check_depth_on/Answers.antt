@@ -1,7 +1,7 @@
 use Rattle.std.proofs.Common.{subst}
 use Rattle.gql_document_types.specs.declared.document.ExecutableDocument.{ExecutableDocument}
 use Rattle.gql_engine.specs.declared.answer_error.RequestKind.TheVariants.{Depth}
-use Rattle.gql_engine.specs.Responding.{IsOfStep}
+use Rattle.gql_engine.specs.bridge.Responding.{IsOfStep}
 use Rattle.gql_engine.specs.Wanted.{wanted_over}
 use Rattle.gql_engine.proofs.Responses.{too_deep_at}
 use Rattle.gql_engine.proofs.steps_before.check_depth_on.Goals as goal

@@ -2,7 +2,7 @@ use Rattle.std.proofs.Common.{Err, subst}
 use Rattle.gql_document_types.specs.ChosenOperation.{IsChosen, text_of}
 use Rattle.gql_document_types.specs.declared.document.ExecutableDocument.{ExecutableDocument}
 use Rattle.gql_engine.specs.declared.answer_error.RequestKind.TheVariants.{Operation}
-use Rattle.gql_engine.specs.Responding.{IsOfStep}
+use Rattle.gql_engine.specs.bridge.Responding.{IsOfStep}
 use Rattle.gql_engine.specs.Wanted.{wanted_over}
 use Rattle.gql_engine.proofs.Responses.{unchosen}
 use Rattle.gql_engine.proofs.steps_before.choose.Goals as goal

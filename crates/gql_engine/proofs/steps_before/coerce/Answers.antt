@@ -3,7 +3,7 @@ use Rattle.gql_coerce.specs.Variables.{coerced_variables}
 use Rattle.gql_document_types.specs.declared.document.ExecutableDocument.{ExecutableDocument}
 use Rattle.gql_collect.specs.RequestErrors.{request_error as fault_told}
 use Rattle.gql_engine.specs.declared.answer_error.RequestKind.TheVariants.{Variable}
-use Rattle.gql_engine.specs.Responding.{IsOfStep}
+use Rattle.gql_engine.specs.bridge.Responding.{IsOfStep}
 use Rattle.gql_engine.specs.Wanted.{wanted_over}
 use Rattle.gql_engine.proofs.Responses.{uncoerced_at, was_coerced}
 use Rattle.gql_engine.proofs.steps_before.coerce.Goals as goal

@@ -1,6 +1,7 @@
 use Rattle.std.proofs.Common.{◌≡◌, ℕ, List, Option, MatchOption, string_bytes, codes, sym, ◌∙◌, subst, Some}
 use Rattle.std.proofs.lemmas.Slice.Eq.{bytes_eq-Decides}
-use Rattle.gql_engine.specs.Task.{IsCount, IsNoCount}
+use Rattle.gql_engine.specs.Task.{IsCount}
+use Rattle.gql_engine.specs.bridge.Task.{IsNoCount}
 use Rattle.gql_engine.specs.declared.task.Wish.TheVariants.{Answer, Check}
 use Rattle.gql_engine.proofs.Words.{asks_by_count, asks_by_name, one_word, two_words}
 use Rattle.gql_engine.proofs.task.task_asked.Goals as goal

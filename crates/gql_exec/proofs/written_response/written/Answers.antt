@@ -3,7 +3,7 @@ use Rattle.jb_tree.specs.declared.value.Value.TheVariants as json
 use Rattle.jb_print.specs.Compact.{compact}
 use Rattle.gql_response.specs.Response.{data_value}
 use Rattle.gql_resolvers.specs.Execute.{Member}
-use Rattle.gql_exec.specs.Written.{IsOpenObject}
+use Rattle.gql_exec.specs.bridge.Written.{IsOpenObject}
 use Rattle.gql_exec.proofs.Outputs.{members-written, none-written}
 use Rattle.gql_exec.proofs.written_response.written.Goals as goal
 use Rattle.gql_exec.proofs.written_response.written.Goals.{in-Some+in_ok-end_object-in-Some, in-None+in_ok-value-in-None}

@@ -6,7 +6,7 @@ use Rattle.gql_resolvers.specs.Data.{Data}
 use Rattle.gql_engine.specs.Reply.{root_of}
 use Rattle.gql_engine.specs.Wanted.{Members, Wanted, wanted_over}
 use Rattle.jb_io.specs.Stream.{HasFailed}
-use Rattle.gql_gateway.specs.Causes.{JoinsOrCause}
+use Rattle.gql_gateway.specs.bridge.Causes.{JoinsOrCause}
 use Rattle.gql_gateway.specs.Command.{DataTells, wanted_here}
 use Rattle.gql_gateway.proofs.Calls.{local-answered, local-refused}
 use Rattle.gql_gateway.proofs.command.answer_request.Goals as goal

@@ -2,7 +2,7 @@ use Rattle.std.proofs.Common.{◌≡◌, List, [], ◌∷◌, sym, subst}
 use Rattle.std.specs.Map.{lookup}
 use Rattle.std.specs.Str.{bytes_eq}
 use Rattle.gql_gateway.specs.Joined.{AreApart, of_key}
-use Rattle.gql_gateway.specs.Joining.{AreAbsent}
+use Rattle.gql_gateway.specs.bridge.Joining.{AreAbsent}
 use Rattle.gql_gateway.specs.declared.joining.Joined.{Joined}
 use Rattle.gql_gateway.specs.declared.root_key.RootKey.{RootKey}
 use Rattle.gql_gateway.proofs.Adding.{IsSoFar, absent-next, nothing-there, so-first, so-next, so-refused, so-end}

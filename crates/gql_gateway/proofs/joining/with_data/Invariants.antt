@@ -2,8 +2,8 @@ use Rattle.std.proofs.Common.{List}
 use Rattle.gql_resolvers.specs.Execute.{Member}
 use Rattle.gql_response.specs.declared.graphql_error.GraphQLError.{GraphQLError}
 use Rattle.gql_gateway.specs.Joined.{AreApart}
-use Rattle.gql_gateway.specs.Joining.{AreAbsent}
-use Rattle.gql_gateway.specs.Sides.{IsSideOf}
+use Rattle.gql_gateway.specs.bridge.Joining.{AreAbsent}
+use Rattle.gql_gateway.specs.bridge.Sides.{IsSideOf}
 use Rattle.gql_gateway.proofs.Adding.{IsSoFar}
 use Rattle.gql_gateway.proofs.joining.with_data.Given as goal
 

@@ -2,7 +2,7 @@ use Rattle.std.proofs.Common.{ℕ, List, refl, subst}
 use Rattle.gql_engine.specs.Responding.{HasCauseOf}
 use Rattle.gql_engine.specs.Wanted.{Wanted, wanted_over}
 use Rattle.jb_io.specs.Stream.{HasFailed}
-use Rattle.gql_gateway.specs.Causes.{JoinsOrCause}
+use Rattle.gql_gateway.specs.bridge.Causes.{JoinsOrCause}
 use Rattle.gql_gateway.specs.Gateway.{Fits, IsTooLarge, LacksKey}
 use Rattle.gql_gateway.proofs.Calls.{engine-caused}
 use Rattle.gql_gateway.proofs.responding.respond_joined.Goals as goal

@@ -1,4 +1,4 @@
-use Rattle.gql_engine.specs.Phases.{ready_as}
+use Rattle.gql_engine.specs.bridge.Phases.{ready_as}
 use Rattle.jb_io.specs.Stream.{HasFailed}
 use Rattle.gql_gateway.proofs.Calls.{division-caused, division-unasked}
 use Rattle.gql_gateway.proofs.Chosen.{begins-at-object}

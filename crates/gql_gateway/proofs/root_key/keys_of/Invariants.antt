@@ -1,5 +1,5 @@
 use Rattle.std.proofs.Common.{◌≡◌, take}
-use Rattle.gql_gateway.specs.KeysSeen.{keys_seen}
+use Rattle.gql_gateway.specs.bridge.KeysSeen.{keys_seen}
 use Rattle.gql_gateway.proofs.root_key.keys_of.Given as goal
 
 -- the keys of the groups so far

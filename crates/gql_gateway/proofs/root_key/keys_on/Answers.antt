@@ -5,7 +5,7 @@ use Rattle.gql_collect.specs.Grouping.{groups_seen}
 use Rattle.gql_collect.specs.Groups.{SameGroups, applying}
 use Rattle.gql_document_types.specs.declared.selection.Selection.{Selection}
 use Rattle.gql_gateway.specs.Joined.{AreApart, keys_on}
-use Rattle.gql_gateway.specs.KeysSeen.{keys_seen}
+use Rattle.gql_gateway.specs.bridge.KeysSeen.{keys_seen}
 use Rattle.gql_gateway.specs.declared.root_key.RootKey.{RootKey}
 use Rattle.gql_gateway.proofs.ApartKeys.{keys-on-apart}
 use Rattle.gql_gateway.proofs.SeenKeys.{keys-collected, sets-are}

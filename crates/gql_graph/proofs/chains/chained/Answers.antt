@@ -1,7 +1,7 @@
 use Rattle.std.proofs.Common.{◌≡◌, true, length, replicate, ap, ◌∙◌}
 use Rattle.std.proofs.lemmas.List.{length-replicate}
-use Rattle.gql_graph.specs.Chains.{next_mark}
-use Rattle.gql_graph.specs.Cycles.{Told}
+use Rattle.gql_graph.specs.bridge.Chains.{next_mark}
+use Rattle.gql_graph.specs.bridge.Cycles.{Told}
 use Rattle.gql_graph.proofs.Chained.{no_names, more_names}
 use Rattle.gql_graph.proofs.chains.chained.Goals as goal
 

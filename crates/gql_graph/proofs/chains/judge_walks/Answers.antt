@@ -1,6 +1,6 @@
 use Rattle.std.proofs.Common.{ℕ, Bool, List, length, subst}
-use Rattle.gql_graph.specs.Chains.{AreReaching, is_long}
-use Rattle.gql_graph.specs.Cycles.{Told}
+use Rattle.gql_graph.specs.bridge.Chains.{AreReaching, is_long}
+use Rattle.gql_graph.specs.bridge.Cycles.{Told}
 use Rattle.gql_graph.proofs.Chained.{judged}
 use Rattle.gql_graph.proofs.chains.judge_walks.Goals as goal
 

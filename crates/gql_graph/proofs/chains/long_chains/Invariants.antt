@@ -1,5 +1,5 @@
-use Rattle.gql_graph.specs.Chains.{is_long}
-use Rattle.gql_graph.specs.Cycles.{Told}
+use Rattle.gql_graph.specs.bridge.Chains.{is_long}
+use Rattle.gql_graph.specs.bridge.Cycles.{Told}
 use Rattle.gql_graph.proofs.chains.long_chains.Given as goal
 
 abbrev pub invariant-loop-node : goal.invariant-loop-node

@@ -1,4 +1,4 @@
-use Rattle.gql_graph.specs.Chains.{AreMarkedNodes}
+use Rattle.gql_graph.specs.bridge.Chains.{AreMarkedNodes}
 use Rattle.gql_graph.proofs.chains.marked_nodes.Given as goal
 
 abbrev pub invariant-loop-node : goal.invariant-loop-node

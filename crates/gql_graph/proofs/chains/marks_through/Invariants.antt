@@ -1,5 +1,5 @@
-use Rattle.gql_graph.specs.Chains.{any_marked}
-use Rattle.gql_graph.specs.Cycles.{Told}
+use Rattle.gql_graph.specs.bridge.Chains.{any_marked}
+use Rattle.gql_graph.specs.bridge.Cycles.{Told}
 use Rattle.gql_graph.specs.Graph.{row}
 use Rattle.gql_graph.proofs.chains.marks_through.Given as goal
 

@@ -1,6 +1,6 @@
 use Rattle.std.proofs.Common.{◌≡◌, length, subst, arith}
-use Rattle.gql_graph.specs.Chains.{any_next}
-use Rattle.gql_graph.specs.Cycles.{Told}
+use Rattle.gql_graph.specs.bridge.Chains.{any_next}
+use Rattle.gql_graph.specs.bridge.Cycles.{Told}
 use Rattle.gql_graph.specs.Graph.{row}
 use Rattle.gql_graph.proofs.Chained.{next_round}
 use Rattle.gql_graph.proofs.chains.next_marks.Goals as goal

@@ -1,5 +1,5 @@
 use Rattle.std.proofs.Common.{◌≡◌, ◌++◌, length, take, drop, sym, ◌∙◌, subst, arith}
-use Rattle.gql_graph.specs.Chains.{AreReaching, AreMarkedNodes}
+use Rattle.gql_graph.specs.bridge.Chains.{AreReaching, AreMarkedNodes}
 use Rattle.gql_graph.proofs.Chained.{reaching}
 use Rattle.gql_graph.proofs.Cyclic.{written}
 use Rattle.gql_graph.proofs.chains.reaching.Goals as goal

@@ -1,5 +1,5 @@
 use Rattle.std.proofs.Common.{◌≡◌, length, subst, arith}
-use Rattle.gql_graph.specs.Cycles.{Told, shares_part}
+use Rattle.gql_graph.specs.bridge.Cycles.{Told, shares_part}
 use Rattle.gql_graph.specs.Graph.{row}
 use Rattle.gql_graph.proofs.Cyclic.{marked_cycles}
 use Rattle.gql_graph.proofs.cycles.on_cycles.Goals as goal

@@ -1,4 +1,4 @@
-use Rattle.gql_graph.specs.Cycles.{Told, shares_part}
+use Rattle.gql_graph.specs.bridge.Cycles.{Told, shares_part}
 use Rattle.gql_graph.specs.Graph.{row}
 use Rattle.gql_graph.proofs.cycles.on_cycles.Given as goal
 

@@ -1,5 +1,5 @@
 use Rattle.std.proofs.Common.{sym, subst, arith}
-use Rattle.gql_graph.specs.Cycles.{HasPart}
+use Rattle.gql_graph.specs.bridge.Cycles.{HasPart}
 use Rattle.gql_graph.proofs.Cyclic.{written}
 use Rattle.gql_graph.proofs.cycles.parts.Goals as goal
 

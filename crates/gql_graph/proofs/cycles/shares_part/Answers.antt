@@ -1,6 +1,6 @@
 use Rattle.std.proofs.Common.{refl, sym, ap, ◌∙◌, length}
 use Rattle.std.proofs.lemmas.Option.{slice_get_read, slice_get_past}
-use Rattle.gql_graph.specs.Cycles.{in_part}
+use Rattle.gql_graph.specs.bridge.Cycles.{in_part}
 use Rattle.gql_graph.proofs.cycles.shares_part.Goals as goal
 
 pub returns-in-Some : goal.returns-in-Some

@@ -1,5 +1,5 @@
 use Rattle.std.proofs.Common.{inl, inr, sym, subst, arith}
-use Rattle.gql_graph.specs.Cycles.{HasPart}
+use Rattle.gql_graph.specs.bridge.Cycles.{HasPart}
 use Rattle.gql_graph.proofs.Flooded.{same_or_not}
 use Rattle.gql_graph.proofs.cycles.take_each.Goals as goal
 

@@ -1,5 +1,5 @@
 use Rattle.std.proofs.Common.{ℕ, ◌<◌}
-use Rattle.gql_graph.specs.Cycles.{IsPartitioned, HasPart}
+use Rattle.gql_graph.specs.bridge.Cycles.{IsPartitioned, HasPart}
 use Rattle.gql_graph.proofs.cycles.take_each.Given as goal
 
 -- the nodes before this one have their parts

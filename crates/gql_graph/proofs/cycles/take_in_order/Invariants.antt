@@ -1,4 +1,4 @@
-use Rattle.gql_graph.specs.Cycles.{IsPartitioned}
+use Rattle.gql_graph.specs.bridge.Cycles.{IsPartitioned}
 use Rattle.gql_graph.proofs.cycles.take_in_order.Given as goal
 
 abbrev pub invariant-loop-index : goal.invariant-loop-index

@@ -1,6 +1,6 @@
 use Rattle.std.proofs.Common.{subst}
-use Rattle.gql_graph.specs.Explored.{AreAdded}
-use Rattle.gql_graph.specs.Exploring.{sets_by, field_sets}
+use Rattle.gql_graph.specs.bridge.Explored.{AreAdded}
+use Rattle.gql_graph.specs.bridge.Exploring.{sets_by, field_sets}
 use Rattle.gql_graph.proofs.Growing.{begun, each_set, only_sets}
 use Rattle.gql_graph.proofs.exploration.add_all_sets.Goals as goal
 

@@ -1,6 +1,6 @@
 use Rattle.std.proofs.Common.{◌≡◌, suc, true, ◌∷◌, [], ◌++◌, ◌+◌, map, sym, ap, ◌∙◌, subst, arith}
 use Rattle.std.specs.List.{range_with_len}
-use Rattle.gql_graph.specs.Explored.{AreAdded, IsAdded}
+use Rattle.gql_graph.specs.bridge.Explored.{AreAdded, IsAdded}
 use Rattle.gql_graph.proofs.Growing.{one_added, range_more, map_more}
 use Rattle.gql_graph.proofs.exploration.add_field_sets.Goals as goal
 

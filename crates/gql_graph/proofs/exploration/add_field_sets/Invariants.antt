@@ -1,7 +1,7 @@
 use Rattle.std.proofs.Common.{map}
 use Rattle.std.specs.List.{range_with_len}
-use Rattle.gql_graph.specs.Explored.{AreAdded}
-use Rattle.gql_graph.specs.Exploring.{IsCleanFor}
+use Rattle.gql_graph.specs.bridge.Explored.{AreAdded}
+use Rattle.gql_graph.specs.bridge.Exploring.{IsCleanFor}
 use Rattle.gql_graph.proofs.exploration.add_field_sets.Given as goal
 
 -- the pairs of the sets before this one are found

@@ -1,6 +1,6 @@
 use Rattle.std.proofs.Common.{◌≡◌, suc, true, ◌∷◌, [], ◌++◌, ◌+◌, take, sym, ap, ◌∙◌, subst, arith}
 use Rattle.std.proofs.Math.Seq.{take-suc}
-use Rattle.gql_graph.specs.Explored.{AreAdded, IsAdded}
+use Rattle.gql_graph.specs.bridge.Explored.{AreAdded, IsAdded}
 use Rattle.gql_graph.proofs.Growing.{one_added}
 use Rattle.gql_graph.proofs.exploration.add_rows.Goals as goal
 

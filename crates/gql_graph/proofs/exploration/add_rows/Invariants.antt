@@ -1,6 +1,6 @@
 use Rattle.std.proofs.Common.{take}
-use Rattle.gql_graph.specs.Explored.{AreAdded}
-use Rattle.gql_graph.specs.Exploring.{IsCleanFor}
+use Rattle.gql_graph.specs.bridge.Explored.{AreAdded}
+use Rattle.gql_graph.specs.bridge.Exploring.{IsCleanFor}
 use Rattle.gql_graph.proofs.exploration.add_rows.Given as goal
 
 -- the pairs of the sets before this one are found

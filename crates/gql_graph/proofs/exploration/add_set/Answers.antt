@@ -1,5 +1,5 @@
 use Rattle.std.proofs.Common.{length, sym, subst}
-use Rattle.gql_graph.specs.Explored.{AreKeys, AreFields}
+use Rattle.gql_graph.specs.bridge.Explored.{AreKeys, AreFields}
 use Rattle.gql_graph.proofs.Growing.{added}
 use Rattle.gql_graph.proofs.exploration.add_set.Goals as goal
 

@@ -1,6 +1,6 @@
 use Rattle.std.proofs.Common.{◌≡◌, ◌+◌, ℕ, List, length, replicate, sym, ap, ◌∙◌, subst}
 use Rattle.std.proofs.lemmas.List.{length-replicate}
-use Rattle.gql_graph.specs.Explored.{AreEmpty, AreUnmarked}
+use Rattle.gql_graph.specs.bridge.Explored.{AreEmpty, AreUnmarked}
 use Rattle.gql_graph.proofs.Growing.{all_empty, as_many_buckets, all_unmarked}
 use Rattle.gql_graph.proofs.exploration.explore.Goals as goal
 

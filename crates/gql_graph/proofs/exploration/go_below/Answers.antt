@@ -1,5 +1,5 @@
 use Rattle.std.proofs.Common.{◌≡◌, ◌++◌, sym, ap, ◌∙◌}
-use Rattle.gql_graph.specs.Exploring.{sets_by}
+use Rattle.gql_graph.specs.bridge.Exploring.{sets_by}
 use Rattle.gql_graph.proofs.Growing.{goes}
 use Rattle.gql_graph.proofs.exploration.go_below.Goals as goal
 

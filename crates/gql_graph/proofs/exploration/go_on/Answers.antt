@@ -1,5 +1,5 @@
 use Rattle.std.proofs.Common.{sym}
-use Rattle.gql_graph.specs.Exploring.{sets_by}
+use Rattle.gql_graph.specs.bridge.Exploring.{sets_by}
 use Rattle.gql_graph.proofs.Growing.{next_turn, explored}
 use Rattle.gql_graph.proofs.exploration.go_on.Goals as goal
 

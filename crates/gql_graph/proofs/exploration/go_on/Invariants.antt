@@ -1,4 +1,4 @@
-use Rattle.gql_graph.specs.Exploring.{IsCleanFor, sets_by}
+use Rattle.gql_graph.specs.bridge.Exploring.{IsCleanFor, sets_by}
 use Rattle.gql_graph.proofs.Growing.{Turn}
 use Rattle.gql_graph.proofs.exploration.go_on.Given as goal
 

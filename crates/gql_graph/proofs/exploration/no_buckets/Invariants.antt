@@ -1,5 +1,5 @@
 use Rattle.std.proofs.Common.{◌≡◌}
-use Rattle.gql_graph.specs.Exploring.{no_buckets}
+use Rattle.gql_graph.specs.bridge.Exploring.{no_buckets}
 use Rattle.gql_graph.proofs.exploration.no_buckets.Given as goal
 
 abbrev pub invariant-loop-key : goal.invariant-loop-key

@@ -1,6 +1,6 @@
 use Rattle.std.proofs.Common.{length, sym, ap, ◌∙◌, subst}
-use Rattle.gql_graph.specs.Explored.{AreEmpty, IsPaired}
-use Rattle.gql_graph.specs.Steps.{Meeting, all_emptied}
+use Rattle.gql_graph.specs.bridge.Explored.{AreEmpty, IsPaired}
+use Rattle.gql_graph.specs.bridge.Steps.{Meeting, all_emptied}
 use Rattle.gql_graph.proofs.Meetings.{paired_all, empty_again, as_many_again}
 use Rattle.gql_graph.proofs.meeting.add_pairs.Goals as goal
 

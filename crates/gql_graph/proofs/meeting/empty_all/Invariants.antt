@@ -1,5 +1,5 @@
 use Rattle.std.proofs.Common.{◌≡◌, drop}
-use Rattle.gql_graph.specs.Steps.{all_emptied}
+use Rattle.gql_graph.specs.bridge.Steps.{all_emptied}
 use Rattle.gql_graph.proofs.meeting.empty_all.Given as goal
 
 -- what is emptied and what is left make the whole

@@ -1,5 +1,5 @@
 use Rattle.std.proofs.Common.{◌≡◌, drop}
-use Rattle.gql_graph.specs.Steps.{all_inserted}
+use Rattle.gql_graph.specs.bridge.Steps.{all_inserted}
 use Rattle.gql_graph.proofs.meeting.insert_all.Given as goal
 
 -- what is added and what is left make the whole

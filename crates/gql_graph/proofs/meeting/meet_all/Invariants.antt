@@ -1,5 +1,5 @@
 use Rattle.std.proofs.Common.{◌≡◌, drop}
-use Rattle.gql_graph.specs.Steps.{meeting, all_met}
+use Rattle.gql_graph.specs.bridge.Steps.{meeting, all_met}
 use Rattle.gql_graph.proofs.meeting.meet_all.Given as goal
 
 -- those that have met and those that are left make the whole

@@ -1,6 +1,6 @@
 use Rattle.std.proofs.Common.{◌≡◌, sym, ap, ◌∙◌, subst, length}
-use Rattle.gql_graph.specs.Explored.{AreFields, AreUnmarked}
-use Rattle.gql_graph.specs.Steps.{fields_at, all_reset}
+use Rattle.gql_graph.specs.bridge.Explored.{AreFields, AreUnmarked}
+use Rattle.gql_graph.specs.bridge.Steps.{fields_at, all_reset}
 use Rattle.gql_graph.proofs.SetFields.{found, clean_again}
 use Rattle.gql_graph.proofs.members.fields_of.Goals as goal
 

@@ -1,5 +1,5 @@
 use Rattle.std.proofs.Common.{◌≡◌, ◌++◌, drop}
-use Rattle.gql_graph.specs.Steps.{fields_at}
+use Rattle.gql_graph.specs.bridge.Steps.{fields_at}
 use Rattle.gql_graph.proofs.members.marked_fields.Given as goal
 
 -- what is found and what is left make the whole

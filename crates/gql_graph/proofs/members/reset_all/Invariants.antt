@@ -1,5 +1,5 @@
 use Rattle.std.proofs.Common.{◌≡◌, drop}
-use Rattle.gql_graph.specs.Steps.{all_reset}
+use Rattle.gql_graph.specs.bridge.Steps.{all_reset}
 use Rattle.gql_graph.proofs.members.reset_all.Given as goal
 
 -- what is reset and what is left make the whole

@@ -1,6 +1,6 @@
 use Rattle.std.proofs.Common.{◌≡◌, ◌<◌, length, get_or, ap, ◌∙◌, arith}
 use Rattle.std.proofs.lemmas.Grind.{get_or_default_zero}
-use Rattle.gql_graph.specs.Flooding.{all_queued}
+use Rattle.gql_graph.specs.bridge.Flooding.{all_queued}
 use Rattle.gql_graph.specs.Graph.{row}
 use Rattle.gql_graph.proofs.Flooded.{first_turn, next_turn, flooded}
 use Rattle.gql_graph.proofs.reach.flood.Goals as goal

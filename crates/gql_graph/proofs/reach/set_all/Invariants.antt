@@ -1,5 +1,5 @@
 use Rattle.std.proofs.Common.{◌≡◌, drop}
-use Rattle.gql_graph.specs.Flooding.{all_marked}
+use Rattle.gql_graph.specs.bridge.Flooding.{all_marked}
 use Rattle.gql_graph.proofs.reach.set_all.Given as goal
 
 -- what is marked and what is left make the whole

@@ -1,5 +1,5 @@
 use Rattle.std.proofs.Common.{◌≡◌, drop}
-use Rattle.gql_graph.specs.Flooding.{all_marked, all_queued}
+use Rattle.gql_graph.specs.bridge.Flooding.{all_marked, all_queued}
 use Rattle.gql_graph.proofs.reach.visit_all.Given as goal
 
 -- what is visited and what is left make the whole

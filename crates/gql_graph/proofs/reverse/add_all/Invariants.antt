@@ -1,5 +1,5 @@
 use Rattle.std.proofs.Common.{◌≡◌, drop}
-use Rattle.gql_graph.specs.Reversing.{all_added}
+use Rattle.gql_graph.specs.bridge.Reversing.{all_added}
 use Rattle.gql_graph.proofs.reverse.add_all.Given as goal
 
 -- what is added and what is left make the whole

@@ -1,5 +1,5 @@
 use Rattle.std.proofs.Common.{◌≡◌}
-use Rattle.gql_graph.specs.Reversing.{no_edges}
+use Rattle.gql_graph.specs.bridge.Reversing.{no_edges}
 use Rattle.gql_graph.proofs.reverse.no_edges.Given as goal
 
 abbrev pub invariant-loop-node : goal.invariant-loop-node

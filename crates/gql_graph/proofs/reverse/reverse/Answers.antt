@@ -1,5 +1,5 @@
 use Rattle.std.proofs.Common.{ap, ◌∙◌, arith}
-use Rattle.gql_graph.specs.Reversing.{no_edges}
+use Rattle.gql_graph.specs.bridge.Reversing.{no_edges}
 use Rattle.gql_graph.proofs.Turned.{none_turned, one_turned, all_turned}
 use Rattle.gql_graph.proofs.reverse.reverse.Goals as goal
 

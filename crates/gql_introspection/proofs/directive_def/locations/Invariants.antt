@@ -1,7 +1,7 @@
 use Rattle.std.proofs.Common.{◌≡◌, ◌++◌, map, drop}
 use Rattle.gql_ast.specs.Schemas.{location_name}
 use Rattle.gql_introspection.specs.Answers.{text_leaf}
-use Rattle.gql_introspection.specs.Items.{answers_in}
+use Rattle.gql_introspection.specs.bridge.Items.{answers_in}
 use Rattle.gql_introspection.proofs.directive_def.locations.Given as goal
 
 -- the items so far and those that are left make the whole

@@ -4,7 +4,7 @@ use Rattle.gql_ast_base.specs.Names.{Named}
 use Rattle.gql_schema_types.specs.Types.{type_called}
 use Rattle.gql_schema_types.specs.declared.types.ExtendedType.{ExtendedType}
 use Rattle.gql_resolvers.specs.Resolved.{gives_object}
-use Rattle.gql_introspection.specs.Items.{answers_in}
+use Rattle.gql_introspection.specs.bridge.Items.{answers_in}
 use Rattle.gql_introspection.specs.Meta.{type_def}
 use Rattle.gql_introspection.proofs.named_types.named_types.Given as goal
 

@@ -1,6 +1,6 @@
 use Rattle.std.proofs.Common.{◌≡◌, ◌++◌, map, drop}
 use Rattle.gql_resolvers.specs.Resolved.{gives_object}
-use Rattle.gql_introspection.specs.Items.{answers_in}
+use Rattle.gql_introspection.specs.bridge.Items.{answers_in}
 use Rattle.gql_introspection.proofs.shown.all_shown.Given as goal
 
 -- the items so far and those that are left make the whole

@@ -1,7 +1,7 @@
 use Rattle.std.proofs.Common.{◌≡◌, ◌++◌, map, drop}
 use Rattle.std.specs.List.{filter}
 use Rattle.gql_resolvers.specs.Resolved.{gives_object}
-use Rattle.gql_introspection.specs.Items.{answers_in}
+use Rattle.gql_introspection.specs.bridge.Items.{answers_in}
 use Rattle.gql_introspection.specs.Kept.{is_kept}
 use Rattle.gql_introspection.proofs.shown.kept_parts.Given as goal
 

@@ -1,6 +1,6 @@
 use Rattle.std.proofs.Common.{◌≡◌, ◌++◌, map, filter, drop}
 use Rattle.gql_resolvers.specs.Resolved.{gives_object}
-use Rattle.gql_introspection.specs.Items.{answers_in}
+use Rattle.gql_introspection.specs.bridge.Items.{answers_in}
 use Rattle.gql_introspection.specs.Meta.{type_def}
 use Rattle.gql_introspection.specs.TypeDef.{is_implementing}
 use Rattle.gql_introspection.proofs.type_def.implementing.Given as goal

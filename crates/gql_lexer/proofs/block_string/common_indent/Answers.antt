@@ -1,6 +1,6 @@
 use Rattle.std.proofs.Common.{◌∙◌, ap, sym, unwrap_or}
 use Rattle.gql_lexer.specs.BlockString.{indent, common_indent}
-use Rattle.gql_lexer.specs.BlockWriting.{following}
+use Rattle.gql_lexer.specs.bridge.BlockWriting.{following}
 use Rattle.gql_lexer.proofs.BlockValue.{least-none, least-assoc}
 use Rattle.gql_lexer.proofs.block_string.common_indent.Goals as goal
 

@@ -1,5 +1,5 @@
 use Rattle.std.proofs.Common.{◌∙◌, sym, map}
-use Rattle.gql_lexer.specs.BlockWriting.{following, without_indent}
+use Rattle.gql_lexer.specs.bridge.BlockWriting.{following, without_indent}
 use Rattle.gql_lexer.proofs.BlockValue.{unindented-lines}
 use Rattle.gql_lexer.proofs.block_string.joined_lines.Goals as goal
 

@@ -3,7 +3,7 @@ use Rattle.std.specs.Prelude.{slice_index}
 use denote.Text.{Utf8}
 use denote.Shadow.{shadow}
 use Rattle.gql_lexer.specs.BlockString as spec
-use Rattle.gql_lexer.specs.BlockWriting as writing
+use Rattle.gql_lexer.specs.bridge.BlockWriting as writing
 use Rattle.gql_lexer.proofs.block_string.joined_lines.Given as goal
 
 abbrev pub invariant-lines : goal.invariant-lines

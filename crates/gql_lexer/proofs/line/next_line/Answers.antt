@@ -1,6 +1,6 @@
 use Rattle.std.proofs.Common.{◌≡◌, ◌∙◌, ap, sym}
 use Rattle.gql_lexer.specs.BlockString.{lines}
-use Rattle.gql_lexer.specs.BlockWriting.{end_len}
+use Rattle.gql_lexer.specs.bridge.BlockWriting.{end_len}
 use Rattle.gql_lexer.proofs.BlockLines.{following-none, following-some}
 use Rattle.gql_lexer.proofs.line.next_line.Goals as goal
 

@@ -1,6 +1,7 @@
 use Rattle.std.proofs.Common.{◌≡◌, ℕ, ◌+◌, ◌-◌, ◌<◌, ◌≤◌, ◌∙◌, List, sym, ap, length, take, drop, arith, length-drop}
 use Rattle.std.proofs.lemmas.List.{take_all, drop-drop}
-use Rattle.gql_lexer.specs.Lex.{item_len, run_len}
+use Rattle.gql_lexer.specs.Lex.{run_len}
+use Rattle.gql_lexer.specs.bridge.Lex.{item_len}
 use Rattle.gql_lexer.proofs.Runs.{run_len-item, run_len-none}
 use Rattle.gql_lexer.proofs.run.past_items.Goals as goal
 

@@ -1,5 +1,6 @@
 use Rattle.std.proofs.Common.{◌≡◌, ◌+◌, ◌-◌, ◌≤◌, length, drop}
-use Rattle.gql_lexer.specs.Lex.{item_len, run_len}
+use Rattle.gql_lexer.specs.Lex.{run_len}
+use Rattle.gql_lexer.specs.bridge.Lex.{item_len}
 use Rattle.gql_lexer.proofs.run.past_items.Given as goal
 
 abbrev pub invariant-loop-run : goal.invariant-loop-run

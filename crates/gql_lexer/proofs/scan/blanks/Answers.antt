@@ -1,5 +1,6 @@
 use Rattle.std.proofs.Common.{◌≡◌, ◌+◌, ◌∙◌, sym, ap, drop}
-use Rattle.gql_lexer.specs.Lex.{blank_len, run_len, token}
+use Rattle.gql_lexer.specs.Lex.{blank_len, run_len}
+use Rattle.gql_lexer.specs.bridge.Lex.{token}
 use Rattle.gql_lexer.specs.declared.token.TokenKind.TheVariants.{Ignored}
 use Rattle.gql_lexer.proofs.Blanks.{blanks_end, blanks-row, blanks-alone}
 use Rattle.gql_lexer.proofs.scan.blanks.Goals as goal

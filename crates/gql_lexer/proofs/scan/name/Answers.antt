@@ -1,7 +1,7 @@
 use Rattle.std.proofs.Common.{◌∙◌, sym, ap, zero-add}
 use Rattle.std.specs.List.{prefix_len}
 use Rattle.gql_lexer.specs.Class.{is_name_continue}
-use Rattle.gql_lexer.specs.Lex.{token}
+use Rattle.gql_lexer.specs.bridge.Lex.{token}
 use Rattle.gql_lexer.specs.declared.token.TokenKind.TheVariants.{Name}
 use Rattle.gql_lexer.proofs.Runs.{prefix_len-first}
 use Rattle.gql_lexer.proofs.scan.name.Goals as goal

@@ -1,6 +1,6 @@
 use Rattle.std.proofs.Common.{subst}
 use Rattle.gql_schema_types.specs.declared.schema.Schema.{Schema}
-use Rattle.gql_parser.specs.DocumentAnswers.{IsRuled}
+use Rattle.gql_parser.specs.bridge.DocumentAnswers.{IsRuled}
 use Rattle.gql_parser.proofs.Phases.{handed_on, document_read}
 use Rattle.gql_parser.proofs.Running.{acyclic_answer}
 use Rattle.gql_parser.proofs.document_reading.document_of_text_with.Goals as goal

@@ -1,7 +1,7 @@
 use Rattle.std.proofs.Common.{ℕ, List, [], ◌∷◌, ◌++◌, false, map, codes, string_bytes}
 use Rattle.jb_print.specs.Compact.{compact}
 use Rattle.jb_print.specs.Quoted.{quoted}
-use Rattle.jb_print.specs.Pieces.{pieces_text, member_piece}
+use Rattle.jb_print.specs.bridge.Pieces.{pieces_text, member_piece}
 use Rattle.jb_print.proofs.Compacts.{compact-Object}
 use Rattle.gql_response.specs.Response.{Member, data_value, error_value, list_member}
 use Rattle.gql_response.proofs.Texts.{response_text}

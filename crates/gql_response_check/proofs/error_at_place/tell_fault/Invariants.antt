@@ -2,7 +2,7 @@ use Rattle.std.proofs.Common.{◌≡◌, drop}
 use Rattle.std.specs.Prelude.{◌||◌}
 use Rattle.gql_checker_laws.specs.Findings.{with_all_told}
 use Rattle.gql_checker_laws.specs.Told.{any_told, told_numbers}
-use Rattle.gql_response_check.specs.Views.{claims_of, fault_in, findings_of}
+use Rattle.gql_response_check.specs.bridge.Views.{claims_of, fault_in, findings_of}
 use Rattle.gql_response_check.proofs.error_at_place.tell_fault.Given as goal
 
 abbrev pub invariant-loop-claim : goal.invariant-loop-claim

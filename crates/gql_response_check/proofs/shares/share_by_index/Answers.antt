@@ -3,8 +3,8 @@ use Rattle.std.proofs.lemmas.Result.{on_ok_weaker}
 use Rattle.gql_checker_laws.proofs.Sharing.{share-added}
 use Rattle.gql_response.specs.declared.path.ResponseDataPathSegment.TheVariants.{ListIndex}
 use Rattle.gql_checker_laws.specs.Claims.{Claim}
-use Rattle.gql_response_check.specs.Shares.{share_at}
-use Rattle.gql_response_check.specs.Views.{claim_of}
+use Rattle.gql_response_check.specs.bridge.Shares.{share_at}
+use Rattle.gql_response_check.specs.bridge.Views.{claim_of}
 use Rattle.gql_response_check.specs.declared.claim.Claim.{Claim as HeldClaim}
 use Rattle.gql_response_check.proofs.Leaves.{by-index}
 use Rattle.gql_response_check.proofs.shares.share_by_index.Goals as goal

@@ -1,5 +1,6 @@
 use Rattle.std.proofs.Common.{rules, ◌≡◌, [], ap}
-use Rattle.gql_rounds.specs.Walked.{request_in, stands_of}
+use Rattle.gql_rounds.specs.Walked.{request_in}
+use Rattle.gql_rounds.specs.bridge.Walked.{stands_of}
 use Rattle.gql_rounds.specs.Wanted.{root_stand}
 use Rattle.gql_rounds.proofs.Levels.{level-begun, level-ended, level-next, root-within}
 use Rattle.gql_rounds.proofs.asking.walked.Goals as goal

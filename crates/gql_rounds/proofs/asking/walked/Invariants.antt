@@ -1,4 +1,5 @@
-use Rattle.gql_rounds.specs.Walked.{request_in, stands_of}
+use Rattle.gql_rounds.specs.Walked.{request_in}
+use Rattle.gql_rounds.specs.bridge.Walked.{stands_of}
 use Rattle.gql_rounds.specs.Wanted.{root_stand}
 use Rattle.gql_rounds.proofs.Levels.{IsAtLevel}
 use Rattle.gql_rounds.proofs.asking.walked.Given as goal

@@ -2,7 +2,7 @@ use Rattle.std.proofs.Common.{subst}
 use Rattle.std.proofs.lemmas.Result.{IfOk-weaker}
 use Rattle.gql_engine.specs.AnswerError.{IsNoVariables, wanted_with}
 use Rattle.gql_engine.specs.Service.{asked_of}
-use Rattle.gql_rounds.specs.Ready.{FindsCalled, FindsReady}
+use Rattle.gql_rounds.specs.bridge.Ready.{FindsCalled, FindsReady}
 use Rattle.gql_rounds.proofs.Causes.{called, unread}
 use Rattle.gql_rounds.proofs.ready.make_ready.Goals as goal
 

@@ -4,7 +4,7 @@ use Rattle.gql_document_types.specs.ChosenOperation.{IsChosen, text_of}
 use Rattle.gql_document_types.specs.declared.document.ExecutableDocument.{ExecutableDocument}
 use Rattle.gql_engine.specs.AnswerError.{wanted_with}
 use Rattle.gql_engine.specs.Service.{asked_of}
-use Rattle.gql_rounds.specs.Ready.{FindsOperation, FindsReady, IsPassed}
+use Rattle.gql_rounds.specs.bridge.Ready.{FindsOperation, FindsReady, IsPassed}
 use Rattle.gql_rounds.proofs.Readies.{chosen-passed, finds-ready, none-chosen, none-passed, not-shallow}
 use Rattle.gql_rounds.proofs.ready.ready_with.Goals as goal
 

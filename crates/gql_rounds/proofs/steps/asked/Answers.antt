@@ -1,6 +1,6 @@
 use Rattle.std.proofs.Common.{refl, subst}
 use Rattle.gql_engine.specs.Service.{asked_of}
-use Rattle.gql_rounds.specs.Ready.{FindsCalled}
+use Rattle.gql_rounds.specs.bridge.Ready.{FindsCalled}
 use Rattle.gql_rounds.proofs.Causes.{asked-of}
 use Rattle.gql_rounds.proofs.steps.asked.Goals as goal
 

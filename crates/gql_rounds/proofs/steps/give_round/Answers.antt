@@ -1,7 +1,8 @@
 use Rattle.std.proofs.Common.{arith, ◌≡◌, ◌≢◌, ◌∷◌, [], sym, ap, ◌∙◌, subst, refl}
 use Rattle.gql_engine.specs.AnswerError.{Asks as AsksCall}
 use Rattle.gql_engine.specs.Service.{asked_of}
-use Rattle.gql_rounds.specs.Rounds.{AreAskedOf, FindsAsks}
+use Rattle.gql_rounds.specs.Rounds.{AreAskedOf}
+use Rattle.gql_rounds.specs.bridge.Rounds.{FindsAsks}
 use Rattle.gql_rounds.proofs.Causes.{is-none, is-some}
 use Rattle.gql_rounds.proofs.steps.give_round.Goals as goal
 

@@ -2,7 +2,7 @@ use Rattle.std.proofs.Common.{◌≡◌, ◌++◌, drop}
 use Rattle.std.specs.List.{flat_map}
 use Rattle.gql_rules_nodes.specs.Nodes.{selections_nodes}
 use Rattle.gql_rules.specs.Uses.{node_uses}
-use Rattle.gql_rules.specs.Views.{uses_of}
+use Rattle.gql_rules.specs.bridge.Views.{uses_of}
 use Rattle.gql_rules.proofs.document_uses.+selected.Given as goal
 
 -- what is there and what is left make the whole

@@ -1,6 +1,6 @@
 use Rattle.std.proofs.Common.{◌≡◌, ◌++◌}
-use Rattle.gql_rules.specs.Judged.{fresh_row}
-use Rattle.gql_rules.specs.Views.{row_of, uses_of}
+use Rattle.gql_rules.specs.bridge.Judged.{fresh_row}
+use Rattle.gql_rules.specs.bridge.Views.{row_of, uses_of}
 use Rattle.gql_rules.proofs.judged.fresh_row.Given as goal
 
 -- those that are there, and those that are left, make the whole

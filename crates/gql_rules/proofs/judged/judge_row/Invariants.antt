@@ -1,7 +1,7 @@
 use Rattle.std.proofs.Common.{◌≡◌, ◌++◌, fold}
-use Rattle.gql_rules.specs.Judged.{row_judged}
-use Rattle.gql_rules.specs.Operations.{with_use}
-use Rattle.gql_rules.specs.Views.{row_of}
+use Rattle.gql_rules.specs.bridge.Judged.{row_judged}
+use Rattle.gql_rules.specs.bridge.Operations.{with_use}
+use Rattle.gql_rules.specs.bridge.Views.{row_of}
 use Rattle.gql_rules.proofs.judged.judge_row.Given as goal
 
 -- those that are judged, and those that are left, make the whole

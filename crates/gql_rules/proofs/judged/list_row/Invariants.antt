@@ -1,6 +1,6 @@
 use Rattle.std.proofs.Common.{◌≡◌, ◌++◌, drop}
-use Rattle.gql_rules.specs.Judged.{row_told}
-use Rattle.gql_rules.specs.Views.{row_of}
+use Rattle.gql_rules.specs.bridge.Judged.{row_told}
+use Rattle.gql_rules.specs.bridge.Views.{row_of}
 use Rattle.gql_rules.proofs.judged.list_row.Given as goal
 
 -- what is told and what is left make the whole

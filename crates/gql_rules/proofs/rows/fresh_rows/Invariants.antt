@@ -1,6 +1,6 @@
 use Rattle.std.proofs.Common.{◌≡◌, ◌++◌, drop}
-use Rattle.gql_rules.specs.Operations.{fresh_rows}
-use Rattle.gql_rules.specs.Views.{rows_of}
+use Rattle.gql_rules.specs.bridge.Operations.{fresh_rows}
+use Rattle.gql_rules.specs.bridge.Views.{rows_of}
 use Rattle.gql_rules.proofs.rows.fresh_rows.Given as goal
 
 -- those that are there, and those that are left, make the whole

@@ -1,7 +1,7 @@
 use Rattle.std.proofs.Common.{◌≡◌, ◌++◌, length}
-use Rattle.gql_rules.specs.Judged.{rows_judged}
-use Rattle.gql_rules.specs.Operations.{rows_noted}
-use Rattle.gql_rules.specs.Views.{rows_of}
+use Rattle.gql_rules.specs.bridge.Judged.{rows_judged}
+use Rattle.gql_rules.specs.bridge.Operations.{rows_noted}
+use Rattle.gql_rules.specs.bridge.Views.{rows_of}
 use Rattle.gql_rules.proofs.rows.judge_rows.Given as goal
 
 -- those that are judged, and those that are left, make the whole

@@ -1,6 +1,6 @@
 use Rattle.std.proofs.Common.{◌≡◌, ◌++◌, drop}
-use Rattle.gql_rules.specs.Operations.{rows_told}
-use Rattle.gql_rules.specs.Views.{rows_of}
+use Rattle.gql_rules.specs.bridge.Operations.{rows_told}
+use Rattle.gql_rules.specs.bridge.Views.{rows_of}
 use Rattle.gql_rules.proofs.rows.list_rows.Given as goal
 
 -- what is told and what is left make the whole

@@ -1,5 +1,5 @@
 use Rattle.std.proofs.Common.{◌≡◌, ◌++◌, drop}
-use Rattle.gql_rules.specs.Operations.{not_noted}
+use Rattle.gql_rules.specs.bridge.Operations.{not_noted}
 use Rattle.gql_rules.proofs.unused_variable.list_unused_variables.Given as goal
 
 -- what is listed and what is left make the whole

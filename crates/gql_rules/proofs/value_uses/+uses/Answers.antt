@@ -3,7 +3,7 @@ use Rattle.std.specs.Option.{option_copied}
 use Rattle.gql_rules.proofs.Members.{each_step}
 use Rattle.gql_rules.proofs.value_uses.+uses.Goals as goal
 use Rattle.gql_rules.specs.Uses.{member_place, members_uses, value_uses}
-use Rattle.gql_rules.specs.Views.{place_of, uses_of}
+use Rattle.gql_rules.specs.bridge.Views.{place_of, uses_of}
 
 pub add_members-loop-member-preserved : goal.add_members-loop-member-preserved
 add_members-loop-member-preserved t c =

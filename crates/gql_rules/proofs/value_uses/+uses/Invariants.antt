@@ -1,7 +1,7 @@
 use Rattle.std.proofs.Common.{◌≡◌, ◌+◌, ◌++◌, drop, length, map}
 use Rattle.std.specs.Option.{option_copied}
 use Rattle.gql_rules.specs.Uses.{value_uses, items_uses, each_uses, members_uses}
-use Rattle.gql_rules.specs.Views.{place_of, uses_of}
+use Rattle.gql_rules.specs.bridge.Views.{place_of, uses_of}
 use Rattle.gql_rules.proofs.value_uses.+uses.Given as goal
 
 -- what is there and what is left make the whole

@@ -1,7 +1,7 @@
 use Rattle.gql_rules.proofs.Steps.{flat-step}
 use Rattle.gql_rules.proofs.value_uses.add_directives.Goals as goal
 use Rattle.gql_rules.specs.Uses.{directive_uses, directives_uses}
-use Rattle.gql_rules.specs.Views.{uses_of}
+use Rattle.gql_rules.specs.bridge.Views.{uses_of}
 use Rattle.std.proofs.Common.{◌++◌}
 
 pub loop-used-preserved : goal.loop-used-preserved

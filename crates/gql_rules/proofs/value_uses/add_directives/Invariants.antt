@@ -1,6 +1,6 @@
 use Rattle.std.proofs.Common.{◌≡◌, ◌++◌, drop}
 use Rattle.gql_rules.specs.Uses.{directives_uses}
-use Rattle.gql_rules.specs.Views.{uses_of}
+use Rattle.gql_rules.specs.bridge.Views.{uses_of}
 use Rattle.gql_rules.proofs.value_uses.add_directives.Given as goal
 
 -- what is there and what is left make the whole

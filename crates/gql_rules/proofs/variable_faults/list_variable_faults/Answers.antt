@@ -3,8 +3,8 @@ use Rattle.std.proofs.lemmas.List.{take_more, take_all}
 use Rattle.std.proofs.lemmas.Result.{on_ok_weaker}
 use Rattle.gql_rules.proofs.Told.{AreSoFar, none-yet, one-more, all-told}
 use Rattle.gql_rules.proofs.variable_faults.list_variable_faults.Goals as goal
-use Rattle.gql_rules.specs.Operations.{fresh_rows, rows_told}
-use Rattle.gql_rules.specs.Views.{rows_of}
+use Rattle.gql_rules.specs.bridge.Operations.{fresh_rows, rows_told}
+use Rattle.gql_rules.specs.bridge.Views.{rows_of}
 
 pub loop-operation-init : goal.loop-operation-init
 loop-operation-init c =

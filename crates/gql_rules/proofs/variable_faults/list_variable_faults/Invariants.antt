@@ -1,7 +1,7 @@
 use Rattle.std.proofs.Common.{take}
 use Rattle.gql_rules.proofs.Told.{AreSoFar}
 use Rattle.gql_rules.proofs.variable_faults.list_variable_faults.Given as goal
-use Rattle.gql_rules.specs.Views.{rows_of}
+use Rattle.gql_rules.specs.bridge.Views.{rows_of}
 
 -- the operations so far are judged
 abbrev pub invariant-loop-operation : goal.invariant-loop-operation

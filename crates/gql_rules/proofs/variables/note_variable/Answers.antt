@@ -2,7 +2,7 @@ use Rattle.std.proofs.Common.{position, sym, ap, ◌∙◌}
 use Rattle.std.proofs.lemmas.Result.{on_ok_weaker}
 use Rattle.gql_rules.proofs.Known.{one_there, one_more}
 use Rattle.gql_rules.proofs.variables.note_variable.Goals as goal
-use Rattle.gql_rules.specs.Operations.{own_name, definitions_of}
+use Rattle.gql_rules.specs.bridge.Operations.{own_name, definitions_of}
 use Rattle.gql_rules.specs.declared.variables.Variable.{Variable}
 use Rattle.gql_schema_types.proofs.Lookups.{missing}
 use Rattle.gql_schema_types.specs.Entries.{is_called, entry}

@@ -1,5 +1,5 @@
 use Rattle.std.proofs.Common.{◌≡◌, [], drop}
-use Rattle.gql_rules.specs.Operations.{definitions_of}
+use Rattle.gql_rules.specs.bridge.Operations.{definitions_of}
 use Rattle.gql_rules.specs.UndefinedVariable.{variable_name}
 use Rattle.gql_rules.proofs.variables.table_of.Given as goal
 use Rattle.gql_schema_types.specs.Entries.{joined}

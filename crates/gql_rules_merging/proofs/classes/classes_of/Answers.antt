@@ -3,8 +3,8 @@ use Rattle.std.specs.List.{slice_get}
 use Rattle.std.specs.Option.{option_map}
 use Rattle.std.proofs.lemmas.Option.{slice_get-map, slice_get_read}
 use Rattle.gql_rules_merging.proofs.ClassGrowth.{AreLike, next_like}
-use Rattle.gql_rules_merging.specs.ClassSteps.{IsClassFor}
-use Rattle.gql_rules_merging.specs.Gathering.{fields_of, selected_of}
+use Rattle.gql_rules_merging.specs.bridge.ClassSteps.{IsClassFor}
+use Rattle.gql_rules_merging.specs.bridge.Gathering.{fields_of, selected_of}
 use Rattle.gql_rules_merging.proofs.classes.classes_of.Goals as goal
 
 pub loop-field-preserved : goal.loop-field-preserved

@@ -1,6 +1,6 @@
 use Rattle.std.proofs.Common.{◌≡◌, length}
 use Rattle.gql_rules_merging.proofs.ClassGrowth.{AreLike}
-use Rattle.gql_rules_merging.specs.Gathering.{fields_of}
+use Rattle.gql_rules_merging.specs.bridge.Gathering.{fields_of}
 use Rattle.gql_rules_merging.proofs.classes.classes_of.Given as goal
 
 -- the fields so far have their classes

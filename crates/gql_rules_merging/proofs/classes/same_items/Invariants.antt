@@ -1,5 +1,5 @@
 use Rattle.std.proofs.Common.{◌≡◌, drop}
-use Rattle.gql_rules_merging.specs.Classes.{same_items}
+use Rattle.gql_rules_merging.specs.bridge.Classes.{same_items}
 use Rattle.gql_rules_merging.proofs.classes.same_items.Given as goal
 
 -- the items so far are the same

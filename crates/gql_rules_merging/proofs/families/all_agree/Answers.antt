@@ -1,7 +1,7 @@
 use Rattle.std.proofs.Common.{sym, ◌∙◌, arith}
 use Rattle.gql_rules_merging.proofs.Agreement.{agreed_on, agreed_all}
 use Rattle.gql_rules_merging.proofs.FamilySets.{fields_length}
-use Rattle.gql_rules_merging.specs.Gathering.{fields_of}
+use Rattle.gql_rules_merging.specs.bridge.Gathering.{fields_of}
 use Rattle.gql_rules_merging.proofs.families.all_agree.Goals as goal
 
 pub loop-number-preserved : goal.loop-number-preserved

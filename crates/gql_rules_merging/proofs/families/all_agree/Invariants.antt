@@ -1,6 +1,6 @@
 use Rattle.std.proofs.Common.{◌≡◌, ℕ, ◌<◌, true}
-use Rattle.gql_rules_merging.specs.Families.{is_agreed_at}
-use Rattle.gql_rules_merging.specs.Gathering.{fields_of}
+use Rattle.gql_rules_merging.specs.bridge.Families.{is_agreed_at}
+use Rattle.gql_rules_merging.specs.bridge.Gathering.{fields_of}
 use Rattle.gql_rules_merging.proofs.families.all_agree.Given as goal
 
 -- the fields before this one agree

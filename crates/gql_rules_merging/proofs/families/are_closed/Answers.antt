@@ -1,8 +1,8 @@
 use Rattle.std.proofs.Common.{◌<◌, sym, subst}
-use Rattle.gql_graph.specs.Explored.{class_of}
+use Rattle.gql_graph.specs.bridge.Explored.{class_of}
 use Rattle.gql_rules_merging.proofs.Agreement.{families_within, none_break}
 use Rattle.gql_rules_merging.proofs.FamilySets.{fields_length}
-use Rattle.gql_rules_merging.specs.Gathering.{fields_of, numbered_of}
+use Rattle.gql_rules_merging.specs.bridge.Gathering.{fields_of, numbered_of}
 use Rattle.gql_rules_merging.proofs.families.are_closed.Goals as goal
 
 pub gathered-requires : goal.gathered-requires

@@ -2,7 +2,7 @@ use Rattle.std.proofs.Common.{length, sym, ap, ◌∙◌}
 use Rattle.std.proofs.lemmas.Bool.{eqb-true}
 use Rattle.gql_rules_merging.proofs.SmallFacts.{keys_within}
 use Rattle.gql_rules_merging.proofs.Agreement.{none_met}
-use Rattle.gql_rules_merging.specs.Gathering.{fields_of, numbered_of}
+use Rattle.gql_rules_merging.specs.bridge.Gathering.{fields_of, numbered_of}
 use Rattle.gql_rules_merging.proofs.families.is_unmet.Goals as goal
 
 pub explore-requires : goal.explore-requires

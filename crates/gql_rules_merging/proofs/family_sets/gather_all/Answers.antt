@@ -1,8 +1,8 @@
 use Rattle.std.proofs.Common.{◌≡◌, ◌+◌, length, sym, ap, ◌∙◌, subst, arith}
-use Rattle.gql_graph.specs.Explored.{class_of}
+use Rattle.gql_graph.specs.bridge.Explored.{class_of}
 use Rattle.gql_rules_merging.proofs.FamilySets.{AreSelectedBelow, fields_length, selected_all, selected_on, with_length}
-use Rattle.gql_rules_merging.specs.Families.{with_items}
-use Rattle.gql_rules_merging.specs.Gathering.{fields_of}
+use Rattle.gql_rules_merging.specs.bridge.Families.{with_items}
+use Rattle.gql_rules_merging.specs.bridge.Gathering.{fields_of}
 use Rattle.gql_rules_merging.proofs.family_sets.gather_all.Goals as goal
 
 pub loop-number-preserved : goal.loop-number-preserved

@@ -1,6 +1,6 @@
 use Rattle.std.proofs.Common.{◌≡◌, length}
 use Rattle.gql_rules_merging.proofs.FamilySets.{AreSelectedBelow}
-use Rattle.gql_rules_merging.specs.Gathering.{fields_of}
+use Rattle.gql_rules_merging.specs.bridge.Gathering.{fields_of}
 use Rattle.gql_rules_merging.proofs.family_sets.gather_all.Given as goal
 
 -- what the fields before this one select is in the rows

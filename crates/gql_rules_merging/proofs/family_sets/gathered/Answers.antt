@@ -1,7 +1,7 @@
 use Rattle.std.proofs.Common.{◌++◌, ap, ◌∙◌, subst}
 use Rattle.gql_rules_merging.proofs.FamilySets.{all_gathered}
-use Rattle.gql_rules_merging.specs.Families.{AreSelected}
-use Rattle.gql_rules_merging.specs.Gathering.{fields_of, numbered_of}
+use Rattle.gql_rules_merging.specs.bridge.Families.{AreSelected}
+use Rattle.gql_rules_merging.specs.bridge.Gathering.{fields_of, numbered_of}
 use Rattle.gql_rules_merging.proofs.family_sets.gathered.Goals as goal
 
 pub returns : goal.returns

@@ -1,7 +1,7 @@
 use Rattle.std.proofs.Common.{sym, ap, ◌∙◌}
 use Rattle.gql_rules_merging.proofs.SmallFacts.{keys_within}
 use Rattle.gql_rules_merging.proofs.ToldPairs.{sound_by}
-use Rattle.gql_rules_merging.specs.Gathering.{fields_of, numbered_of}
+use Rattle.gql_rules_merging.specs.bridge.Gathering.{fields_of, numbered_of}
 use Rattle.gql_rules_merging.proofs.field_selection_merging.is_sound_by_classes.Goals as goal
 
 pub explore-requires : goal.explore-requires

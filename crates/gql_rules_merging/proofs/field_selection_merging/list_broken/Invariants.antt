@@ -1,7 +1,7 @@
 use Rattle.std.proofs.Common.{◌≡◌, ◌++◌, drop}
 use Rattle.std.specs.List.{flat_map}
-use Rattle.gql_rules_merging.specs.Gathering.{fields_of}
-use Rattle.gql_rules_merging.specs.Telling.{told_of}
+use Rattle.gql_rules_merging.specs.bridge.Gathering.{fields_of}
+use Rattle.gql_rules_merging.specs.bridge.Telling.{told_of}
 use Rattle.gql_rules_merging.proofs.field_selection_merging.list_broken.Given as goal
 
 -- what is told and what is left make the whole

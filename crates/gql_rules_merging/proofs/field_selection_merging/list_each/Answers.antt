@@ -2,8 +2,8 @@ use Rattle.std.proofs.Common.{ap}
 use Rattle.std.specs.List.{flat_map}
 use Rattle.gql_rules_merging.proofs.SmallFacts.{keys_within}
 use Rattle.gql_rules_merging.proofs.ToldPairs.{told_each}
-use Rattle.gql_rules_merging.specs.Gathering.{fields_of, numbered_of}
-use Rattle.gql_rules_merging.specs.Telling.{told_of}
+use Rattle.gql_rules_merging.specs.bridge.Gathering.{fields_of, numbered_of}
+use Rattle.gql_rules_merging.specs.bridge.Telling.{told_of}
 use Rattle.gql_rules_merging.proofs.field_selection_merging.list_each.Goals as goal
 
 pub explore-requires : goal.explore-requires

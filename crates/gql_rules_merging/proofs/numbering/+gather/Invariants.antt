@@ -1,5 +1,5 @@
 use Rattle.std.proofs.Common.{◌≡◌, drop}
-use Rattle.gql_rules_merging.specs.Gathering.{gathered}
+use Rattle.gql_rules_merging.specs.bridge.Gathering.{gathered}
 use Rattle.gql_rules_merging.specs.Numbering.{with_selections}
 use Rattle.gql_rules_merging.proofs.numbering.+gather.Given as goal
 

@@ -1,5 +1,5 @@
 use Rattle.std.proofs.Common.{◌≡◌, drop}
-use Rattle.gql_rules_merging.specs.Gathering.{sets_of, no_sets, fragment_sets}
+use Rattle.gql_rules_merging.specs.bridge.Gathering.{sets_of, no_sets, fragment_sets}
 use Rattle.gql_rules_merging.specs.Numbering.{with_sets}
 use Rattle.gql_rules_merging.proofs.numbering.in_fragments.Given as goal
 

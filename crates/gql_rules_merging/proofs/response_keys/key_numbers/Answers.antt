@@ -1,8 +1,8 @@
 use Rattle.std.proofs.Common.{sym, ap, ◌∙◌, arith}
 use Rattle.gql_rules_merging.proofs.Keyed.{all_noted}
 use Rattle.gql_rules_merging.proofs.SmallFacts.{dropped_all}
-use Rattle.gql_rules_merging.specs.Gathering.{fields_of}
-use Rattle.gql_rules_merging.specs.Keying.{Noted, noted, with_fields}
+use Rattle.gql_rules_merging.specs.bridge.Gathering.{fields_of}
+use Rattle.gql_rules_merging.specs.bridge.Keying.{Noted, noted, with_fields}
 use Rattle.gql_rules_merging.proofs.response_keys.key_numbers.Goals as goal
 
 pub returns : goal.returns

@@ -1,6 +1,6 @@
 use Rattle.std.proofs.Common.{◌≡◌, [], drop}
-use Rattle.gql_rules_merging.specs.Gathering.{fields_of}
-use Rattle.gql_rules_merging.specs.Keying.{noted, with_fields}
+use Rattle.gql_rules_merging.specs.bridge.Gathering.{fields_of}
+use Rattle.gql_rules_merging.specs.bridge.Keying.{noted, with_fields}
 use Rattle.gql_rules_merging.proofs.response_keys.key_numbers.Given as goal
 
 -- what is noted and what is left make the whole

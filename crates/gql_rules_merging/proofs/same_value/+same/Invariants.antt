@@ -1,7 +1,7 @@
 use Rattle.std.proofs.Common.{◌≡◌, drop, map, length}
 use Rattle.std.specs.List.{list_all}
 use Rattle.gql_rules_merging.specs.SameValue.{same_value, same_items, is_among}
-use Rattle.gql_rules_merging.specs.Tests.{member_test}
+use Rattle.gql_rules_merging.specs.bridge.Tests.{member_test}
 use Rattle.gql_rules_merging.proofs.same_value.+same.Given as goal
 
 -- the items so far are the same

@@ -1,7 +1,7 @@
 use Rattle.std.proofs.Common.{◌≡◌, sym, ap, ◌∙◌, subst}
 use Rattle.gql_source.specs.File.{File}
 use Rattle.gql_schema.specs.BuiltInSchema as spec
-use Rattle.gql_schema.specs.Rows as rows
+use Rattle.gql_schema.specs.bridge.Rows as rows
 use Rattle.gql_schema.specs.declared.built_in_rows.TheConstants.{DIRECTIVES, TYPES}
 use Rattle.gql_schema.proofs.Known.{by_rows, is_built_in}
 use Rattle.gql_schema.proofs.built_in_schema.built_in.Goals as goal

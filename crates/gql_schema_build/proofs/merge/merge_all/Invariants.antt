@@ -1,5 +1,5 @@
 use Rattle.std.proofs.Common.{◌≡◌, fold}
-use Rattle.gql_schema_build.specs.Merged.{with_extension}
+use Rattle.gql_schema_build.specs.bridge.Merged.{with_extension}
 use Rattle.gql_schema_build.proofs.merge.merge_all.Given as goal
 
 -- what is merged and what is left make the whole

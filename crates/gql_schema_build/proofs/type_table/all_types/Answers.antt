@@ -3,7 +3,8 @@ use Rattle.std.specs.Map.{values_of}
 use Rattle.std.proofs.lemmas.Result.{IfOk-weaker, on_ok_weaker}
 use Rattle.gql_schema_types.specs.Entries.{put}
 use Rattle.gql_schema_build.specs.Built.{built}
-use Rattle.gql_schema_build.specs.Merged.{named, firsts, with_extension}
+use Rattle.gql_schema_build.specs.Merged.{named, firsts}
+use Rattle.gql_schema_build.specs.bridge.Merged.{with_extension}
 use Rattle.gql_schema_types.specs.Types.{type_name}
 use Rattle.gql_schema_build.specs.TypeTable as spec
 use Rattle.gql_schema_build.proofs.Whole.{whole, whole_faults}

@@ -1,5 +1,5 @@
 use Rattle.std.proofs.Common.{◌≡◌, fold, drop}
-use Rattle.gql_schema_types.specs.Implementers.{with_listing}
+use Rattle.gql_schema_types.specs.bridge.Implementers.{with_listing}
 use Rattle.gql_schema_types.specs.Types.{interfaces_of}
 use Rattle.gql_schema_types.proofs.implementers.add_type.Given as goal
 

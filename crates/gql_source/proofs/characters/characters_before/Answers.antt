@@ -1,5 +1,5 @@
 use Rattle.std.proofs.Common.{◌≡◌, ◌+◌, ◌*◌, ◌/◌, length, get_or, rules, arith, ap, sym, ◌∙◌}
-use Rattle.gql_source.specs.Characters.{characters_before, step}
+use Rattle.gql_source.specs.bridge.Characters.{characters_before, step}
 use Rattle.gql_source.proofs.CharacterCounts.{characters_before-split, characters_before-le, count-at, length-counts}
 use Rattle.gql_source.proofs.characters.characters_before.Goals as goal
 

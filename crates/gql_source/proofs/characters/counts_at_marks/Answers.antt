@@ -1,5 +1,5 @@
 use Rattle.std.proofs.Common.{◌≡◌, ◌+◌, ◌*◌, ◌++◌, ◌∷◌, [], refl, ap, sym, ◌∙◌, arith}
-use Rattle.gql_source.specs.Characters.{characters_before, counts_at_marks, step}
+use Rattle.gql_source.specs.bridge.Characters.{characters_before, counts_at_marks, step}
 use Rattle.gql_source.proofs.CharacterCounts.{characters_before-split, counts-more}
 use Rattle.gql_source.proofs.characters.counts_at_marks.Goals as goal
 

@@ -1,5 +1,5 @@
 use Rattle.std.proofs.Common.{◌≡◌, ◌*◌}
-use Rattle.gql_source.specs.Characters.{characters_before, counts_at_marks, step}
+use Rattle.gql_source.specs.bridge.Characters.{characters_before, counts_at_marks, step}
 use Rattle.gql_source.proofs.characters.counts_at_marks.Given as goal
 
 abbrev pub invariant-loop-mark : goal.invariant-loop-mark

@@ -2,7 +2,7 @@ use Rattle.std.proofs.Common.{◌≡◌, ◌+◌, ◌-◌, arith, ap, sym, refl,
 use Rattle.std.specs.Prelude.{slice_range}
 use Rattle.std.specs.List.{count_by}
 use Rattle.gql_source.specs.Lines as lines
-use Rattle.gql_source.specs.Characters.{characters_before}
+use Rattle.gql_source.specs.bridge.Characters.{characters_before}
 use Rattle.gql_source.proofs.CharacterCounts.{characters_before-split}
 use Rattle.gql_source.proofs.source_file.line_column.Goals as goal
 

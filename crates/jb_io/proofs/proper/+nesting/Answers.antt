@@ -4,7 +4,8 @@ use Rattle.std.proofs.lemmas.List.{drop_all}
 use Rattle.jb_tree.specs.Tree.{tree}
 use Rattle.jb_tree.specs.declared.value.Value.{Value}
 use Rattle.jb_print.proofs.Trees.{drop-member}
-use Rattle.jb_io.specs.Proper.{AreProperMembers, depth, members_tree}
+use Rattle.jb_io.specs.Proper.{AreProperMembers, depth}
+use Rattle.jb_io.specs.bridge.Proper.{members_tree}
 use Rattle.jb_io.proofs.Nesting.{MembersLeft, member_passed, member_too_deep, keys_distinct}
 use Rattle.jb_io.proofs.proper.+nesting.Goals as goal
 

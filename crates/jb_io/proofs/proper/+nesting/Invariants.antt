@@ -1,6 +1,6 @@
 use Rattle.std.proofs.Common.{map, drop}
 use Rattle.jb_tree.specs.Tree.{trees_of, tree}
-use Rattle.jb_io.specs.Proper.{members_tree}
+use Rattle.jb_io.specs.bridge.Proper.{members_tree}
 use Rattle.jb_io.proofs.Nesting.{ItemsLeft, MembersLeft}
 use Rattle.jb_io.proofs.proper.+nesting.Given as goal
 

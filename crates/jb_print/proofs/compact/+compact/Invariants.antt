@@ -1,6 +1,6 @@
 use Rattle.std.proofs.Common.{◌≡◌, ◌++◌, false, map, drop, codes, string_bytes}
 use Rattle.jb_print.specs.Compact.{compact}
-use Rattle.jb_print.specs.Pieces.{pieces_text, member_piece}
+use Rattle.jb_print.specs.bridge.Pieces.{pieces_text, member_piece}
 use Rattle.jb_print.proofs.compact.+compact.Given as goal
 
 -- what is written and what is left make the whole text

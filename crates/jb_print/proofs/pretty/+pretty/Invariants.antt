@@ -1,5 +1,5 @@
 use Rattle.std.proofs.Common.{◌≡◌, ◌++◌, false, map, drop, string_bytes}
-use Rattle.jb_print.specs.Pieces.{pieces_text, item_line, member_line}
+use Rattle.jb_print.specs.bridge.Pieces.{pieces_text, item_line, member_line}
 use Rattle.jb_print.proofs.pretty.+pretty.Given as goal
 
 -- what is written and what is left make the whole text

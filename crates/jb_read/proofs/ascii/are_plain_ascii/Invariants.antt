@@ -1,6 +1,6 @@
 use Rattle.std.proofs.Common.{◌≡◌, ◌&&◌, drop}
 use Rattle.std.specs.List.{list_all}
-use Rattle.jb_read.specs.Strings.{is_plain_ascii}
+use Rattle.jb_read.specs.bridge.Strings.{is_plain_ascii}
 use Rattle.jb_read.proofs.ascii.are_plain_ascii.Given as goal
 
 abbrev pub invariant-loop-byte : goal.invariant-loop-byte

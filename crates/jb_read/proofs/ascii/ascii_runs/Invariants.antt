@@ -1,6 +1,6 @@
 use Rattle.std.proofs.Common.{◌≡◌, ◌-◌, ◌≤◌, true, length, take}
 use Rattle.std.specs.List.{list_all}
-use Rattle.jb_read.specs.Strings.{is_plain_ascii}
+use Rattle.jb_read.specs.bridge.Strings.{is_plain_ascii}
 use Rattle.jb_read.proofs.ascii.ascii_runs.Given as goal
 
 abbrev pub invariant-loop-at : goal.invariant-loop-at

@@ -1,5 +1,6 @@
 use Rattle.std.proofs.Common.{◌≡◌, drop, ℕ}
-use Rattle.jb_read.specs.Numbers.{digits_from, within}
+use Rattle.jb_read.specs.Numbers.{digits_from}
+use Rattle.jb_read.specs.bridge.Numbers.{within}
 use Rattle.jb_read.proofs.number.spelled_on.Given as goal
 
 abbrev pub invariant-loop-byte : goal.invariant-loop-byte

@@ -1,7 +1,7 @@
 use Rattle.std.proofs.Common.{◌≡◌, ◌∙◌, sym, ap, ℕ, Some, take, true}
 use Rattle.std.specs.Prelude.{slice_get}
 use Rattle.std.specs.List.{list_all}
-use Rattle.jb_read.specs.Strings.{is_plain_ascii}
+use Rattle.jb_read.specs.bridge.Strings.{is_plain_ascii}
 use Rattle.jb_read.proofs.AsciiFronts.{ascii_is_text, text_is_ascii}
 use Rattle.jb_read.proofs.text.read_text.Goals as goal
 

@@ -8,7 +8,8 @@ use Rattle.std.proofs.lemmas.Map.Steps.{set_value_same}
 use Rattle.std_collections.proofs.HashLookup.{set_value-IsFirst}
 use Rattle.indexmap.proofs.MapLemmas.{Found-position, Missing-position}
 use Rattle.indexmap.specs.Layout.{set_value_at}
-use Rattle.jb_tree.specs.Pointer.{decoded, item_named, item_named_put, tokens_left}
+use Rattle.jb_tree.specs.Pointer.{decoded, item_named, item_named_put}
+use Rattle.jb_tree.specs.bridge.Pointer.{tokens_left}
 use Rattle.jb_tree.specs.declared.value.Value.{size-Value, the_lemmas}
 use Rattle.jb_tree.proofs.Tokens.{item_found, item_put_found, item_missing}
 use Rattle.jb_tree.proofs.Sorting.{get_within}

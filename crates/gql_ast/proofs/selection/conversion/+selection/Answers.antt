@@ -1,8 +1,9 @@
 use Rattle.std.proofs.Common.{◌≡◌, ◌++◌, true, option_to_list, sym, ap, ◌∙◌, arith, rules}
-use Rattle.gql_ast_base.specs.Forest.{plain, forest}
+use Rattle.gql_ast_base.specs.Forest.{plain}
+use Rattle.gql_ast_base.specs.bridge.Forest.{forest}
 use Rattle.gql_ast_base.specs.SyntaxKind.TheVariants.{Selection, SelectionSet}
 use Rattle.gql_ast_base.specs.Kinds.{is_kind}
-use Rattle.gql_ast_base.specs.Parts.{size}
+use Rattle.gql_ast_base.specs.bridge.Parts.{size}
 use Rattle.gql_ast.specs.Selections.{selections, selected, choice_step}
 use Rattle.gql_ast_base.proofs.Rows.{size-item, size-inside, size-of}
 use Rattle.gql_ast.proofs.Selected.{selected-inside, selection-is, first-found, none-found, kept-none}

@@ -1,5 +1,5 @@
 use Rattle.std.proofs.Common.{◌∙◌}
-use Rattle.gql_ast_base.specs.Forest.{forest}
+use Rattle.gql_ast_base.specs.bridge.Forest.{forest}
 use Rattle.gql_ast.proofs.Selected.{selections-gathered}
 use Rattle.gql_ast.proofs.selection.conversion.selection_set.Goals as goal
 

@@ -2,7 +2,7 @@ use Rattle.std.proofs.Common.{refl, ◌∙◌}
 use Rattle.gql_ast.specs.Documents.{definition_of}
 use Rattle.gql_ast_base.specs.Forest.{row_of}
 use Rattle.gql_ast_base.specs.Parts.{gather}
-use Rattle.gql_cst.specs.Open.{whole_text}
+use Rattle.gql_cst.specs.bridge.Open.{whole_text}
 use Rattle.gql_ast_reader.proofs.maker.Maker.into_definitions.Goals as goal
 
 pub returns : goal.returns

@@ -1,4 +1,4 @@
-use Rattle.gql_cst.specs.Open.{token}
+use Rattle.gql_cst.specs.bridge.Open.{token}
 use Rattle.gql_ast_reader.proofs.Comes.{token-is, waited, behind-waiting}
 use Rattle.gql_ast_reader.proofs.maker.MakerOutput.token.Goals as goal
 

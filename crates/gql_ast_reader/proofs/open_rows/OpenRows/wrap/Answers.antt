@@ -1,6 +1,6 @@
 use Rattle.std.proofs.Common.{sym, subst}
 use Rattle.gql_ast_base.specs.SyntaxKind.{SyntaxKind}
-use Rattle.gql_ast_reader.specs.Stand.{Wraps}
+use Rattle.gql_ast_reader.specs.bridge.Stand.{Wraps}
 use Rattle.gql_ast_reader.proofs.open_rows.OpenRows.wrap.Goals as goal
 
 pub returns-in-NonNullType : goal.returns-in-NonNullType

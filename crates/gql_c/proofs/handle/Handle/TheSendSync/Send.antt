@@ -11,7 +11,7 @@ use denote.Struct.Struct.{exits_of}
 use denote.Struct.Owning.{shape, fields, to}
 use Rattle.std.proofs.Crossing as heap
 use Rattle.std.specs.Prelude.{Option, Some, None}
-use Rattle.gql_c.specs.Handles.{handle_owns}
+use Rattle.gql_c.specs.bridge.Handles.{handle_owns}
 use Rattle.gql_c.specs.contracts.held.Held as held
 use Rattle.gql_c.proofs.Sending.{held_send}
 use Rattle.gql_c.specs.contracts.handle.Handle.{the_row, the_type}

@@ -6,7 +6,8 @@ use denote.Param.Weighed.{most}
 use Rattle.jb_tree.specs.declared.value.Value.{Object, size-Value, the_lemmas}
 use Rattle.gql_ast_base.specs.Names.{Named}
 use Rattle.gql_schema_types.specs.Types.{type_called}
-use Rattle.gql_coerce.specs.Subject.{subject_text, field_words}
+use Rattle.gql_coerce.specs.Subject.{field_words}
+use Rattle.gql_coerce.specs.bridge.Subject.{subject_text}
 use Rattle.gql_ast_base.specs.TypeParts.{named_type}
 use Rattle.gql_coerce.specs.InputTypes.{field_name}
 use Rattle.gql_coerce.specs.InputValue.{coerced, object, field_value}

@@ -2,7 +2,7 @@ use Rattle.std.proofs.Common.{◌≡◌, ◌++◌, List, map, drop}
 use Rattle.std.specs.Map.{keys_of}
 use Rattle.jb_tree.specs.declared.value.Value.{Value as JsonValue, Array}
 use Rattle.gql_coerce.specs.Outcome.{mapped, all_of}
-use Rattle.gql_coerce.specs.Subject.{subject_text}
+use Rattle.gql_coerce.specs.bridge.Subject.{subject_text}
 use Rattle.gql_coerce.specs.Filled.{filled}
 use Rattle.gql_coerce.specs.InputTypes.{field_name}
 use Rattle.gql_coerce.specs.InputValue.{coerced, field_value, places, each_at}

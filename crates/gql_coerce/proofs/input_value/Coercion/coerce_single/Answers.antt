@@ -1,4 +1,4 @@
-use Rattle.gql_coerce.specs.Subject.{subject_text}
+use Rattle.gql_coerce.specs.bridge.Subject.{subject_text}
 use Rattle.gql_ast_base.specs.TypeParts.{named_type}
 use Rattle.gql_coerce.specs.InputValue.{leaf}
 use Rattle.gql_coerce.proofs.input_value.Coercion.coerce_single.Goals as goal

@@ -1,6 +1,6 @@
 use Rattle.std.proofs.Common.{ap}
-use Rattle.gql_coerce.specs.Subject.{subject_text}
-use Rattle.gql_coerce.specs.Missing.{missing_fault}
+use Rattle.gql_coerce.specs.bridge.Subject.{subject_text}
+use Rattle.gql_coerce.specs.bridge.Missing.{missing_fault}
 use Rattle.gql_coerce.specs.Filled.{not_given}
 use Rattle.gql_coerce.specs.Translation.{translated}
 use Rattle.gql_coerce.proofs.Steps.{answered}

@@ -1,6 +1,7 @@
 use Rattle.std.proofs.Common.{◌≡◌, ◌≤◌, ◌<◌, ◌*◌, Some, None, rules, ap, sym, ◌∙◌, drop, map, arith, ◌+◌}
 use Rattle.jb_tree.specs.declared.value.Value.{Object}
-use Rattle.gql_coerce.specs.Subject.{subject_text, field_words}
+use Rattle.gql_coerce.specs.Subject.{field_words}
+use Rattle.gql_coerce.specs.bridge.Subject.{subject_text}
 use Rattle.gql_ast_base.specs.TypeParts.{named_type}
 use Rattle.gql_coerce.specs.Outcome.{mapped}
 use Rattle.gql_coerce.specs.Filled.{filled, with_value}

@@ -2,7 +2,7 @@ use Rattle.std.proofs.Common.{◌≡◌, ◌+◌, ◌*◌, ◌++◌, List, [], m
 use Rattle.jb_tree.specs.declared.value.Value.{Value as JsonValue, Array}
 use Rattle.gql_ast_base.specs.declared.value.Value.{Value}
 use Rattle.gql_coerce.specs.Outcome.{mapped, all_of}
-use Rattle.gql_coerce.specs.Subject.{subject_text}
+use Rattle.gql_coerce.specs.bridge.Subject.{subject_text}
 use Rattle.gql_coerce.specs.Filled.{filled}
 use Rattle.gql_coerce.specs.InputTypes.{field_name}
 use Rattle.gql_coerce.specs.LiteralValue.{depth, greatest, greatest_member, coerced_literal, literal_field, each_literal_at}

@@ -1,4 +1,4 @@
-use Rattle.gql_coerce.specs.Subject.{subject_text}
+use Rattle.gql_coerce.specs.bridge.Subject.{subject_text}
 use Rattle.gql_ast_base.specs.TypeParts.{named_type}
 use Rattle.gql_coerce.specs.LiteralValue.{literal_leaf}
 use Rattle.gql_coerce.proofs.literal_value.LiteralCoercion.single.Goals as goal

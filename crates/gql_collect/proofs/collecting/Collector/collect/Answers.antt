@@ -1,7 +1,8 @@
 use Rattle.std.proofs.Common.{arith, ap, sym, subst}
-use Rattle.gql_collect.specs.Collected.{setting_of}
+use Rattle.gql_collect.specs.bridge.Collected.{setting_of}
 use Rattle.gql_collect.specs.Sizes.{outer_size}
-use Rattle.gql_collect.specs.Walk.{walk_of, fields_of, lists_of}
+use Rattle.gql_collect.specs.Walk.{fields_of}
+use Rattle.gql_collect.specs.bridge.Walk.{walk_of, lists_of}
 use Rattle.gql_collect.proofs.OnTheWay.{IsOnTheWay, way_begins, begins_within, goes_on, weighs_less, looks_less, outer_less, looks-left, way_ends}
 use Rattle.gql_collect.proofs.collecting.Collector.collect.Goals as goal
 

@@ -1,7 +1,7 @@
 use Rattle.std.proofs.Common.{◌+◌, ◌≤◌}
-use Rattle.gql_collect.specs.Collected.{setting_of}
+use Rattle.gql_collect.specs.bridge.Collected.{setting_of}
 use Rattle.gql_collect.specs.Sizes.{sets_size, outer_size, fragments_size}
-use Rattle.gql_collect.specs.Walk.{walk_of, lists_of}
+use Rattle.gql_collect.specs.bridge.Walk.{walk_of, lists_of}
 use Rattle.gql_collect.proofs.Measure.{left_over, weight}
 use Rattle.gql_collect.proofs.OnTheWay.{IsOnTheWay}
 use Rattle.gql_collect.proofs.collecting.Collector.collect.Given as goal

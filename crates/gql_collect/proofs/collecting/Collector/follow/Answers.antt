@@ -1,7 +1,7 @@
 use Rattle.std.proofs.Common.{rules}
 use Rattle.std.proofs.lemmas.Result.{on_ok_weaker}
-use Rattle.gql_collect.specs.Collected.{setting_of}
-use Rattle.gql_collect.specs.Walk.{lists_of}
+use Rattle.gql_collect.specs.bridge.Collected.{setting_of}
+use Rattle.gql_collect.specs.bridge.Walk.{lists_of}
 use Rattle.gql_collect.proofs.Followed.{follow-entered, follow-undefined}
 use Rattle.gql_collect.proofs.collecting.Collector.follow.Goals as goal
 

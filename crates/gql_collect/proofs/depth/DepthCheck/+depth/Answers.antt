@@ -3,10 +3,12 @@ use Rattle.std.proofs.lemmas.Option.{slice_get_read}
 use Rattle.std.proofs.lemmas.Result.{MatchResult-weaker}
 use Rattle.gql_document_types.specs.RootFields.{fragment_name}
 use Rattle.gql_schema_types.specs.Entries.{is_called}
-use Rattle.gql_collect.specs.Check.{total, unentered}
-use Rattle.gql_collect.specs.Checked.{AcceptedOne, RefusedOne}
+use Rattle.gql_collect.specs.Check.{total}
+use Rattle.gql_collect.specs.bridge.Check.{unentered}
+use Rattle.gql_collect.specs.bridge.Checked.{AcceptedOne, RefusedOne}
 use Rattle.gql_collect.specs.Nested.{nothing}
-use Rattle.gql_collect.specs.View.{weight_of, nested, one_of, field_of, spread_of, number_of, fragments_nested, then_more}
+use Rattle.gql_collect.specs.View.{weight_of, nested, one_of, spread_of, number_of, fragments_nested, then_more}
+use Rattle.gql_collect.specs.bridge.View.{field_of}
 use Rattle.gql_collect.proofs.DepthSteps.{IsCheckedSoFar}
 use Rattle.gql_collect.proofs.DepthCalls.{item-less, set-more, set-refused, set-all, fragment-less, fragment-accepted, fragment-refused, from_err, none_from, memo-is, field-stops, field-goes, field-fails, inline-goes, inline-fails, undefined-goes, again-goes, again-stops}
 use Rattle.gql_collect.proofs.depth.DepthCheck.+depth.Goals as goal

@@ -1,7 +1,9 @@
 use Rattle.std.proofs.Common.{◌+◌, ◌*◌, drop}
 use Rattle.gql_collect.specs.Nested.{nothing}
-use Rattle.gql_collect.specs.Check.{total, unentered}
-use Rattle.gql_collect.specs.View.{nested, one_of, inline_of, field_of, then_more, fragments_nested}
+use Rattle.gql_collect.specs.Check.{total}
+use Rattle.gql_collect.specs.bridge.Check.{unentered}
+use Rattle.gql_collect.specs.View.{nested, one_of, then_more, fragments_nested}
+use Rattle.gql_collect.specs.bridge.View.{inline_of, field_of}
 use Rattle.gql_collect.proofs.DepthSteps.{IsCheckedSoFar}
 use Rattle.gql_collect.proofs.depth.DepthCheck.+depth.Given as goal
 

@@ -1,8 +1,8 @@
 use Rattle.std.proofs.Common.{List, sym, subst}
 use Rattle.gql_document_types.specs.declared.selection.Selection.{Selection}
-use Rattle.gql_collect.specs.Growth.{AreFresh}
+use Rattle.gql_collect.specs.bridge.Growth.{AreFresh}
 use Rattle.gql_collect.specs.declared.plan.Part.{Part}
-use Rattle.gql_collect.specs.Plan.{ArePartsOf, IsWithin, ground_of, sets_below}
+use Rattle.gql_collect.specs.bridge.Plan.{ArePartsOf, IsWithin, ground_of, sets_below}
 use Rattle.gql_collect.proofs.planner.Planner.add_node.Goals as goal
 
 pub parts-requires : goal.parts-requires

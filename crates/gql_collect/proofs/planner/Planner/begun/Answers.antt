@@ -1,7 +1,8 @@
 use Rattle.std.proofs.Common.{◌≡◌, List, [], ◌++◌, sym, ap, ◌∙◌, subst}
 use Rattle.std.specs.List.{AllByRecursion}
 use Rattle.std.proofs.lemmas.List.{append-nil}
-use Rattle.gql_collect.specs.Plan.{IsPlanned, fields_in, ground_of, groups_in, nodes_in}
+use Rattle.gql_collect.specs.Plan.{fields_in, groups_in}
+use Rattle.gql_collect.specs.bridge.Plan.{IsPlanned, ground_of, nodes_in}
 use Rattle.gql_collect.specs.declared.plan.Part.{Part}
 use Rattle.gql_collect.specs.declared.planned_field.PlannedField.{PlannedField}
 use Rattle.gql_collect.proofs.Fields.{fields-more}

@@ -1,6 +1,7 @@
 use Rattle.std.proofs.Common.{◌≡◌, ◌++◌, []}
 use Rattle.std.specs.List.{AllByRecursion}
-use Rattle.gql_collect.specs.Plan.{IsPlanned, fields_in, ground_of, groups_in, nodes_in}
+use Rattle.gql_collect.specs.Plan.{fields_in, groups_in}
+use Rattle.gql_collect.specs.bridge.Plan.{IsPlanned, ground_of, nodes_in}
 use Rattle.gql_collect.proofs.planner.Planner.begun.Given as goal
 
 -- the parts so far, and the groups that are left, make the whole

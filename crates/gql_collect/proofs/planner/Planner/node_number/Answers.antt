@@ -1,9 +1,9 @@
 use Rattle.std.proofs.Common.{◌≡◌, ℕ, zero, List, [], Option, Some, None, refl, sym, ◌∙◌, subst}
 use Rattle.std.specs.List.{position}
 use Rattle.std.proofs.lemmas.Result.{IfOk-weaker}
-use Rattle.gql_collect.specs.Growth.{is_for, IsAdded}
-use Rattle.gql_collect.specs.Plan.{AreNodes, IsNodeOf, ground_of, most_looks, sets_below}
-use Rattle.gql_collect.specs.Ways.{Grows, Turn, turns_to}
+use Rattle.gql_collect.specs.bridge.Growth.{is_for, IsAdded}
+use Rattle.gql_collect.specs.bridge.Plan.{AreNodes, IsNodeOf, ground_of, most_looks, sets_below}
+use Rattle.gql_collect.specs.bridge.Ways.{Grows, Turn, turns_to}
 use Rattle.gql_collect.specs.declared.plan.Node.{Node}
 use Rattle.gql_collect.proofs.Growing.{grows-none}
 use Rattle.gql_collect.proofs.Lists.{ok-tells}

@@ -5,8 +5,8 @@ use Rattle.gql_collect.specs.Grouping.{fields_in_groups, groups_seen}
 use Rattle.gql_collect.specs.Groups.{SameGroups, applying}
 use Rattle.gql_collect.specs.Standing.{NoneMoreOften, fields_in_all, fields_in_fragments}
 use Rattle.gql_collect.specs.declared.group.Group.{Group}
-use Rattle.gql_collect.specs.Growth.{AreBegun, AreFresh}
-use Rattle.gql_collect.specs.Plan.{ArePartsOf, ground_of}
+use Rattle.gql_collect.specs.bridge.Growth.{AreBegun, AreFresh}
+use Rattle.gql_collect.specs.bridge.Plan.{ArePartsOf, ground_of}
 use Rattle.gql_collect.proofs.Acyclic.{ranked-acyclic}
 use Rattle.gql_collect.proofs.Nodes.{HasGroups, begun-parts}
 use Rattle.gql_collect.proofs.Room.{room-groups}

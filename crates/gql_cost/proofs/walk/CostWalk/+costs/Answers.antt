@@ -6,14 +6,14 @@ use Rattle.gql_document_types.specs.declared.fragment.Fragment.{Fragment}
 use Rattle.gql_document_types.specs.declared.selection.Selection.{Selection}
 use Rattle.gql_document_types.proofs.Counts.{item-less, count-defined, entry-there}
 use Rattle.gql_document_types.specs.Count.{count}
-use Rattle.gql_document_types.specs.Counted.{one_count, spread_count, count_at}
+use Rattle.gql_document_types.specs.bridge.Counted.{one_count, spread_count, count_at}
 use Rattle.gql_document_types.specs.Expanded.{expanded}
 use Rattle.gql_document_types.specs.RootFields.{fragment_name}
 use Rattle.gql_schema_types.specs.Entries.{is_called}
 use Rattle.gql_schema_types.proofs.Lookups.{place_within}
 use Rattle.gql_cost.specs.Size.{size}
 use Rattle.gql_cost.specs.Sum.{sum}
-use Rattle.gql_cost.specs.Walked.{IsCapped, WalkedAll, WalkedOne}
+use Rattle.gql_cost.specs.bridge.Walked.{IsCapped, WalkedAll, WalkedOne}
 use Rattle.gql_cost.proofs.WalkCalls.{looked, field-one, some-is, spread-undefined, spread-defined}
 use Rattle.gql_cost.proofs.Walks.{walk-next, fragment-walked}
 use Rattle.gql_cost.proofs.walk.CostWalk.+costs.Goals as goal

@@ -1,6 +1,6 @@
 use Rattle.std.proofs.Common.{◌*◌, suc, sym, ap, ◌∙◌, subst}
 use Rattle.gql_cost.specs.Size.{size}
-use Rattle.gql_cost.specs.Walked.{IsCapped}
+use Rattle.gql_cost.specs.bridge.Walked.{IsCapped}
 use Rattle.gql_cost.proofs.Caps.{capped-items}
 use Rattle.gql_cost.proofs.Sized.{size-is}
 use Rattle.gql_cost.proofs.walk.CostWalk.+size.Goals as goal

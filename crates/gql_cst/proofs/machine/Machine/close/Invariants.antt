@@ -1,9 +1,9 @@
 use Rattle.std.proofs.Common.{◌≡◌, ℕ, List, ◌∷◌, true, length, reverse}
 use Rattle.gql_cst.specs.Forest.{Plain}
-use Rattle.gql_cst.specs.Frames.{is_framed}
-use Rattle.gql_cst.specs.Held.{Holds}
-use Rattle.gql_cst.specs.Lies.{Lies}
-use Rattle.gql_cst.specs.Machine.{State, all_ended}
+use Rattle.gql_cst.specs.bridge.Frames.{is_framed}
+use Rattle.gql_cst.specs.bridge.Held.{Holds}
+use Rattle.gql_cst.specs.bridge.Lies.{Lies}
+use Rattle.gql_cst.specs.bridge.Machine.{State, all_ended}
 use Rattle.gql_cst.proofs.machine.Machine.close.Given as goal
 
 abbrev pub invariant-loop-outer : goal.invariant-loop-outer

@@ -1,6 +1,6 @@
 use Rattle.std.proofs.Common.{sym}
 use Rattle.gql_cst.specs.declared.turn.Turn.TheVariants.{Taken, Refused, Finished}
-use Rattle.gql_cst.specs.Machine.{takes_it, refuses_it, finishes}
+use Rattle.gql_cst.specs.bridge.Machine.{takes_it, refuses_it, finishes}
 use Rattle.gql_cst.proofs.Driven.{goes-again, goes-told, goes-fewer, goes-held}
 use Rattle.gql_cst.proofs.machine.Machine.turn_until_judged.Goals as goal
 

@@ -1,8 +1,8 @@
 use Rattle.std.proofs.Common.{◌∷◌, reverse}
-use Rattle.gql_grammar.specs.Turns.{turns}
-use Rattle.gql_cst.specs.Frames.{stack_of}
-use Rattle.gql_cst.specs.Machine.{Turned, Settles}
-use Rattle.gql_cst.specs.Held.{Goes, IsHeld}
+use Rattle.gql_grammar.specs.bridge.Turns.{turns}
+use Rattle.gql_cst.specs.bridge.Frames.{stack_of}
+use Rattle.gql_cst.specs.bridge.Machine.{Turned, Settles}
+use Rattle.gql_cst.specs.bridge.Held.{Goes, IsHeld}
 use Rattle.gql_cst.proofs.machine.Machine.turn_until_judged.Given as goal
 
 abbrev pub invariant-loop : goal.invariant-loop

@@ -1,5 +1,5 @@
 use Rattle.std.proofs.Common.{◌≡◌, ◌++◌, ◌+◌, ◌≤◌}
-use Rattle.gql_document.specs.Made.{list}
+use Rattle.gql_document.specs.bridge.Made.{list}
 use Rattle.gql_document.proofs.Sizes.{total, inside_field, inside_inline, size}
 use Rattle.gql_document.proofs.built_selections.Make.+make.Given as goal
 

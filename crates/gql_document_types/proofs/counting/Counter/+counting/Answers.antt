@@ -2,7 +2,7 @@ use Rattle.std.proofs.Common.{rules, arith, ◌≡◌, ◌+◌, ◌*◌, ◌<◌
 use Rattle.gql_document_types.specs.RootFields.{fragment_name}
 use Rattle.gql_schema_types.specs.Entries.{is_called}
 use Rattle.gql_schema_types.proofs.Lookups.{place_within}
-use Rattle.gql_document_types.specs.Counted.{count_at, spread_count}
+use Rattle.gql_document_types.specs.bridge.Counted.{count_at, spread_count}
 use Rattle.gql_document_types.proofs.CountCalls.{counted-as, none-counted}
 use Rattle.gql_document_types.proofs.Counts.{count-defined, count-undefined}
 use Rattle.gql_document_types.proofs.counting.Counter.+counting.Goals as goal

@@ -4,7 +4,7 @@ use Rattle.gql_document_types.specs.RootFields.{fragment_name}
 use Rattle.gql_schema_types.specs.Entries.{is_called}
 use Rattle.gql_schema_types.proofs.Lookups.{place_within}
 use Rattle.gql_document_types.specs.Count.{count}
-use Rattle.gql_document_types.specs.Counted.{count_at, one_count, spread_count}
+use Rattle.gql_document_types.specs.bridge.Counted.{count_at, one_count, spread_count}
 use Rattle.gql_document_types.specs.Expanded.{expanded}
 use Rattle.gql_document_types.proofs.Counts.{count-defined, item-less}
 use Rattle.gql_document_types.proofs.ExpandCalls.{added-defined, added-undefined}

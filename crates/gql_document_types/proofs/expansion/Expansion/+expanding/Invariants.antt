@@ -1,6 +1,6 @@
 use Rattle.std.proofs.Common.{◌≡◌, ◌+◌, ◌*◌, ◌++◌, drop}
 use Rattle.gql_document_types.specs.Count.{count}
-use Rattle.gql_document_types.specs.Counted.{one_count, field_count, inline_count, spread_count, count_at}
+use Rattle.gql_document_types.specs.bridge.Counted.{one_count, field_count, inline_count, spread_count, count_at}
 use Rattle.gql_document_types.specs.Expanded.{expanded}
 use Rattle.gql_document_types.proofs.expansion.Expansion.+expanding.Given as goal
 

@@ -3,7 +3,7 @@ use Rattle.std.proofs.lemmas.List.{append-nil, length-map}
 use Rattle.gql_ast.specs.declared.field_definition.FieldDefinition.{FieldDefinition}
 use Rattle.gql_schema_types.specs.declared.schema.Schema.{Schema}
 use Rattle.gql_schema_types.specs.Schemas.{type_named}
-use Rattle.gql_resolvers.specs.Seen.{seen, misfit_seen, IsFitOfObject}
+use Rattle.gql_resolvers.specs.bridge.Seen.{seen, misfit_seen, IsFitOfObject}
 use Rattle.jb_tree.specs.declared.value.Value.TheVariants as json
 use Rattle.gql_resolvers.specs.Execute.{completed, items_made, one_array, one_object, settled}
 use Rattle.gql_resolvers.specs.Resolved.{gives_leaf, gives_list, gives_object, gives_skip, fails_with}
@@ -13,13 +13,15 @@ use Rattle.gql_resolvers.specs.Meaning.{item_by, meaning_by, meanings_by}
 use Rattle.gql_resolvers.proofs.Height.{height, height-item}
 use Rattle.gql_resolvers.proofs.Views.{meaning_list}
 use Rattle.gql_collect.proofs.Lists.{ok-anyway, map-set}
-use Rattle.gql_exec.specs.Executed.{MakesBelow}
+use Rattle.gql_exec.specs.bridge.Executed.{MakesBelow}
 use Rattle.gql_exec.specs.declared.path.Path.TheVariants.{Below}
-use Rattle.gql_exec.specs.Executing.{request_of, world_of}
-use Rattle.gql_exec.specs.Output.{IsWritten}
-use Rattle.gql_exec.specs.Trails.{group_of, null_at, spot_of, trail_of}
-use Rattle.gql_exec.specs.Asking.{outcome_of}
-use Rattle.gql_exec.specs.Opened.{AnyGives, OpensBy, Turns}
+use Rattle.gql_exec.specs.bridge.Executing.{request_of, world_of}
+use Rattle.gql_exec.specs.bridge.Output.{IsWritten}
+use Rattle.gql_exec.specs.Trails.{group_of}
+use Rattle.gql_exec.specs.bridge.Trails.{null_at, spot_of, trail_of}
+use Rattle.gql_exec.specs.bridge.Asking.{outcome_of}
+use Rattle.gql_exec.specs.Opened.{AnyGives}
+use Rattle.gql_exec.specs.bridge.Opened.{OpensBy, Turns}
 use Rattle.gql_exec.proofs.Completing.{at_field, made-value}
 use Rattle.gql_exec.proofs.Done.{null-done, done-meant, done-misfit, done-fits, done-object, done-there}
 use Rattle.gql_exec.proofs.Fields.{field-gave, field-failed, field-faulted}
@@ -37,12 +39,13 @@ use Rattle.gql_exec.proofs.Ways.{item-place, item_in}
 use Rattle.gql_exec.proofs.executing.Executing.+execute.Goals as goal
 use Rattle.gql_exec.proofs.executing.Executing.+execute.Goals.{complete_items-in-Value+in_ok-add_item-in-Value, complete_items-in-LeftOut, execute_parts-in-Value+in_ok-add_member-in-Value, execute_parts-in-LeftOut}
 use Rattle.gql_document_types.specs.Ranks.{AreRanked}
-use Rattle.gql_collect.specs.Plan.{Ground, ground_of, AreNodes, IsTyped, field_in, fields_in, groups_in, sets_below, group_in, most_looks}
-use Rattle.gql_collect.specs.Ways.{ways_to}
+use Rattle.gql_collect.specs.Plan.{field_in, fields_in, groups_in, group_in}
+use Rattle.gql_collect.specs.bridge.Plan.{Ground, ground_of, AreNodes, IsTyped, sets_below, most_looks}
+use Rattle.gql_collect.specs.bridge.Ways.{ways_to}
 use Rattle.gql_collect.proofs.Growing.{grows-none}
 use Rattle.gql_collect.specs.declared.planned_field.PlannedField.{PlannedField}
 use Rattle.gql_collect.proofs.Nodes.{part-with}
-use Rattle.gql_exec.specs.Planning.{ground_in}
+use Rattle.gql_exec.specs.bridge.Planning.{ground_in}
 use Rattle.gql_exec.proofs.Views.{views}
 use Rattle.gql_ast_base.specs.Names.{Named}
 use Rattle.gql_exec.specs.RequestWorld.{plain_world}
@@ -404,7 +407,6 @@ execute_parts-add_member-requires g t c =
       key-free (world_of c.args.self.now g.O.ObjectValue.type_of g.O.ObjectValue.resolves) so_far.0 (views (drop i groups)) (views (drop (i + 1) groups)) (group_of (group_in part)) c.key-key.result.now.text at.first so_far.2.new
           (ap (λ (n : Named). n.text) c.key-key.ensures),
     )
-
 pub execute_parts-drop_member-requires : goal.execute_parts-drop_member-requires
 execute_parts-drop_member-requires g t c =
     let made = c.in_ok-value.ensures.made in
@@ -413,7 +415,6 @@ execute_parts-drop_member-requires g t c =
     let left_out = left-written g.M.Output.is_made c.begin_member.new.self c.execute_field.new.out c.in_ok-value.field-0 made.found made.are c.in-LeftOut.is in
     let keyed = c.in_ok-begin_member.ensures c.args.out.now so_far.0 so_far.1 in
     (c.args.out.now, so_far.0, key, subst (λ o. g.M.Output.is_keyed c.args.out.now o c.begin_member.new.members so_far.0 key) (sym left_out.0) keyed)
-
 pub execute_parts-drop_object-requires : goal.execute_parts-drop_object-requires
 execute_parts-drop_object-requires g t c =
     let made = c.in_ok-value.ensures.made in
@@ -422,7 +423,6 @@ execute_parts-drop_object-requires g t c =
     let null = null-written g.M.Output.is_made c.begin_member.new.self c.execute_field.new.out c.in_ok-value.field-0 made.found made.are c.in-NullPasses.is in
     let keyed = c.in_ok-begin_member.ensures c.args.out.now so_far.0 so_far.1 in
     (c.args.out.now, so_far.0, key, subst (λ o. g.M.Output.is_keyed c.args.out.now o c.begin_member.new.members so_far.0 key) (sym null.0) keyed)
-
 pub execute_parts-returns-in-NullPasses : goal.execute_parts-returns-in-NullPasses
 execute_parts-returns-in-NullPasses g t c =
     let groups = groups_in c.args.parts.now in
@@ -446,7 +446,6 @@ execute_parts-returns-in-NullPasses g t c =
       planned = part-with (ground_in c.args.self.now) c.loop-number.parts i part c.execute_field.new.nodes c.loop-number.invariant.planned c.in_ok-value.ensures.planned;
       grows = grown-part c.args.self.now c.args.steps.now c.loop-number.steps c.execute_field.new.steps (request_of c.args.self.now g.O.ObjectValue.type_of g.O.ObjectValue.resolves) c.args.object_type.now (g.O.ObjectValue.seen c.args.object.now) groups i (views (drop (i + 1) groups)) c.args.parts.now c.loop-number.parts part c.execute_field.new.nodes at.first is c.loop-number.invariant.grows c.in_ok-value.ensures.grows;
     }
-
 pub execute_parts-loop-number-preserved : goal.execute_parts-loop-number-preserved
 execute_parts-loop-number-preserved g t c =
     let w = world_of c.args.self.now g.O.ObjectValue.type_of g.O.ObjectValue.resolves in

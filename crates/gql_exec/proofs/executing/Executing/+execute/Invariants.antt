@@ -2,15 +2,18 @@ use Rattle.std.proofs.Common.{◌≡◌, ◌+◌, ◌*◌, List, drop, length}
 use Rattle.jb_tree.specs.declared.value.Value.{Value}
 use Rattle.gql_resolvers.specs.Execute.{Member}
 use Rattle.gql_resolvers.specs.Types.{item_type}
-use Rattle.gql_collect.specs.Plan.{AreNodes, HaveNodes, fields_in, groups_in, sets_below}
-use Rattle.gql_collect.specs.Ways.{Turn}
+use Rattle.gql_collect.specs.Plan.{fields_in, groups_in}
+use Rattle.gql_collect.specs.bridge.Plan.{AreNodes, HaveNodes, sets_below}
+use Rattle.gql_collect.specs.bridge.Ways.{Turn}
 use Rattle.gql_resolvers.specs.Meaning.{meanings_by}
 use Rattle.gql_resolvers.proofs.Height.{height}
-use Rattle.gql_exec.specs.Planning.{ground_in}
-use Rattle.gql_exec.specs.Executing.{world_of}
-use Rattle.gql_exec.specs.Looks.{NodesGrow, PartsGrow}
-use Rattle.gql_exec.specs.Opened.{AnyGives, OpensBy, Turns}
-use Rattle.gql_exec.specs.Trails.{group_of, spot_of, trail_of}
+use Rattle.gql_exec.specs.bridge.Planning.{ground_in}
+use Rattle.gql_exec.specs.bridge.Executing.{world_of}
+use Rattle.gql_exec.specs.bridge.Looks.{NodesGrow, PartsGrow}
+use Rattle.gql_exec.specs.Opened.{AnyGives}
+use Rattle.gql_exec.specs.bridge.Opened.{OpensBy, Turns}
+use Rattle.gql_exec.specs.Trails.{group_of}
+use Rattle.gql_exec.specs.bridge.Trails.{spot_of, trail_of}
 use Rattle.gql_exec.proofs.Groups.{IsExecuting}
 use Rattle.gql_exec.proofs.Heights.{top}
 use Rattle.gql_exec.proofs.Items.{IsCompleting}

@@ -1,11 +1,11 @@
 use Rattle.std.proofs.Common.{[], ◌∷◌, Some, refl, sym, ap, ◌∙◌}
 use Rattle.gql_resolvers.specs.Fit.{leaf_misfit_at}
-use Rattle.gql_resolvers.specs.Seen.{seen, misfit_seen}
+use Rattle.gql_resolvers.specs.bridge.Seen.{seen, misfit_seen}
 use Rattle.gql_resolvers.specs.Execute.{execute}
 use Rattle.gql_resolvers.specs.Resolved.{gives_leaf}
-use Rattle.gql_exec.specs.Executing.{world_of}
-use Rattle.gql_exec.specs.Output.{IsWritten}
-use Rattle.gql_exec.specs.Trails.{spot_of}
+use Rattle.gql_exec.specs.bridge.Executing.{world_of}
+use Rattle.gql_exec.specs.bridge.Output.{IsWritten}
+use Rattle.gql_exec.specs.bridge.Trails.{spot_of}
 use Rattle.gql_exec.proofs.Completing.{made-as, made-value, completed-fits}
 use Rattle.gql_exec.proofs.Done.{done-misfit}
 use Rattle.gql_exec.proofs.executing.Executing.complete_leaf.Goals as goal

@@ -3,9 +3,9 @@ use Rattle.gql_resolvers.specs.Fit.{wrong}
 use Rattle.gql_resolvers.specs.Messages as message
 use Rattle.gql_resolvers.specs.Fault.{fault_error, told_at}
 use Rattle.gql_resolvers.specs.Resolved.{fails_with}
-use Rattle.gql_exec.specs.Executing.{world_of}
-use Rattle.gql_exec.specs.Output.{IsWritten}
-use Rattle.gql_exec.specs.Trails.{spot_of}
+use Rattle.gql_exec.specs.bridge.Executing.{world_of}
+use Rattle.gql_exec.specs.bridge.Output.{IsWritten}
+use Rattle.gql_exec.specs.bridge.Trails.{spot_of}
 use Rattle.gql_exec.proofs.Done.{done-misfit, null-listed}
 use Rattle.gql_exec.proofs.executing.Executing.fail.Goals as goal
 

@@ -1,8 +1,8 @@
 use Rattle.std.proofs.Common.{rules, ◌≡◌, [], ◌∷◌, ◌++◌}
-use Rattle.gql_resolvers.specs.Seen.{seen}
+use Rattle.gql_resolvers.specs.bridge.Seen.{seen}
 use Rattle.gql_resolvers.specs.Fault.{fault_error, told_at}
-use Rattle.gql_exec.specs.Executing.{world_of}
-use Rattle.gql_exec.specs.Trails.{spot_of}
+use Rattle.gql_exec.specs.bridge.Executing.{world_of}
+use Rattle.gql_exec.specs.bridge.Trails.{spot_of}
 use Rattle.gql_exec.proofs.Done.{null-listed}
 use Rattle.gql_exec.proofs.executing.Executing.refuse.Goals as goal
 

@@ -1,8 +1,8 @@
 use Rattle.std.proofs.Common.{rules, ◌≡◌, [], ◌∷◌, ◌++◌}
 use Rattle.gql_resolvers.specs.Fault.{fault_error}
 use Rattle.gql_exec.specs.Asks.{fault_of}
-use Rattle.gql_exec.specs.Executing.{world_of}
-use Rattle.gql_exec.specs.Trails.{spot_of}
+use Rattle.gql_exec.specs.bridge.Executing.{world_of}
+use Rattle.gql_exec.specs.bridge.Trails.{spot_of}
 use Rattle.gql_exec.proofs.Done.{null-listed}
 use Rattle.gql_exec.proofs.executing.Executing.refuse_argument.Goals as goal
 

@@ -1,7 +1,7 @@
 use Rattle.std.proofs.Common.{List, Option, Ok, subst}
 use Rattle.gql_resolvers.specs.Execute.{Member}
 use Rattle.gql_exec.specs.Execution.{Answers, Counts}
-use Rattle.gql_exec.specs.Running.{response_of}
+use Rattle.gql_exec.specs.bridge.Running.{response_of}
 use Rattle.gql_exec.proofs.Introspecting.{run-answered, run-refused, refused-counts, tree-found}
 use Rattle.gql_exec.proofs.execution.Execution.execute_counted.Goals as goal
 

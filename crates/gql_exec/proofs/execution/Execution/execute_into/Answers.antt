@@ -1,6 +1,6 @@
 use Rattle.std.proofs.Common.{sym, subst}
-use Rattle.gql_exec.specs.Output.{AreWritten}
-use Rattle.gql_exec.specs.Running.{RunsBy}
+use Rattle.gql_exec.specs.bridge.Output.{AreWritten}
+use Rattle.gql_exec.specs.bridge.Running.{RunsBy}
 use Rattle.gql_exec.proofs.execution.Execution.execute_into.Goals as goal
 
 pub returns-then-self : goal.returns-then-self

@@ -1,8 +1,8 @@
 use Rattle.std.proofs.Common.{subst}
 use Rattle.gql_exec.specs.Thing.{Thing, type_of_thing}
 use Rattle.gql_exec.specs.ThingMeaning.{thing_meaning}
-use Rattle.gql_exec.specs.Output.{AreWritten}
-use Rattle.gql_exec.specs.Running.{RunsOver}
+use Rattle.gql_exec.specs.bridge.Output.{AreWritten}
+use Rattle.gql_exec.specs.bridge.Running.{RunsOver}
 use Rattle.gql_exec.proofs.execution.Execution.execute_introspected.Goals as goal
 
 pub returns : goal.returns

@@ -3,8 +3,8 @@ use Rattle.gql_coerce.specs.Outcome.{told_as}
 use Rattle.gql_coerce.specs.Variables.{coerced_variables}
 use Rattle.gql_collect.specs.RequestErrors.{request_error}
 use Rattle.gql_exec.specs.Execution.{variables_of, with_variables}
-use Rattle.gql_exec.specs.Output.{AreWritten}
-use Rattle.gql_exec.specs.Running.{IsRun}
+use Rattle.gql_exec.specs.bridge.Output.{AreWritten}
+use Rattle.gql_exec.specs.bridge.Running.{IsRun}
 use Rattle.gql_exec.proofs.execution.Execution.execute_on.Goals as goal
 
 pub returns-in-Raw : goal.returns-in-Raw

@@ -1,8 +1,8 @@
 use Rattle.std.proofs.Common.{rules, ◌≡◌, Some, subst}
 use Rattle.gql_schema_types.specs.Schemas.{object_of}
 use Rattle.gql_exec.specs.Execution.{on_root}
-use Rattle.gql_exec.specs.Output.{AreWritten}
-use Rattle.gql_exec.specs.Running.{IsRun}
+use Rattle.gql_exec.specs.bridge.Output.{AreWritten}
+use Rattle.gql_exec.specs.bridge.Running.{IsRun}
 use Rattle.gql_exec.proofs.execution.Execution.execute_operation.Goals as goal
 
 pub returns-in-Some : goal.returns-in-Some

@@ -1,7 +1,7 @@
 use Rattle.std.proofs.Common.{List, subst}
-use Rattle.gql_exec.specs.Output.{AreWritten}
-use Rattle.gql_exec.specs.Running.{response_of}
-use Rattle.gql_exec.specs.Written.{IsOpenObject}
+use Rattle.gql_exec.specs.bridge.Output.{AreWritten}
+use Rattle.gql_exec.specs.bridge.Running.{response_of}
+use Rattle.gql_exec.specs.bridge.Written.{IsOpenObject}
 use Rattle.gql_exec.proofs.Introspecting.{run-answered, run-refused}
 use Rattle.gql_exec.proofs.execution.Execution.execute_written.Goals as goal
 

@@ -2,12 +2,13 @@ use Rattle.std.proofs.Common.{◌≡◌, ◌≤◌, ◌+◌, [], ◌∷◌, sym,
 use Rattle.gql_document_types.specs.Spreads.{spread_graph}
 use Rattle.gql_document_types.specs.Ranks.{AreRanked}
 use Rattle.gql_collect.specs.Collected.{sets_of}
-use Rattle.gql_collect.specs.Plan.{Ground, ArePartsOf, IsWithin, groups_in, most_looks}
-use Rattle.gql_collect.specs.Room.{HasRoom}
+use Rattle.gql_collect.specs.Plan.{groups_in}
+use Rattle.gql_collect.specs.bridge.Plan.{Ground, ArePartsOf, IsWithin, most_looks}
+use Rattle.gql_collect.specs.bridge.Room.{HasRoom}
 use Rattle.gql_collect.proofs.Room.{room-root}
 use Rattle.gql_exec.specs.RequestWorld.{plain_world}
 use Rattle.gql_exec.specs.Execution.{request_in}
-use Rattle.gql_exec.specs.Trails.{trail_of}
+use Rattle.gql_exec.specs.bridge.Trails.{trail_of}
 use Rattle.gql_exec.specs.declared.executing.Executing.{Executing}
 use Rattle.gql_exec.specs.declared.path.Path.TheVariants.{Root}
 use Rattle.gql_exec.proofs.Collecting.{one-set, views-run}

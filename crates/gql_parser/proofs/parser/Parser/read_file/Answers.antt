@@ -1,6 +1,7 @@
 use Rattle.gql_grammar.specs.declared.rule.Rule.TheVariants as rule
 use Rattle.gql_parser.specs.declared.file_read.FileRead.{FileRead}
-use Rattle.gql_parser.specs.FileRead.{IsFileRead, IsFileOf}
+use Rattle.gql_parser.specs.FileRead.{IsFileRead}
+use Rattle.gql_parser.specs.bridge.FileRead.{IsFileOf}
 use Rattle.gql_parser.specs.Parsers.{given}
 use Rattle.gql_parser.proofs.Answering.{left, file_read, ok_so}
 use Rattle.gql_parser.proofs.parser.Parser.read_file.Goals as goal

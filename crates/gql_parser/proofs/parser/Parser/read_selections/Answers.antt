@@ -1,7 +1,8 @@
 use Rattle.gql_cst.specs.Report.{report_of}
 use Rattle.gql_grammar.specs.declared.rule.Rule.TheVariants as rule
 use Rattle.gql_parser.specs.declared.parse_field_set.SelectionsRead.{SelectionsRead}
-use Rattle.gql_parser.specs.FieldSetsRead.{AreSelectionsRead, AreSelectionsOfParse}
+use Rattle.gql_parser.specs.FieldSetsRead.{AreSelectionsRead}
+use Rattle.gql_parser.specs.bridge.FieldSetsRead.{AreSelectionsOfParse}
 use Rattle.gql_parser.specs.Parsers.{given}
 use Rattle.gql_parser.proofs.Answering.{left, selections_read, ok_so}
 use Rattle.gql_parser.proofs.parser.Parser.read_selections.Goals as goal

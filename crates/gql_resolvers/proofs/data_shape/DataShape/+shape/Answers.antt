@@ -1,7 +1,7 @@
 use Rattle.std.proofs.Common.{arith, ◌≡◌, ◌≤◌, length, map, take_all, sym, ap, ◌∙◌}
 use Rattle.gql_resolvers.specs.Resolved.{gives_list}
 use Rattle.gql_resolvers.specs.DataMeaning.{shaped}
-use Rattle.gql_resolvers.specs.DataShape.{composite_of}
+use Rattle.gql_resolvers.specs.bridge.DataShape.{composite_of}
 use Rattle.gql_resolvers.specs.Meaning.{item_by, itself}
 use Rattle.gql_resolvers.proofs.Shapes.{items-are}
 use Rattle.gql_resolvers.proofs.Views.{meaning_list}

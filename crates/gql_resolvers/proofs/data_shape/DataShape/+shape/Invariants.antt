@@ -1,6 +1,6 @@
 use Rattle.std.proofs.Common.{◌≡◌, ◌+◌, ◌*◌, map, take}
 use Rattle.gql_resolvers.specs.DataMeaning.{shaped}
-use Rattle.gql_resolvers.specs.DataShape.{composite_of}
+use Rattle.gql_resolvers.specs.bridge.DataShape.{composite_of}
 use Rattle.gql_resolvers.specs.Meaning.{item_by, itself}
 use Rattle.gql_resolvers.proofs.Height.{height}
 use Rattle.gql_resolvers.proofs.data_shape.DataShape.+shape.Given as goal

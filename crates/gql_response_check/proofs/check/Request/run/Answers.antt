@@ -2,16 +2,17 @@ use Rattle.std.proofs.Common.{rules, ◌≡◌, [], ◌∷◌, sym, subst}
 use Rattle.std.specs.Option.{option_copied}
 use Rattle.gql_document_types.specs.Spreads.{spread_graph}
 use Rattle.gql_collect.specs.Collected.{sets_of}
-use Rattle.gql_collect.specs.Plan.{Ground, ArePartsOf, IsWithin, groups_in}
-use Rattle.gql_collect.specs.Room.{HasRoom}
+use Rattle.gql_collect.specs.Plan.{groups_in}
+use Rattle.gql_collect.specs.bridge.Plan.{Ground, ArePartsOf, IsWithin}
+use Rattle.gql_collect.specs.bridge.Room.{HasRoom}
 use Rattle.gql_collect.proofs.Room.{room-root}
 use Rattle.gql_exec.proofs.Collecting.{one-set}
 use Rattle.gql_exec.proofs.Ways.{trail-root}
-use Rattle.gql_exec.specs.Trails.{trail_of}
+use Rattle.gql_exec.specs.bridge.Trails.{trail_of}
 use Rattle.gql_exec.specs.declared.executing.Executing.{Executing}
 use Rattle.gql_exec.specs.declared.path.Path.TheVariants.{Root}
 use Rattle.gql_collect.proofs.Acyclic.{spreads-ranked}
-use Rattle.gql_response_check.specs.Views.{claims_of}
+use Rattle.gql_response_check.specs.bridge.Views.{claims_of}
 use Rattle.gql_response_check.proofs.Judging.{verdict-found}
 use Rattle.gql_response_check.proofs.check.Request.run.Goals as goal
 

@@ -1,6 +1,6 @@
 use Rattle.std.proofs.Common.{rules}
 use Rattle.gql_checker_laws.proofs.Keys.{told-past}
-use Rattle.gql_response_check.specs.Views.{findings_of}
+use Rattle.gql_response_check.specs.bridge.Views.{findings_of}
 use Rattle.gql_response_check.proofs.findings.Findings.tell.Goals as goal
 
 pub returns-in_default : goal.returns-in_default

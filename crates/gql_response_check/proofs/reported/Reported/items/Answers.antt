@@ -1,6 +1,6 @@
 use Rattle.std.proofs.Common.{rules, arith, ◌≡◌, true, false, Some}
 use Rattle.jb_tree.specs.Value.{array_items}
-use Rattle.gql_response_check.specs.Views.{value_in}
+use Rattle.gql_response_check.specs.bridge.Views.{value_in}
 use Rattle.gql_response_check.proofs.Leaves.{items-kept, length-other, length-same}
 use Rattle.gql_response_check.proofs.reported.Reported.items.Goals as goal
 

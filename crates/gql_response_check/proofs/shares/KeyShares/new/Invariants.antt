@@ -2,8 +2,8 @@ use Rattle.std.proofs.Common.{◌≡◌, ◌++◌, drop}
 use Rattle.gql_ast_base.specs.Names.{Named}
 use Rattle.gql_response.specs.declared.path.ResponseDataPathSegment.TheVariants.{Field}
 use Rattle.gql_checker_laws.specs.Claims.{share}
-use Rattle.gql_response_check.specs.Shares.{AreEven, key_share}
-use Rattle.gql_response_check.specs.Views.{claims_of}
+use Rattle.gql_response_check.specs.bridge.Shares.{AreEven, key_share}
+use Rattle.gql_response_check.specs.bridge.Views.{claims_of}
 use Rattle.gql_response_check.proofs.shares.KeyShares.new.Given as goal
 
 abbrev pub invariant-loop-claim : goal.invariant-loop-claim

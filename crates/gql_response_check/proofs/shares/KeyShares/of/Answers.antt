@@ -2,8 +2,8 @@ use Rattle.std.proofs.Common.{rules, ◌≡◌, [], Some, None, ap, sym, ◌∙�
 use Rattle.std.specs.List.{position}
 use Rattle.gql_schema_types.specs.Entries.{is_called}
 use Rattle.gql_checker_laws.proofs.Sharing.{named-none, named-share}
-use Rattle.gql_response_check.specs.Shares.{step_name}
-use Rattle.gql_response_check.specs.Views.{claim_of, claims_of}
+use Rattle.gql_response_check.specs.bridge.Shares.{step_name}
+use Rattle.gql_response_check.specs.bridge.Views.{claim_of, claims_of}
 use Rattle.gql_response_check.proofs.shares.KeyShares.of.Goals as goal
 
 pub returns-in_default : goal.returns-in_default

@@ -4,8 +4,8 @@ use Rattle.gql_schema_types.proofs.Lookups.{missing}
 use Rattle.gql_schema_types.specs.Entries.{is_called}
 use Rattle.gql_checker_laws.specs.Shares.{named_share}
 use Rattle.gql_checker_laws.proofs.Sharing.{added-length, named-added, named-begun}
-use Rattle.gql_response_check.specs.Shares.{step_name}
-use Rattle.gql_response_check.specs.Views.{claim_of}
+use Rattle.gql_response_check.specs.bridge.Shares.{step_name}
+use Rattle.gql_response_check.specs.bridge.Views.{claim_of}
 use Rattle.gql_response_check.specs.declared.claim.Claim.{Claim as HeldClaim}
 use Rattle.gql_response_check.specs.declared.shares.StepName.{StepName}
 use Rattle.gql_response_check.proofs.shares.KeyShares.put.Goals as goal

@@ -8,15 +8,16 @@ use Rattle.gql_checker_laws.specs.Claims.{share}
 use Rattle.gql_ast.specs.declared.field_definition.FieldDefinition.{FieldDefinition}
 use Rattle.gql_schema_types.specs.declared.schema.Schema.{Schema}
 use Rattle.gql_schema_types.specs.Schemas.{type_named}
-use Rattle.gql_resolvers.specs.Seen.{seen, misfit_seen, IsFitOfObject}
+use Rattle.gql_resolvers.specs.bridge.Seen.{seen, misfit_seen, IsFitOfObject}
 use Rattle.gql_resolvers.specs.Resolved.{gives_leaf, gives_list, gives_object, gives_skip, fails_with}
 use Rattle.gql_resolvers.specs.Meaning.{item_by, meaning_by, meanings_by}
 use Rattle.gql_resolvers.proofs.Height.{height, height-item}
 use Rattle.gql_resolvers.proofs.Views.{meaning_list}
 use Rattle.gql_collect.proofs.Lists.{ok-anyway, map-set}
 use Rattle.gql_exec.specs.declared.path.Path.TheVariants.{Below}
-use Rattle.gql_exec.specs.Executing.{world_of}
-use Rattle.gql_exec.specs.Trails.{group_of, spot_of, trail_of}
+use Rattle.gql_exec.specs.bridge.Executing.{world_of}
+use Rattle.gql_exec.specs.Trails.{group_of}
+use Rattle.gql_exec.specs.bridge.Trails.{spot_of, trail_of}
 use Rattle.gql_exec.proofs.Heights.{top}
 use Rattle.gql_exec.proofs.Measures.{schema_in, measure, definition-top}
 use Rattle.gql_exec.proofs.Misfits.{fits-list, same-misfit, same-object}
@@ -26,16 +27,17 @@ use Rattle.gql_exec.proofs.Objects.{object-less, object-parts, object-grown}
 use Rattle.gql_exec.proofs.Values.{meaning-leaf, meaning-object, meaning-skip}
 use Rattle.gql_exec.proofs.Ways.{item-place, item_in, trail-place}
 use Rattle.gql_document_types.specs.Ranks.{AreRanked}
-use Rattle.gql_collect.specs.Plan.{Ground, ground_of, AreNodes, IsTyped, field_in, fields_in, groups_in, sets_below, group_in, parts_in}
+use Rattle.gql_collect.specs.Plan.{field_in, fields_in, groups_in, group_in}
+use Rattle.gql_collect.specs.bridge.Plan.{Ground, ground_of, AreNodes, IsTyped, sets_below, parts_in}
 use Rattle.gql_collect.specs.declared.planned_field.PlannedField.{PlannedField}
 use Rattle.gql_collect.proofs.Nodes.{part-with}
-use Rattle.gql_exec.specs.Planning.{ground_in}
+use Rattle.gql_exec.specs.bridge.Planning.{ground_in}
 use Rattle.gql_exec.proofs.Views.{views}
 use Rattle.gql_collect.proofs.Changes.{with_nodes, changed-field}
 use Rattle.gql_exec.proofs.Collecting.{views-end}
 use Rattle.gql_checker_laws.specs.Walked.{IsVisiting, IsWalking}
 use Rattle.gql_checker_laws.proofs.Walking.{visiting-begun, visiting-more, visiting-ends, walking-begun, walking-more, walking-ends}
-use Rattle.gql_response_check.specs.Views.{claims_of, findings_of}
+use Rattle.gql_response_check.specs.bridge.Views.{claims_of, findings_of}
 use Rattle.gql_response_check.proofs.Returning.{done-item, done-list, done-meant, done-misfit, done-object, done-typed, field-failed, field-gave, field-refused, idle-field, idle-item}
 use Rattle.gql_response_check.proofs.walk.Checking.+check.Goals as goal
 

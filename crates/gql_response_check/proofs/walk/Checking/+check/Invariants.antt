@@ -1,16 +1,18 @@
 use Rattle.std.proofs.Common.{◌≡◌, ◌+◌, ◌*◌, drop, length}
 use Rattle.std.specs.Option.{option_copied}
-use Rattle.gql_collect.specs.Plan.{AreNodes, HaveNodes, fields_in, groups_in, sets_below}
+use Rattle.gql_collect.specs.Plan.{fields_in, groups_in}
+use Rattle.gql_collect.specs.bridge.Plan.{AreNodes, HaveNodes, sets_below}
 use Rattle.gql_resolvers.specs.Meaning.{meanings_by}
 use Rattle.gql_resolvers.proofs.Height.{height}
-use Rattle.gql_exec.specs.Planning.{ground_in}
-use Rattle.gql_exec.specs.Executing.{world_of}
-use Rattle.gql_exec.specs.Trails.{group_of, spot_of, trail_of}
+use Rattle.gql_exec.specs.bridge.Planning.{ground_in}
+use Rattle.gql_exec.specs.bridge.Executing.{world_of}
+use Rattle.gql_exec.specs.Trails.{group_of}
+use Rattle.gql_exec.specs.bridge.Trails.{spot_of, trail_of}
 use Rattle.gql_exec.proofs.Heights.{top}
 use Rattle.gql_exec.proofs.Measures.{schema_in, fragments_in, room, measure, deepest}
 use Rattle.gql_exec.proofs.Views.{views}
 use Rattle.gql_checker_laws.specs.Walked.{IsVisiting, IsWalking}
-use Rattle.gql_response_check.specs.Views.{claims_of, findings_of}
+use Rattle.gql_response_check.specs.bridge.Views.{claims_of, findings_of}
 use Rattle.gql_response_check.proofs.walk.Checking.+check.Given as goal
 
 abbrev pub decreases-check_parts : goal.decreases-check_parts

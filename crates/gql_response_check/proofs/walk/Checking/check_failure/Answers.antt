@@ -2,7 +2,7 @@ use Rattle.std.proofs.Common.{rules, refl}
 use Rattle.gql_resolvers.specs.Fit.{wrong}
 use Rattle.gql_resolvers.specs.Messages as message
 use Rattle.gql_resolvers.specs.Resolved.{fails_with}
-use Rattle.gql_exec.specs.Trails.{spot_of}
+use Rattle.gql_exec.specs.bridge.Trails.{spot_of}
 use Rattle.gql_response_check.proofs.Returning.{done-misfit}
 use Rattle.gql_response_check.proofs.walk.Checking.check_failure.Goals as goal
 

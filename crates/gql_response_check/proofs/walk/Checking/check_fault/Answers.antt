@@ -1,8 +1,8 @@
 use Rattle.std.proofs.Common.{IfOk, subst}
 use Rattle.gql_document_types.specs.declared.document.ExecutableDocument.{ExecutableDocument}
-use Rattle.gql_exec.specs.Trails.{spot_of}
-use Rattle.gql_response_check.specs.Finds.{FindsFault}
-use Rattle.gql_response_check.specs.Views.{fault_in}
+use Rattle.gql_exec.specs.bridge.Trails.{spot_of}
+use Rattle.gql_response_check.specs.bridge.Finds.{FindsFault}
+use Rattle.gql_response_check.specs.bridge.Views.{fault_in}
 use Rattle.gql_response_check.proofs.Returning.{done-fault}
 use Rattle.gql_response_check.proofs.walk.Checking.check_fault.Goals as goal
 

@@ -1,8 +1,8 @@
 use Rattle.std.proofs.Common.{ap, sym, ◌∙◌}
 use Rattle.gql_resolvers.specs.Fit.{leaf_misfit_at}
 use Rattle.gql_resolvers.specs.Resolved.{gives_leaf}
-use Rattle.gql_resolvers.specs.Seen.{seen, misfit_seen}
-use Rattle.gql_exec.specs.Trails.{spot_of}
+use Rattle.gql_resolvers.specs.bridge.Seen.{seen, misfit_seen}
+use Rattle.gql_exec.specs.bridge.Trails.{spot_of}
 use Rattle.gql_response_check.proofs.Returning.{done-leaf, done-misfit}
 use Rattle.gql_response_check.proofs.walk.Checking.check_leaf.Goals as goal
 

@@ -1,4 +1,4 @@
-use Rattle.gql_exec.specs.Trails.{spot_of}
+use Rattle.gql_exec.specs.bridge.Trails.{spot_of}
 use Rattle.gql_response_check.proofs.Returning.{done-skip}
 use Rattle.gql_response_check.proofs.walk.Checking.check_skip.Goals as goal
 

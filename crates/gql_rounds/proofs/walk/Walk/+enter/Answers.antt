@@ -7,7 +7,7 @@ use Rattle.gql_resolvers.specs.Meaning.{meanings_by}
 use Rattle.gql_resolvers.specs.Resolved.{Meaning, gives_list}
 use Rattle.gql_rounds.specs.Known.{Known, entity_of}
 use Rattle.gql_rounds.specs.Levels.{given}
-use Rattle.gql_rounds.specs.Walked.{known_in, known_meaning, stands_of, world_of}
+use Rattle.gql_rounds.specs.bridge.Walked.{known_in, known_meaning, stands_of, world_of}
 use Rattle.gql_rounds.proofs.Entering.{entering-more}
 use Rattle.gql_rounds.proofs.walk.Walk.+enter.Goals as goal
 

@@ -1,7 +1,7 @@
 use Rattle.std.proofs.Common.{◌+◌, ◌*◌, drop}
 use Rattle.gql_exec.specs.Trails.{group_of}
 use Rattle.gql_resolvers.proofs.Height.{height}
-use Rattle.gql_rounds.specs.Walked.{stands_of, world_of}
+use Rattle.gql_rounds.specs.bridge.Walked.{stands_of, world_of}
 use Rattle.gql_rounds.proofs.Entering.{IsEntering}
 use Rattle.gql_rounds.proofs.walk.Walk.+enter.Given as goal
 

@@ -1,13 +1,14 @@
 use Rattle.std.proofs.Common.{◌≡◌, ◌++◌, if◌then◌else◌, [], refl, sym, ap, ◌∙◌}
 use Rattle.indexmap.proofs.MapLemmas.{OnOk-map}
-use Rattle.gql_exec.specs.Asking.{outcome_of}
+use Rattle.gql_exec.specs.bridge.Asking.{outcome_of}
 use Rattle.gql_exec.specs.Asks.{asks, fault_of}
 use Rattle.gql_exec.specs.Trails.{group_of}
 use Rattle.gql_resolvers.specs.Resolved.{answered, fails_with, refused}
 use Rattle.gql_rounds.specs.Known.{entity_of}
 use Rattle.gql_rounds.specs.Levels.{below_group, given}
-use Rattle.gql_rounds.specs.Walked.{known_meaning, request_of, stand_of, stands_of, world_of}
-use Rattle.gql_rounds.specs.Wanted.{all_noted, ask_for, is_skip, wanted_by_group}
+use Rattle.gql_rounds.specs.bridge.Walked.{known_meaning, request_of, stand_of, stands_of, world_of}
+use Rattle.gql_rounds.specs.Wanted.{ask_for, is_skip, wanted_by_group}
+use Rattle.gql_rounds.specs.bridge.Wanted.{all_noted}
 use Rattle.gql_rounds.proofs.Fields.{gave-below, gave-wanted, known-asked, nothing-below, nothing-wanted}
 use Rattle.gql_rounds.proofs.Meanings.{known_outcome}
 use Rattle.gql_rounds.proofs.walk.Walk.field.Goals as goal

@@ -9,8 +9,9 @@ use Rattle.gql_resolvers.specs.Meaning.{meanings_by}
 use Rattle.gql_resolvers.specs.Resolved.{Meaning, gives_list, gives_object, gives_skip}
 use Rattle.gql_rounds.specs.Known.{Known, entity_of}
 use Rattle.gql_rounds.specs.Levels.{given}
-use Rattle.gql_rounds.specs.Walked.{known_in, known_meaning, request_of, stand_of, stands_of, world_of}
-use Rattle.gql_rounds.specs.Wanted.{all_noted, ask_for, is_skip}
+use Rattle.gql_rounds.specs.bridge.Walked.{known_in, known_meaning, request_of, stand_of, stands_of, world_of}
+use Rattle.gql_rounds.specs.Wanted.{ask_for, is_skip}
+use Rattle.gql_rounds.specs.bridge.Wanted.{all_noted}
 use Rattle.gql_rounds.proofs.Fields.{none-added}
 use Rattle.gql_rounds.proofs.walk.Walk.gave.Goals as goal
 

@@ -1,5 +1,5 @@
 use Rattle.std.proofs.Common.{arith, ◌≤◌, length, take, take_all, sym, ap, subst}
-use Rattle.gql_rounds.specs.Walked.{request_of, stand_of, stands_of}
+use Rattle.gql_rounds.specs.bridge.Walked.{request_of, stand_of, stands_of}
 use Rattle.gql_rounds.proofs.Visits.{IsOnLevel, level-begun, level-more, take-stand, visit-within}
 use Rattle.gql_rounds.proofs.walk.Walk.next_level.Goals as goal
 

@@ -1,5 +1,5 @@
 use Rattle.std.proofs.Common.{take}
-use Rattle.gql_rounds.specs.Walked.{request_of, stands_of}
+use Rattle.gql_rounds.specs.bridge.Walked.{request_of, stands_of}
 use Rattle.gql_rounds.proofs.Visits.{IsOnLevel}
 use Rattle.gql_rounds.proofs.walk.Walk.next_level.Given as goal
 

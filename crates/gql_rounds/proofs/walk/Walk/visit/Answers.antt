@@ -1,7 +1,8 @@
 use Rattle.std.proofs.Common.{arith, ◌≤◌, ◌+◌, length, drop, refl, sym, subst}
 use Rattle.std.proofs.lemmas.List.{length-map}
 use Rattle.gql_collect.specs.Collected.{sets_of}
-use Rattle.gql_collect.specs.Plan.{Ground, ArePartsOf, IsWithin, field_in, fields_in, groups_in}
+use Rattle.gql_collect.specs.Plan.{field_in, fields_in, groups_in}
+use Rattle.gql_collect.specs.bridge.Plan.{Ground, ArePartsOf, IsWithin}
 use Rattle.gql_collect.specs.declared.planned_field.PlannedField.{PlannedField}
 use Rattle.gql_document_types.specs.Ranks.{AreRanked}
 use Rattle.gql_exec.proofs.Collecting.{views-end}
@@ -9,7 +10,7 @@ use Rattle.gql_exec.proofs.Planned.{here}
 use Rattle.gql_exec.proofs.Views.{views}
 use Rattle.gql_rounds.specs.Known.{type_of_entity}
 use Rattle.gql_rounds.specs.ToldMeaning.{told}
-use Rattle.gql_rounds.specs.Walked.{request_of, stand_of, stands_of}
+use Rattle.gql_rounds.specs.bridge.Walked.{request_of, stand_of, stands_of}
 use Rattle.gql_rounds.proofs.Visits.{visited-asks, visited-below, visited-grows, visited-wanted, visited-within, visiting-begun, visiting-more}
 use Rattle.gql_rounds.proofs.walk.Walk.visit.Goals as goal
 

@@ -1,7 +1,7 @@
 use Rattle.std.proofs.Common.{drop}
 use Rattle.gql_collect.specs.Plan.{groups_in}
 use Rattle.gql_exec.proofs.Views.{views}
-use Rattle.gql_rounds.specs.Walked.{request_of, stand_of, stands_of}
+use Rattle.gql_rounds.specs.bridge.Walked.{request_of, stand_of, stands_of}
 use Rattle.gql_rounds.proofs.Visits.{IsVisiting}
 use Rattle.gql_rounds.proofs.walk.Walk.visit.Given as goal
 

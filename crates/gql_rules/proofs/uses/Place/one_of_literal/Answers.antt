@@ -2,7 +2,7 @@ use Rattle.std.proofs.Common.{true, false, None, ◌∙◌}
 use Rattle.gql_rules.proofs.Members.{chosen}
 use Rattle.gql_rules.proofs.uses.Place.one_of_literal.Goals as goal
 use Rattle.gql_rules.specs.Uses.{one_of_wanted, value_uses}
-use Rattle.gql_rules.specs.Views.{place_of}
+use Rattle.gql_rules.specs.bridge.Views.{place_of}
 
 pub returns-then-has_one_key : goal.returns-then-has_one_key
 returns-then-has_one_key c =

@@ -2,7 +2,7 @@ use Rattle.std.proofs.Common.{◌<◌, Some, length, fold, ap, sym, subst, ◌�
 use Rattle.std.specs.List.{flat_map}
 use Rattle.std.specs.Hash.{le_bytes, str as fed_text}
 use Rattle.jb_map.specs.ByKey.{by_key, pair_input}
-use Rattle.jb_map.specs.NextByKey.{key_of}
+use Rattle.jb_map.specs.bridge.NextByKey.{key_of}
 use Rattle.jb_map.proofs.Ordered.{length-by_key}
 use Rattle.jb_map.proofs.Taken.{after, after_none, next_taken, none_taken, feed_pair}
 use Rattle.jb_map.proofs.compared.PairsHash.hash.Goals as goal

@@ -1,7 +1,7 @@
 use Rattle.std.proofs.Common.{◌≡◌, ◌<◌, IfSome, length, fold}
 use Rattle.std.specs.List.{flat_map}
 use Rattle.jb_map.specs.ByKey.{by_key, pair_input, pairs_input}
-use Rattle.jb_map.specs.NextByKey.{key_of}
+use Rattle.jb_map.specs.bridge.NextByKey.{key_of}
 use Rattle.jb_map.proofs.Taken.{after}
 use Rattle.jb_map.proofs.compared.PairsHash.hash.Given as goal
 

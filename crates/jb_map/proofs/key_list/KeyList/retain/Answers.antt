@@ -1,7 +1,7 @@
 use Rattle.std.proofs.Common.{◌≡◌, IfSome, true, length, sym, ap, subst, ◌∙◌, arith}
 use Rattle.std.specs.Str.{bytes_eq}
 use Rattle.std.specs.List.{IsDistinct, list_any}
-use Rattle.jb_map.specs.Covers.{Covers}
+use Rattle.jb_map.specs.bridge.Covers.{Covers}
 use Rattle.jb_map.specs.Retained.{Keeps}
 use Rattle.jb_map.proofs.Aligned.{covers_itself, table_covers}
 use Rattle.jb_map.proofs.Retention.{column_kept, column_distinct}

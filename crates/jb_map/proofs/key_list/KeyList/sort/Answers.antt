@@ -4,7 +4,7 @@ use Rattle.std.specs.List.{IsDistinct}
 use Rattle.std.specs.Cmp.Lexicographic.{nat_list_eq_equiv}
 use Rattle.std.proofs.lemmas.List.Sorted.{list_any-IsPermutation}
 use Rattle.indexmap.proofs.MapLemmas.{distinct_permutation}
-use Rattle.jb_map.specs.Covers.{Covers}
+use Rattle.jb_map.specs.bridge.Covers.{Covers}
 use Rattle.jb_map.proofs.Aligned.{covers_itself, covers_along, table_covers}
 use Rattle.jb_map.proofs.SortLemmas.{columns_permuted}
 use Rattle.jb_map.proofs.key_list.KeyList.sort.Goals as goal

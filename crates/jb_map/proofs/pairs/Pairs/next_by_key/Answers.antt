@@ -3,7 +3,7 @@ use Rattle.std.specs.Map.{keys_of}
 use Rattle.std.proofs.lemmas.List.{length-map}
 use Rattle.std.proofs.lemmas.List.Sums.{fold_more}
 use Rattle.std.proofs.lemmas.Option.{slice_get-get_or}
-use Rattle.jb_map.specs.NextByKey.{key_of, lesser_key}
+use Rattle.jb_map.specs.bridge.NextByKey.{key_of, lesser_key}
 use Rattle.jb_map.proofs.pairs.Pairs.next_by_key.Goals as goal
 
 pub loop-index-preserved : goal.loop-index-preserved

@@ -1,6 +1,6 @@
 use Rattle.std.proofs.Common.{◌≡◌, ◌<◌, None, IfSome, length, take, fold}
 use Rattle.std.specs.Map.{keys_of}
-use Rattle.jb_map.specs.NextByKey.{key_of, lesser_key}
+use Rattle.jb_map.specs.bridge.NextByKey.{key_of, lesser_key}
 use Rattle.jb_map.proofs.pairs.Pairs.next_by_key.Given as goal
 
 abbrev pub invariant-loop-index : goal.invariant-loop-index

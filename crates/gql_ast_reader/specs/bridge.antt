@@ -1,0 +1,11 @@
+pub mod Extending
+pub mod Fresh
+pub mod IsRead
+pub mod Items
+pub mod Kept
+pub mod Making
+pub mod Places
+pub mod Stand
+pub mod Standing
+pub mod Stands
+pub mod Taking

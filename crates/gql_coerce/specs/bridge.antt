@@ -1,0 +1,6 @@
+pub mod ByName
+pub mod Missing
+pub mod Subject
+pub mod Told
+pub mod Translation
+pub mod Wanted

@@ -1,0 +1,12 @@
+pub mod Check
+pub mod Checked
+pub mod Collected
+pub mod Grouping
+pub mod Growth
+pub mod Nested
+pub mod Plan
+pub mod RequestErrors
+pub mod Room
+pub mod View
+pub mod Walk
+pub mod Ways

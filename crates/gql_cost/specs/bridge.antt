@@ -1,0 +1,4 @@
+pub mod Costing
+pub mod Sum
+pub mod Told
+pub mod Walked

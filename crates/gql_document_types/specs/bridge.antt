@@ -1,0 +1,4 @@
+pub mod ChosenOperation
+pub mod Counted
+pub mod Expanded
+pub mod RootWalk

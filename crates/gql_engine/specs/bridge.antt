@@ -1,0 +1,14 @@
+pub mod AnswerError
+pub mod Answered
+pub mod AtHand
+pub mod Executing
+pub mod Made
+pub mod Meant
+pub mod Output
+pub mod Phases
+pub mod Program
+pub mod Reply
+pub mod Request
+pub mod Resolving
+pub mod Responding
+pub mod Task

@@ -1,0 +1,12 @@
+pub mod Asking
+pub mod Executed
+pub mod Executing
+pub mod Execution
+pub mod Looks
+pub mod Opened
+pub mod Output
+pub mod Planning
+pub mod Running
+pub mod Seen
+pub mod Trails
+pub mod Written

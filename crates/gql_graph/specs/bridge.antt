@@ -1,0 +1,9 @@
+pub mod Chains
+pub mod Cycles
+pub mod Explored
+pub mod Exploring
+pub mod Flat
+pub mod Flooding
+pub mod Graph
+pub mod Reversing
+pub mod Steps

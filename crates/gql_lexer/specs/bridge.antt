@@ -1,0 +1,5 @@
+pub mod BlockWriting
+pub mod Lex
+pub mod Lexical
+pub mod Reading
+pub mod Value

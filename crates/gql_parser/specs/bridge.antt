@@ -1,0 +1,9 @@
+pub mod Diagnosed
+pub mod DocumentAnswers
+pub mod DocumentsRead
+pub mod FieldSetsRead
+pub mod FileRead
+pub mod MixedBuilt
+pub mod Readings
+pub mod SchemaAnswers
+pub mod TypesRead

@@ -1,0 +1,4 @@
+pub mod DataMeaning
+pub mod DataShape
+pub mod Meaning
+pub mod Seen

@@ -1,0 +1,19 @@
+-- What only private clauses and proofs cite, beside `DataMeaning`.
+use Rattle.std.specs.Prelude.{Option, Some, None}
+use Rattle.jb_tree.specs.declared.value.Value.{Value}
+use Rattle.jb_tree.specs.Value.{array_items, object_members}
+use Rattle.gql_ast_base.specs.Names.{Named}
+use Rattle.gql_ast_base.specs.declared.type_ref.TypeRef.{TypeRef}
+use Rattle.gql_resolvers.specs.Resolved.{Meaning}
+use Rattle.gql_ast_base.specs.TypeParts.{item_type}
+use Rattle.gql_resolvers.specs.Data.{Data}
+use Rattle.gql_resolvers.specs.DataMeaning.{list_or_leaf, object_or_leaf, shaped}
+
+module _ (composite : Option Named) where
+  abbrev pub unfailed_at : Option TypeRef → Value → Meaning Data
+  unfailed_at (Some item) value = list_or_leaf (shaped composite item) value (array_items value)
+  unfailed_at None value = object_or_leaf composite value (object_members value)
+
+  -- the same of a value that is no failure
+  abbrev pub unfailed : TypeRef → Value → Meaning Data
+  unfailed ty value = unfailed_at (item_type ty) value

@@ -1,0 +1,3 @@
+pub mod Finds
+pub mod Shares
+pub mod Views

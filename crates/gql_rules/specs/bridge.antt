@@ -1,0 +1,6 @@
+pub mod Judged
+pub mod Operations
+pub mod UndefinedVariable
+pub mod UntypedSelections
+pub mod Uses
+pub mod Views

@@ -1,0 +1,7 @@
+pub mod ClassSteps
+pub mod Classes
+pub mod Families
+pub mod Gathering
+pub mod Keying
+pub mod Telling
+pub mod Tests

@@ -1,0 +1,4 @@
+pub mod DocumentNodes
+pub mod MissingSubselection
+pub mod Nodes
+pub mod UniqueVariable
