@@ -1,4 +1,8 @@
-"""The form of crates.txt: each crate stands in a group, and has few ways down to those below it."""
+"""The form of crates.txt: each crate stands in a group, and has few ways down to those below it; and what docs/ARCHITECTURE.md says of
+how many they are."""
+import functools
+import re
+
 from shared.sources import CRATE_LINE, ROOT, crates, stands_on
 
 # `rt ci` reads the files below a library once for each way down to them by crates.txt.
@@ -8,6 +12,7 @@ MOST_WAYS = 100_000
 def faults():
     yield from groups()
     yield from many_ways()
+    yield from measures()
 
 
 def groups():
@@ -40,3 +45,17 @@ def many_ways():
     for crate in lists:
         if ways_of(crate) > MOST_WAYS:
             yield f"crates.txt: {ways[crate]} ways lead down from {crate}, at most {MOST_WAYS}: name what it needs through fewer crates"
+
+
+def measures():
+    """The sentence on how many crates there are, how many lines lead from one to another, and how long the longest chain is."""
+    lists = {crate: [other for other in others if other in stands_on()] for crate, others in stands_on().items()}
+
+    @functools.cache
+    def chain(crate):
+        return 1 + max(map(chain, lists[crate]), default=0)
+
+    wanted = f"{len(lists)} crates, {sum(map(len, lists.values()))} lines between them, and {max(map(chain, lists))} crates in the longest chain"
+    text = " ".join((ROOT / "docs" / "ARCHITECTURE.md").read_text().split())
+    if not re.search(re.escape(wanted), text):
+        yield f"docs/ARCHITECTURE.md does not say: {wanted}"

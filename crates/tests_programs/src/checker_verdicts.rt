@@ -1,6 +1,6 @@
 //! Verdicts on responses to two requests.
 
-use crate::checker_runs::ends;
+use crate::running::{Program, ends};
 use gql_checker::{ANSWERED, REFUSED};
 use jb_print::append_string;
 use std::alloc::Global;
@@ -167,7 +167,14 @@ fn is_judged(alloc: Global, case: &Case) -> Result<bool, Fail> {
     } else {
         REFUSED
     };
-    ends(alloc, &[], input.as_str(), status, output.as_str())
+    ends(
+        alloc,
+        Program::Checker,
+        &[],
+        input.as_str(),
+        status,
+        output.as_str(),
+    )
 }
 
 #[test]

@@ -4,10 +4,9 @@ ghost use Rattle.gql_document_types.specs.Spreads.{AreAcyclic};
 
 use bytes::Bytes;
 use gql_client_schema::{FULL_QUERY, client_schema};
-use gql_engine::ExecutableDocument;
-use gql_engine::partial_execute;
-use gql_engine::{document_of_text, schema_of_text};
-use gql_engine::{Schema, Valid};
+use gql_engine::{
+    ExecutableDocument, Schema, Valid, document_of_text, partial_execute, schema_of_text,
+};
 use jb_tree::Map;
 use std::alloc::Global;
 use std::test::Fail;

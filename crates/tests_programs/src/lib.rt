@@ -6,11 +6,9 @@
 #![tactic(auto)]
 
 #[cfg(test)]
+mod checker_cases;
+#[cfg(test)]
 mod checker_contract;
-#[cfg(test)]
-mod checker_devices;
-#[cfg(test)]
-mod checker_runs;
 #[cfg(test)]
 mod checker_verdicts;
 #[cfg(test)]
@@ -24,17 +22,15 @@ mod client_schema_refused;
 #[cfg(test)]
 mod client_schema_round_trips;
 #[cfg(test)]
-mod cost_devices;
+mod cost_cases;
 #[cfg(test)]
-mod cost_doubled;
+mod devices;
 #[cfg(test)]
-mod cost_runs;
+mod doubled;
 #[cfg(test)]
-mod gateway_doubled;
+mod gateway_cases;
 #[cfg(test)]
 mod gateway_remotes;
-#[cfg(test)]
-mod gateway_runs;
 #[cfg(test)]
 mod gateway_scripted;
 #[cfg(test)]
@@ -43,3 +39,5 @@ mod rounds_cases;
 mod rounds_faults;
 #[cfg(test)]
 mod rounds_requests;
+#[cfg(test)]
+mod running;

@@ -1,26 +1,8 @@
-//! Runs of the program on a source and a sink that move a byte a call.
+//! What is answered within a cost, and what is refused for it.
 
-use bytes::Bytes;
-use gql_cost::{ANSWERED, MISUSED, REFUSED, run_cost};
-use jb_io::{MemorySink, MemorySource};
-use jb_text::{Listed, Memory};
-use std::alloc::Global;
+use crate::running::{Case, Program, is_as_said};
+use gql_cost::{ANSWERED, MISUSED, REFUSED};
 use std::test::Fail;
-
-/// What the program is asked, and what it ends with and writes where no device fails.
-pub(crate) struct Case {
-    pub(crate) words: &'static [&'static str],
-    pub(crate) input: &'static str,
-    pub(crate) status: u8,
-    pub(crate) output: &'static str,
-}
-
-/// The call of each device that fails, if one does.
-#[derive(Clone, Copy)]
-pub(crate) struct Failing {
-    pub(crate) read: Option<u64>,
-    pub(crate) write: Option<u64>,
-}
 
 /// An object with two fields: one node for the data, one for the object, and one for each field.
 const OBJECT: &str =
@@ -161,55 +143,14 @@ const CASES: [Case; 16] = [
     },
 ];
 
-/// More bytes than any run here writes.
-const ROOM: usize = 256;
-
-/// The status of a run over these words and this input, and what it wrote.
-pub(crate) fn ran(
-    alloc: Global,
-    words: &[&str],
-    input: &str,
-    failing: Failing,
-) -> Result<(u8, Bytes), Fail> {
-    let words = words_of(alloc, words)?;
-    let input = Bytes::copy_from_slice(alloc, input.as_bytes())?;
-    let mut source = MemorySource::new(input, 1, listed(alloc, failing.read)?);
-    let mut sink = MemorySink::new(alloc, ROOM, 1, listed(alloc, failing.write)?)?;
-    let status = run_cost(alloc, words.as_slice(), &mut source, &mut sink);
-    Ok((status, Bytes::copy_from_slice(alloc, sink.written())?))
-}
-
-fn words_of(alloc: Global, words: &[&str]) -> Result<Vec<String>, Memory> {
-    let mut all = Vec::new(alloc);
-    for word in words {
-        all.push(String::from_str(alloc, word)?)?;
-    }
-    Ok(all)
-}
-
-/// The numbers of the calls that fail.
-fn listed(alloc: Global, call: Option<u64>) -> Result<Listed<u64>, Memory> {
-    let mut calls = Listed::new(alloc);
-    if let Some(call) = call {
-        calls.push(call)?;
-    }
-    Ok(calls)
-}
-
-/// Whether a run where no device fails ends as the case says and writes just its output.
-fn is_as_said(alloc: Global, case: &Case) -> Result<bool, Fail> {
-    let none = Failing {
-        read: None,
-        write: None,
-    };
-    let (status, written) = ran(alloc, case.words, case.input, none)?;
-    Ok(status == case.status && written.as_slice() == case.output.as_bytes())
-}
-
 #[test]
 fn requests_are_answered_up_to_their_cost(rt: HostRuntime) -> Result<(), Fail> {
     for case in &CASES {
-        assert!(rt; is_as_said(rt.alloc(), case)?, "{}", case.input);
+        assert!(rt;
+            is_as_said(rt.alloc(), Program::Cost, case)?,
+            "{}",
+            case.input
+        );
     }
     Ok(())
 }

@@ -1,19 +1,8 @@
-//! Runs of the program on a source and a sink that move a byte a call.
+//! What a gateway answers from both places.
 
-use bytes::Bytes;
-use gql_gateway::{ANSWERED, MISUSED, REFUSED, run_gateway};
-use jb_io::{MemorySink, MemorySource};
-use jb_text::{Listed, Memory};
-use std::alloc::Global;
+use crate::running::{Case, Program, is_as_said};
+use gql_gateway::{ANSWERED, MISUSED, REFUSED};
 use std::test::Fail;
-
-/// What the program is asked, and what it ends with and writes.
-struct Case {
-    words: &'static [&'static str],
-    input: &'static str,
-    status: u8,
-    output: &'static str,
-}
 
 /// Introspection beside a field of the data, whatever the request says of introspection.
 const BOTH: &str =
@@ -122,37 +111,14 @@ const CASES: [Case; 9] = [
     },
 ];
 
-/// More bytes than any run here writes.
-const ROOM: usize = 512;
-
-/// The status of a run over these words and this input, and what it wrote.
-pub(crate) fn ran(alloc: Global, words: &[&str], input: &str) -> Result<(u8, Bytes), Fail> {
-    let words = words_of(alloc, words)?;
-    let input = Bytes::copy_from_slice(alloc, input.as_bytes())?;
-    let mut source = MemorySource::new(input, 1, Listed::new(alloc));
-    let mut sink = MemorySink::new(alloc, ROOM, 1, Listed::new(alloc))?;
-    let status = run_gateway(alloc, words.as_slice(), &mut source, &mut sink);
-    Ok((status, Bytes::copy_from_slice(alloc, sink.written())?))
-}
-
-fn words_of(alloc: Global, words: &[&str]) -> Result<Vec<String>, Memory> {
-    let mut all = Vec::new(alloc);
-    for word in words {
-        all.push(String::from_str(alloc, word)?)?;
-    }
-    Ok(all)
-}
-
-/// Whether a run ends as the case says and writes just its output.
-fn is_as_said(alloc: Global, case: &Case) -> Result<bool, Fail> {
-    let (status, written) = ran(alloc, case.words, case.input)?;
-    Ok(status == case.status && written.as_slice() == case.output.as_bytes())
-}
-
 #[test]
 fn requests_are_answered_from_both_places(rt: HostRuntime) -> Result<(), Fail> {
     for case in &CASES {
-        assert!(rt; is_as_said(rt.alloc(), case)?, "{}", case.input);
+        assert!(rt;
+            is_as_said(rt.alloc(), Program::Gateway, case)?,
+            "{}",
+            case.input
+        );
     }
     Ok(())
 }
