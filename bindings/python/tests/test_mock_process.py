@@ -71,7 +71,7 @@ class Process(unittest.TestCase):
             server, address = started(folder, "wrong.graphql")
             _told, log = server.communicate(timeout=PATIENCE)
             self.assertEqual((address, server.returncode), ("", 1))
-            self.assertTrue(log.startswith("wrong.graphql:1:17:") or log.startswith("wrong.graphql:"), log)
+            self.assertTrue(log.startswith("wrong.graphql:1:17: "), log)
 
 
 if __name__ == "__main__":
