@@ -33,7 +33,7 @@ use Rattle.gql_engine.proofs.Computed.{tokens_computed, trees_computed}
 use Rattle.gql_parser.proofs.SchemaKept.{validated-kept}
 use Rattle.gql_engine.proofs.Leaves.{AreLeaves, leaf_called, validated_leaves}
 use Rattle.gql_engine.proofs.Query.{SoundLaw}
-use Rattle.gql_engine.proofs.Schema as text
+use Rattle.gql_engine.proofs.SelfTestSchema as text
 
 -- ---- the names of the fields' types
 

@@ -1,6 +1,6 @@
 mod Computed
 mod Query
-mod Schema
+mod SelfTestSchema
 mod BuiltIn
 mod Leaves
 mod Facts

@@ -16,7 +16,7 @@ use Rattle.gql_exec.specs.Executed.{IsEnough}
 use Rattle.gql_exec.specs.bridge.Executed.{IsMade, MakesBelow, Executes, ExecutesGroups}
 use Rattle.gql_exec.proofs.Completing.{made-as}
 use Rattle.gql_exec.proofs.Keys.{AreNew, new-begun, new-more, new-less}
-use Rattle.gql_exec.proofs.Steps.{IsOnWay, begun, goes_on, stops, ends}
+use Rattle.gql_exec.proofs.ExecutionSteps.{IsOnWay, begun, goes_on, stops, ends}
 
 keyed-made : (k : List ℕ) (found : Option (List Value)) (before after : List GraphQLError) (made : Made Value) → IsMade found before after made
     → IsMade (option_map (λ vs. keyed k vs) found) before after (with_key k made)

@@ -14,7 +14,7 @@ use Rattle.gql_exec.specs.Group.{Group}
 use Rattle.gql_exec.specs.Executed.{IsEnough}
 use Rattle.gql_exec.specs.bridge.Executed.{MakesBelow}
 use Rattle.gql_exec.proofs.Completing.{made-as, array-some, array-none}
-use Rattle.gql_exec.proofs.Steps.{IsOnWay, begun, goes_on, stops, ends}
+use Rattle.gql_exec.proofs.ExecutionSteps.{IsOnWay, begun, goes_on, stops, ends}
 
 module _ {X : Type 0} (w : World X ObjectType Group (List (List Selection))) (list : Spot Group) where
   abbrev pub item_made : Below w → ℕ → Meaning X → Made Value

@@ -17,7 +17,7 @@ pub mod Objects
 pub mod Opening
 pub mod Places
 pub mod Planned
-pub mod Steps
+pub mod ExecutionSteps
 pub mod Values
 pub mod Views
 pub mod Ways

@@ -407,6 +407,7 @@ execute_parts-add_member-requires g t c =
       key-free (world_of c.args.self.now g.O.ObjectValue.type_of g.O.ObjectValue.resolves) so_far.0 (views (drop i groups)) (views (drop (i + 1) groups)) (group_of (group_in part)) c.key-key.result.now.text at.first so_far.2.new
           (ap (λ (n : Named). n.text) c.key-key.ensures),
     )
+
 pub execute_parts-drop_member-requires : goal.execute_parts-drop_member-requires
 execute_parts-drop_member-requires g t c =
     let made = c.in_ok-value.ensures.made in
@@ -415,6 +416,7 @@ execute_parts-drop_member-requires g t c =
     let left_out = left-written g.M.Output.is_made c.begin_member.new.self c.execute_field.new.out c.in_ok-value.field-0 made.found made.are c.in-LeftOut.is in
     let keyed = c.in_ok-begin_member.ensures c.args.out.now so_far.0 so_far.1 in
     (c.args.out.now, so_far.0, key, subst (λ o. g.M.Output.is_keyed c.args.out.now o c.begin_member.new.members so_far.0 key) (sym left_out.0) keyed)
+
 pub execute_parts-drop_object-requires : goal.execute_parts-drop_object-requires
 execute_parts-drop_object-requires g t c =
     let made = c.in_ok-value.ensures.made in
@@ -423,6 +425,7 @@ execute_parts-drop_object-requires g t c =
     let null = null-written g.M.Output.is_made c.begin_member.new.self c.execute_field.new.out c.in_ok-value.field-0 made.found made.are c.in-NullPasses.is in
     let keyed = c.in_ok-begin_member.ensures c.args.out.now so_far.0 so_far.1 in
     (c.args.out.now, so_far.0, key, subst (λ o. g.M.Output.is_keyed c.args.out.now o c.begin_member.new.members so_far.0 key) (sym null.0) keyed)
+
 pub execute_parts-returns-in-NullPasses : goal.execute_parts-returns-in-NullPasses
 execute_parts-returns-in-NullPasses g t c =
     let groups = groups_in c.args.parts.now in
@@ -446,6 +449,7 @@ execute_parts-returns-in-NullPasses g t c =
       planned = part-with (ground_in c.args.self.now) c.loop-number.parts i part c.execute_field.new.nodes c.loop-number.invariant.planned c.in_ok-value.ensures.planned;
       grows = grown-part c.args.self.now c.args.steps.now c.loop-number.steps c.execute_field.new.steps (request_of c.args.self.now g.O.ObjectValue.type_of g.O.ObjectValue.resolves) c.args.object_type.now (g.O.ObjectValue.seen c.args.object.now) groups i (views (drop (i + 1) groups)) c.args.parts.now c.loop-number.parts part c.execute_field.new.nodes at.first is c.loop-number.invariant.grows c.in_ok-value.ensures.grows;
     }
+
 pub execute_parts-loop-number-preserved : goal.execute_parts-loop-number-preserved
 execute_parts-loop-number-preserved g t c =
     let w = world_of c.args.self.now g.O.ObjectValue.type_of g.O.ObjectValue.resolves in
