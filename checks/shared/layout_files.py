@@ -5,7 +5,7 @@ from shared.sources import code_of, crates, files_of, shown
 
 MOST_LINES = 400
 # The prover reads the answers of functions that call one another from one file.
-MOST_LINES_OF_A_CYCLE = 500
+MOST_LINES_OF_A_CYCLE = 510
 MOST_BYTES_A_LINE = 160
 
 
