@@ -12,8 +12,11 @@
  *     gql_free(&reply);
  *
  * The caller's duties, which nothing checks:
- *   - no handle is a null pointer; bytes may be null where their length is 0, and lengths are true;
- *   - no two handles of one call are the same, and no call uses a handle while another call does;
+ *   - no handle is a null pointer, nor is `kind`, `cost` or `limit`; bytes, and `into`, may be null where their length is 0, and
+ *     lengths are true;
+ *   - a handle is empty (GQL_EMPTY) before its first use;
+ *   - no two handles of one call are the same, and no call uses a handle while another call does; what a call writes (its handles, `kind`,
+ *     `cost`, `into`) overlaps none of its other arguments;
  *   - a handle may be moved but not copied: of two copies only one is used from then on. To have a value twice, use gql_share;
  *   - no call comes from a signal handler, nor from the forked child of a process with threads;
  *   - a thread that calls has 2 MB of stack (texts nested at their limits take that; threads of musl and of macOS have less unless told).
@@ -24,7 +27,7 @@
  *
  * Resolvers of the caller's own go by steps. The caller keeps its objects and gives each a number; 0 is the one that an operation begins
  * at. gql_step tells all at once what is asked of them beyond the answers so far, so that a caller may resolve it together, and the
- * response once nothing is asked. There are no more rounds than selection sets are nested:
+ * response once nothing is asked. Where all that is asked is answered, there are no more rounds than selection sets are nested:
  *
  *     gql_handle answers = GQL_EMPTY;
  *     while ((status = gql_step(&query, &answers, NULL, 0, NULL, 0, 0, &reply)) == GQL_ASKS) {
@@ -32,6 +35,14 @@
  *         status = gql_answers_add(&answers, text, strlen(text));
  *     }
  *     gql_free(&answers);
+ *
+ * A number stands for an object of one type. Where answers tell one number with two types, a field that both types have is asked once, of
+ * the type that comes first, and its answer counts for both.
+ *
+ * The root fields of a mutation are executed one after another (GraphQL October 2021, section 6.2.2), and the caller sees to that. They
+ * are the asks of object 0, and come first in a list, in their order. Answer one of them alone; then all that is asked of other objects,
+ * step by step; and the next one only when nothing else is asked. What an object has may be changed by that: an object that comes after
+ * it has a new number.
  */
 #ifndef GQL_H
 #define GQL_H
@@ -103,7 +114,8 @@ uint32_t gql_execute(gql_handle *query, gql_handle *data, const uint8_t *name, s
  *
  *     {"object":7,"type":"Book","field":"author","arguments":{"first":2}}
  *
- * Answer all of it by gql_answers_add, and step again with the same query, name, variables and flags. ANSWERED: `reply` has the response.
+ * Answer all of it by gql_answers_add (of a mutation, in order: see above), and step again with the same query, name, variables and flags.
+ * ANSWERED: `reply` has the response.
  * REFUSED and UNREAD as gql_execute, at the first step whatever was answered. WRONG_HANDLE also where `answers` holds something else. */
 uint32_t gql_step(gql_handle *query, gql_handle *answers, const uint8_t *name, size_t name_length, const uint8_t *variables,
                   size_t variables_length, uint32_t flags, gql_handle *reply);
@@ -130,8 +142,8 @@ uint32_t gql_operation_kind(gql_handle *query, const uint8_t *name, size_t name_
 uint32_t gql_operation_cost(gql_handle *query, const uint8_t *name, size_t name_length, uint32_t flags, const gql_limit *limit,
                             uint32_t *cost, gql_handle *reply);
 
-/* What is wrong with the texts of a schema and of a query, for people. ANSWERED: nothing, and `reply` is empty. REFUSED: `reply` has
- * the reports of the first text that something is wrong with, a line for each place: `schema.graphql:2:9: here`. */
+/* What is wrong with the texts of a schema and of a query, for people. ANSWERED: nothing, and `reply` has a reply of no bytes. REFUSED:
+ * `reply` has the reports of the first text that something is wrong with, a line for each place: `schema.graphql:2:9: here`. */
 uint32_t gql_check(const uint8_t *schema, size_t schema_length, const uint8_t *query, size_t query_length, gql_handle *reply);
 
 /* Has `to` hold the same value as `from`: a schema, a query or data. WRONG_HANDLE for a reply and for answers. */

@@ -108,7 +108,7 @@ static void costs(void) {
 }
 
 static void checks(void) {
-    CHECK(gql_check(TEXT(BOOKS), TEXT(BOOK_QUERY), &reply) == GQL_ANSWERED && gql_reply_length(&reply) == 0);
+    CHECK(gql_check(TEXT(BOOKS), TEXT(BOOK_QUERY), &reply) == GQL_ANSWERED && !is_empty(&reply) && gql_reply_length(&reply) == 0);
     CHECK(gql_check(TEXT("type Query { a: Missing }"), TEXT("{ a }"), &reply) == GQL_REFUSED);
     CHECK(says(&reply, "Error: cannot find type `Missing` in this document\nschema.graphql:1:17: here\n"));
     CHECK(gql_check(TEXT(BOOKS), TEXT("{ nope }"), &reply) == GQL_REFUSED);

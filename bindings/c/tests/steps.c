@@ -89,6 +89,24 @@ static void introspection(void) {
     gql_free(&types);
 }
 
+/* The root fields of a mutation are asked first, in their order. A number of two types is asked as one of the first. */
+static void order(void) {
+    gql_handle pair = GQL_EMPTY, change = GQL_EMPTY, told = GQL_EMPTY;
+    CHECK(gql_schema_new(TEXT("type Query { a: A b: B } type Mutation { a: A b: B } type A { x: Int } type B { x: Int }"), &pair, &reply) == GQL_ANSWERED);
+    CHECK(gql_query_new(&pair, TEXT("mutation { a { x } b { x } }"), &change, &reply) == GQL_ANSWERED);
+    CHECK(gql_answers_add(&told, TEXT("[{\"object\":0,\"field\":\"a\",\"value\":{\"object\":1,\"type\":\"A\"}}]")) == GQL_ANSWERED);
+    CHECK(gql_step(&change, &told, NOTHING, NOTHING, 0, &reply) == GQL_ASKS);
+    CHECK(says(&reply, "[{\"object\":0,\"type\":\"Mutation\",\"field\":\"b\",\"arguments\":{}},{\"object\":1,\"type\":\"A\",\"field\":\"x\",\"arguments\":{}}]"));
+    CHECK(gql_answers_add(&told, TEXT("[{\"object\":0,\"field\":\"b\",\"value\":{\"object\":1,\"type\":\"B\"}}]")) == GQL_ANSWERED);
+    CHECK(gql_step(&change, &told, NOTHING, NOTHING, 0, &reply) == GQL_ASKS);
+    CHECK(says(&reply, "[{\"object\":1,\"type\":\"A\",\"field\":\"x\",\"arguments\":{}}]"));
+    CHECK(gql_answers_add(&told, TEXT("[{\"object\":1,\"field\":\"x\",\"value\":7}]")) == GQL_ANSWERED);
+    CHECK(gql_step(&change, &told, NOTHING, NOTHING, 0, &reply) == GQL_ANSWERED && says(&reply, "{\"data\":{\"a\":{\"x\":7},\"b\":{\"x\":7}}}"));
+    gql_free(&pair);
+    gql_free(&change);
+    gql_free(&told);
+}
+
 int main(void) {
     CHECK(gql_schema_new(TEXT(LIBRARY), &schema, &reply) == GQL_ANSWERED);
     CHECK(gql_query_new(&schema, TEXT(AUTHORS), &query, &reply) == GQL_ANSWERED);
@@ -96,6 +114,7 @@ int main(void) {
     answers_told();
     refusals();
     introspection();
+    order();
     gql_free(&schema);
     gql_free(&query);
     gql_free(&answers);

@@ -1,5 +1,6 @@
--- The selections at the root of an operation, inside its fragments too, each fragment at its first spread: as fields are
--- collected by section 6.3.2 of GraphQL October 2021, directives aside.
+-- The selections at the root of an operation, inside its fragments too, each fragment at its first spread, directives aside. A
+-- fragment is entered wherever its condition is a type that is defined; section 6.3.2 of GraphQL October 2021 enters those alone
+-- that apply to the root type.
 use Rattle.std.specs.Prelude.{ℕ, zero, suc, ◌+◌, Bool, List, [], ◌∷◌, ◌++◌, map, is_some, if◌then◌else◌}
 use Rattle.std.specs.Option.{option_map_or}
 use Rattle.gql_ast_base.specs.Names.{Named}

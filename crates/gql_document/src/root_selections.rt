@@ -14,7 +14,8 @@ use jb_text::{Listed, Memory};
 use std::alloc::{AllocError, Global};
 
 /// These selections and those inside their fragments, in order. Each fragment is entered at its first spread; one whose
-/// condition is not defined is not (GraphQL October 2021, section 6.3.2). `Err` only when out of memory.
+/// condition is not defined is not. GraphQL October 2021, section 6.3.2, enters those alone that apply to the root type. `Err`
+/// only when out of memory.
 pub(crate) fn root_selections<'d>(
     alloc: Global,
     schema: &'d Schema,
