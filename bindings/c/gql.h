@@ -19,14 +19,14 @@
  *     `cost`, `into`) overlaps none of its other arguments;
  *   - a handle may be moved but not copied: of two copies only one is used from then on. To have a value twice, use gql_share;
  *   - no call comes from a signal handler, nor from the forked child of a process with threads;
- *   - a thread that calls has 2 MB of stack (texts nested at their limits take that; threads of musl and of macOS have less unless told).
+ *   - a thread that calls has 2 MB of stack (texts nested at their limits take that; threads of musl and of macOS have less by default).
  *
  * Threads: a handle may go from one thread to another, whatever it holds. The caller orders that by a lock, by the start or the join of a
  * thread, or by a sequentially consistent atomic. To use one value in several threads at once, each has a handle of its own by gql_share,
  * which copies nothing: no call changes a schema, a query or data.
  *
  * Resolvers of the caller's own go by steps. The caller keeps its objects and gives each a number; 0 is the one that an operation begins
- * at. gql_step tells all at once what is asked of them beyond the answers so far, so that a caller may resolve it together, and the
+ * at. gql_step lists at once all that is asked of them beyond the answers so far, so that a caller may resolve it together, and the
  * response once nothing is asked. Where all that is asked is answered, there are no more rounds than selection sets are nested:
  *
  *     gql_handle answers = GQL_EMPTY;
@@ -36,7 +36,7 @@
  *     }
  *     gql_free(&answers);
  *
- * A number stands for an object of one type. Where answers tell one number with two types, a field that both types have is asked once, of
+ * A number stands for an object of one type. Where answers give one number two types, a field that both types have is asked once, of
  * the type that comes first, and its answer counts for both.
  *
  * The root fields of a mutation are executed one after another (GraphQL October 2021, section 6.2.2), and the caller sees to that. They
@@ -60,15 +60,15 @@ typedef struct gql_handle {
 
 #define GQL_EMPTY { 0 }
 
-/* What a call tells. The first three mean what the exit statuses of the program mean, and have their numbers. */
+/* What a call returns. The first three mean what the exit statuses of the program mean, and have their numbers. */
 enum gql_status {
     GQL_ANSWERED = 0,     /* The call did what it says. */
-    GQL_REFUSED = 1,      /* The text or the request is refused: the reply tells why. */
+    GQL_REFUSED = 1,      /* The text or the request is refused: the reply says why. */
     GQL_NO_MEMORY = 3,    /* Memory ran out. */
     GQL_WRONG_HANDLE = 8, /* A handle holds nothing, or another kind of value than the call takes. */
-    GQL_UNREAD = 9,       /* Bytes are no UTF-8, or, as data, no JSON text of an object, or tell no answers. */
+    GQL_UNREAD = 9,       /* Bytes are no UTF-8, or, as data, no JSON text of an object, or no list of answers. */
     GQL_TOO_COSTLY = 10,  /* An operation costs more than the limit: the reply says so. */
-    GQL_ASKS = 11         /* A step of a request asks: the reply tells what. */
+    GQL_ASKS = 11         /* A step of a request asks: the reply says what. */
 };
 
 /* Bits of `flags`. */
@@ -87,7 +87,7 @@ typedef struct gql_limit {
 /* Kinds of operations. */
 enum gql_kind { GQL_NO_OPERATION = 0, GQL_QUERY = 1, GQL_MUTATION = 2, GQL_SUBSCRIPTION = 3 };
 
-/* Every call that makes something leaves the handle for it, and the reply, empty where it tells another status than it says below.
+/* Every call that makes something leaves the handle for it, and the reply, empty where it returns another status than it says below.
  * Handles that a call only uses hold afterwards what they held before. */
 
 /* Reads and checks the text of a schema (UTF-8, nested at most 500 deep), into `schema`. REFUSED: `reply` has a JSON object with
@@ -127,8 +127,8 @@ uint32_t gql_step(gql_handle *query, gql_handle *answers, const uint8_t *name, s
  *
  * Arguments may be left out where there are none, and are else those that were asked, in their order; other members are not looked at. A
  * value is JSON. At an object, an interface or a union type `{"object":8,"type":"Author"}` is the caller's object 8; at a list an array is
- * a list of such values; {"__error":"text"} is a failure of the field. Of two answers to one ask the first stays. UNREAD: the text tells no
- * answers; then, and where it tells WRONG_HANDLE, `answers` holds what it held. NO_MEMORY: some of the answers may have been added; the
+ * a list of such values; {"__error":"text"} is a failure of the field. Of two answers to one ask the first stays. UNREAD: the text is no list
+ * of answers; then, and where it returns WRONG_HANDLE, `answers` holds what it held. NO_MEMORY: some of the answers may have been added; the
  * same text may be added again. */
 uint32_t gql_answers_add(gql_handle *answers, const uint8_t *text, size_t length);
 
