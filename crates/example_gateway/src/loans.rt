@@ -28,6 +28,9 @@ impl Remote for Loans {
     // Each fault is counted, so that a gateway can tell it from any other refusal.
     ghost faults = { λ loans. loans.failures };
 
+    // It is asked as often as it fails.
+    ghost asked = { λ loans. loans.failures };
+
     // Nothing is known of what a service far away answers.
     ghost tells = { λ loans schema document operation variables response. Unit {0} };
 

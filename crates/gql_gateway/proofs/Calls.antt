@@ -3,19 +3,21 @@ use Rattle.std.proofs.Common.{◌≡◌, ℕ, List, Result, Ok, Err, IfOk, IfErr
 use Rattle.jb_text.specs.declared.refused.Refused.{Refused}
 use Rattle.jb_text.specs.declared.refused.Refused.TheVariants as refused
 use Rattle.gql_ast_base.specs.Names.{Named}
+use Rattle.gql_document_types.specs.declared.document.ExecutableDocument.{ExecutableDocument}
+use Rattle.gql_document_types.specs.declared.operation.Operation.{Operation}
 use Rattle.gql_engine.specs.AnswerError.{Asks, Call, HasCause, IsObjectText, wanted_with}
 use Rattle.gql_engine.specs.Ready.{Ready}
 use Rattle.gql_engine.specs.Responding.{HasCauseOf}
 use Rattle.gql_engine.specs.Wanted.{Members, Wanted}
 use Rattle.gql_engine.specs.declared.answer_error.AnswerError.{AnswerError}
 use Rattle.gql_engine.specs.declared.answer_error.AnswerError.TheVariants as error
-use Rattle.gql_gateway.specs.Divided.{DividesTo, IsBeforeRemote}
+use Rattle.gql_gateway.specs.Divided.{DividesTo, IsBeforeRemote, LeavesNothing}
 use Rattle.gql_gateway.specs.Remote.{Telling}
 use Rattle.gql_gateway.specs.declared.dividing.DivideFault.{DivideFault}
 use Rattle.gql_gateway.specs.declared.dividing.DivideFault.TheVariants as fault
 use Rattle.gql_gateway.specs.Causes.{CauseBy, HasGatewayCause, HasLocalCause, IsBeforeAsking}
 use Rattle.gql_gateway.specs.bridge.Causes.{HasGatewayCauseOf, JoinsOrCause}
-use Rattle.gql_gateway.specs.Gateway.{Fits, IsJoinedBy, IsTooLarge, LacksKey}
+use Rattle.gql_gateway.specs.Gateway.{AsksNobody, Fits, IsJoinedBy, IsTooLarge, LacksKey}
 use Rattle.gql_gateway.specs.Told.{of_answer}
 use Rattle.gql_gateway.specs.bridge.Told.{of_division}
 use Rattle.gql_gateway.specs.declared.gateway_error.GatewayError.{GatewayError}
@@ -58,6 +60,15 @@ before-parts refused.Memory before = absurd before
 
 pub division-unasked : (why : Refused DivideFault) (told : GatewayError) → told ≡ of_division why → IsBeforeAsking told → IsBeforeRemote why
 division-unasked why told is before = before-parts why (subst IsBeforeAsking is before)
+
+-- where nothing is left for the other place of what is wanted, nothing is left of an operation that is ready for it
+pub nobody-left : ((wanted : Wanted) (one other : Ready wanted) → one.meant.document ≡ other.meant.document)
+    → ((wanted : Wanted) (one other : Ready wanted) → one.operation ≡ other.operation) → (wanted : Wanted) (ready : Ready wanted) → AsksNobody wanted
+    → LeavesNothing ready.meant.document ready.operation
+nobody-left one-document one-operation wanted ready nobody =
+    let its = nobody.ready in
+    subst (λ (d : ExecutableDocument). LeavesNothing d ready.operation) (one-document wanted its ready)
+    (subst (λ (o : Operation). LeavesNothing its.meant.document o) (one-operation wanted its ready) nobody.leaves)
 
 -- ---- a call
 

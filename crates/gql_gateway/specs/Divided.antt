@@ -85,3 +85,7 @@ DividesTo tells Failed schema document operation variables (Err refused.Memory) 
 abbrev pub IsBeforeRemote : Refused DivideFault → Type 0
 IsBeforeRemote (refused.Fault TooLarge) = Unit {0}
 IsBeforeRemote refusal = ⊥
+
+-- nothing is left for the other place: each field at the root asks for the schema
+abbrev pub LeavesNothing : ExecutableDocument → Operation → Type 0
+LeavesNothing document operation = concrete (expanded document.fragments operation.selection_set.selections) ≡ []

@@ -7,7 +7,7 @@ use Rattle.gql_engine.specs.Answered.{Answered}
 use Rattle.gql_exec.specs.ThingMeaning.{Resolving}
 use Rattle.gql_engine.specs.Ready.{Ready}
 use Rattle.gql_engine.specs.Wanted.{Members, Wanted}
-use Rattle.gql_gateway.specs.Divided.{Divides, IsLarge, IsWithin}
+use Rattle.gql_gateway.specs.Divided.{Divides, IsLarge, IsWithin, LeavesNothing}
 use Rattle.gql_gateway.specs.Remote.{Telling}
 use Rattle.gql_response.specs.Response.{response_value}
 use Rattle.gql_response.specs.declared.execution_response.ExecutionResponse.{ExecutionResponse}
@@ -34,6 +34,11 @@ pub record Fits (wanted : Wanted) : Type 0 where
 pub record IsTooLarge (wanted : Wanted) : Type 0 where
   pub ready : Ready wanted
   pub large : IsLarge ready.meant.document ready.operation
+
+-- nothing is in the way of a division, its size aside, and nothing is left for the other place
+pub record AsksNobody (wanted : Wanted) : Type 0 where
+  pub ready : Ready wanted
+  pub leaves : LeavesNothing ready.meant.document ready.operation
 
 -- a response that was written has data
 abbrev pub HasData : {X : Type 0} {type_of : X → List ℕ} {resolves : Resolving X} {root : X} {wanted : Wanted} {bytes : List ℕ}

@@ -1,12 +1,12 @@
 //! Requests answered by a gateway.
 
-ghost use Rattle.std.specs.Prelude.{◌≡◌, ◌<◌, ◌≤◌, true, IfErr, IfOk};
+ghost use Rattle.std.specs.Prelude.{◌≡◌, ◌<◌, ◌≤◌, true, IfErr, IfOk, suc};
 ghost use Rattle.gql_engine.specs.AnswerError.{Asks, call_of, wanted_with};
 ghost use Rattle.gql_engine.specs.Service.{asked_of};
 ghost use Rattle.gql_gateway.specs.Answering.{GivesJoined};
 ghost use Rattle.gql_gateway.specs.Causes.{HasGatewayCause, IsBeforeAsking};
 ghost use Rattle.gql_gateway.specs.bridge.Causes.{JoinsOrCause};
-ghost use Rattle.gql_gateway.specs.Gateway.{IsJoinedBy};
+ghost use Rattle.gql_gateway.specs.Gateway.{AsksNobody, IsJoinedBy};
 ghost use Rattle.jb_io.specs.Stream.{HasFailed};
 
 use crate::Remote;
@@ -54,6 +54,10 @@ pub fn gateway_answer<R: Remote>(
 
     // Where the request is refused before that, the remote is not asked.
     ensures unasked { IfErr result (λ refusal. IsBeforeAsking refusal → remote.new ≡ remote.old) }
+
+    // It is asked once at most, and not where nothing is left for it.
+    ensures once { R.asked remote.new ≤ suc (R.asked remote.old) }
+    ensures left { Asks (call_of schema.now query.now operation_name.entry variables.now true) AsksNobody → remote.new ≡ remote.old }
 {
     let question = Question {
         query,
@@ -86,6 +90,8 @@ fn answer_alone<R: Remote, L: Ledger>(
         (asked_of call.now.schema.now call.now.question) result }
     ensures later { R.faults remote.old ≤ R.faults remote.new }
     ensures unasked { IfErr result (λ refusal. IsBeforeAsking refusal → remote.new ≡ remote.old) }
+    ensures once { R.asked remote.new ≤ suc (R.asked remote.old) }
+    ensures left { Asks (asked_of call.now.schema.now call.now.question) AsksNobody → remote.new ≡ remote.old }
 {
     engine_laws::causes_exclude_one_another();
     engine_laws::readiness_is_one();
@@ -105,8 +111,11 @@ fn answer_question<R: Remote, L: Ledger>(
         (asked_of call.now.schema.now call.now.question)) }
     ensures later { R.faults remote.old ≤ R.faults remote.new }
     ensures unasked { IfErr result (λ refusal. IsBeforeAsking refusal → remote.new ≡ remote.old) }
+    ensures once { R.asked remote.new ≤ suc (R.asked remote.old) }
+    ensures left { Asks (asked_of call.now.schema.now call.now.question) AsksNobody → remote.new ≡ remote.old }
 {
     engine_laws::causes_exclude_one_another();
+    engine_laws::readiness_is_one();
     match read_variables(alloc, call.question.variables) {
         Ok(variables) => answer_wanted(alloc, call, &variables, remote, steps),
         Err(refusal) => Err(GatewayError::from(refusal)),
@@ -125,6 +134,8 @@ fn answer_wanted<R: Remote, L: Ledger>(
         (wanted_with (asked_of call.now.schema.now call.now.question) variables.now) result }
     ensures later { R.faults remote.old ≤ R.faults remote.new }
     ensures unasked { IfErr result (λ refusal. IsBeforeAsking refusal → remote.new ≡ remote.old) }
+    ensures once { R.asked remote.new ≤ suc (R.asked remote.old) }
+    ensures left { AsksNobody (wanted_with (asked_of call.now.schema.now call.now.question) variables.now) → remote.new ≡ remote.old }
 {
     let wanted = Wanted {
         operation_name: call.question.operation_name,

@@ -1,10 +1,10 @@
 //! An operation that is divided between here and a remote.
 
-ghost use Rattle.std.specs.Prelude.{◌≡◌, ◌≢◌, ◌≤◌, [], None, IfErr, IfOk};
+ghost use Rattle.std.specs.Prelude.{◌≡◌, ◌≢◌, ◌≤◌, [], None, IfErr, IfOk, suc};
 ghost use Rattle.gql_document_types.specs.Spreadless.{HasNoSpread};
 ghost use Rattle.gql_document_types.specs.Spreads.{AreAcyclic};
 ghost use Rattle.gql_gateway.specs.Concrete.{concrete, concrete_operation};
-ghost use Rattle.gql_gateway.specs.Divided.{DividesTo, IsBeforeRemote, IsOfHere};
+ghost use Rattle.gql_gateway.specs.Divided.{DividesTo, IsBeforeRemote, IsOfHere, LeavesNothing};
 ghost use Rattle.gql_gateway.specs.bridge.Divided.{AsksFor, JoinsTo};
 ghost use Rattle.gql_schema_types.specs.Schemas.{object_of};
 ghost use Rattle.jb_io.specs.Stream.{HasFailed};
@@ -74,6 +74,10 @@ pub fn divide<R: Remote, L: Ledger>(
         division.now.schema.now division.now.document.now division.now.operation.now division.now.variables.now result }
     ensures later { R.faults remote.old ≤ R.faults remote.new }
     ensures unasked { IfErr result (λ refused. IsBeforeRemote refused → remote.new ≡ remote.old) }
+
+    // It is asked once at most, and not where nothing is left for it.
+    ensures once { R.asked remote.new ≤ suc (R.asked remote.old) }
+    ensures left { LeavesNothing division.now.document.now division.now.operation.now → remote.new ≡ remote.old }
 {
     expansion_laws::expansions_have_no_spread();
     match expand_fragments(
@@ -102,6 +106,8 @@ fn divide_whole<R: Remote, L: Ledger>(
     ensures joins { JoinsTo (R.tells remote.old) (HasFailed (R.faults remote.old) (R.faults remote.new))
         division.now.schema.now division.now.document.now whole.now division.now.variables.now result }
     ensures later { R.faults remote.old ≤ R.faults remote.new }
+    ensures once { R.asked remote.new ≤ suc (R.asked remote.old) }
+    ensures left { concrete whole.now.selection_set.selections ≡ [] → remote.new ≡ remote.old }
 {
     let here = execute_here(alloc, division, whole)?;
     let keys = root_keys(
@@ -157,6 +163,8 @@ fn execute_there<R: Remote>(
     ensures asked { AsksFor (R.tells remote.old) (HasFailed (R.faults remote.old) (R.faults remote.new))
         division.now.schema.now division.now.document.now whole.now division.now.variables.now result }
     ensures later { R.faults remote.old ≤ R.faults remote.new }
+    ensures once { R.asked remote.new ≤ suc (R.asked remote.old) }
+    ensures left { concrete whole.now.selection_set.selections ≡ [] → remote.new ≡ remote.old }
 {
     part_laws::concrete_parts_have_no_spread();
     match concrete_part(alloc, whole)? {
@@ -184,6 +192,7 @@ fn ask<R: Remote>(
     ensures asked { AsksFor (R.tells remote.old) (HasFailed (R.faults remote.old) (R.faults remote.new))
         division.now.schema.now division.now.document.now _whole.now division.now.variables.now result }
     ensures later { R.faults remote.old ≤ R.faults remote.new }
+    ensures once { R.asked remote.new ≤ suc (R.asked remote.old) }
 {
     match remote.execute(
         alloc,

@@ -1,6 +1,6 @@
 //! Places that execute operations: the trait, and one that executes on a resolver.
 
-ghost use Rattle.std.specs.Prelude.{◌≡◌, ◌≤◌, ℕ, IfOk, None, ◌≢◌};
+ghost use Rattle.std.specs.Prelude.{◌≡◌, ◌≤◌, ℕ, IfOk, None, suc, ◌≢◌};
 ghost use Rattle.gql_gateway.specs.Remote.{IsFault, TellsBy};
 ghost use Rattle.gql_document_types.specs.Spreadless.{HasNoSpread};
 ghost use Rattle.gql_document_types.specs.Spreads.{AreAcyclic};
@@ -33,6 +33,9 @@ pub trait Remote {
     // How many faults it has met.
     ghost faults: { Self → ℕ };
 
+    // How often it was asked, as far as it counts that.
+    ghost asked: { Self → ℕ };
+
     // What it answers in this state, as far as it tells.
     ghost tells: { Self → TheSchema → TheDocument → TheOperation → Members → TheResponse → Type 0 };
 
@@ -55,6 +58,7 @@ pub trait Remote {
         requires acyclic { AreAcyclic document.now.fragments }
         ensures told { IfOk result (tells self.old schema.now document.now operation.now variables.now) }
         ensures later { faults self.old ≤ faults self.new }
+        ensures counted { asked self.new ≤ suc (asked self.old) }
         ensures cause { IsFault (faults self.old) (faults self.new) result };
 }
 
@@ -76,6 +80,8 @@ impl<'o, O: ObjectValue> LocalRemote<'o, O> {
 
 impl<'o, O: ObjectValue> Remote for LocalRemote<'o, O> {
     ghost faults = { λ _. 0 };
+
+    ghost asked = { λ _. 0 };
 
     ghost tells = { λ remote. TellsBy O.type_of O.resolves (O.seen remote.root.now) };
 

@@ -1,17 +1,18 @@
 //! The joined response to what is wanted, step by step.
 
-ghost use Rattle.std.specs.Prelude.{◌≡◌, ◌≤◌, ℕ, IfErr};
+ghost use Rattle.std.specs.Prelude.{◌≡◌, ◌≤◌, ℕ, IfErr, suc};
 ghost use Rattle.gql_engine.specs.Phases.{IsReady, IsReadyForSome};
 ghost use Rattle.gql_engine.specs.Wanted.{Wanted as WantedOf, wanted_over};
 ghost use Rattle.gql_gateway.specs.Causes.{IsBeforeAsking};
 ghost use Rattle.gql_gateway.specs.bridge.Causes.{JoinsOrCause};
+ghost use Rattle.gql_gateway.specs.Gateway.{AsksNobody};
 ghost use Rattle.jb_io.specs.Stream.{HasFailed};
 
 use crate::gateway_error::{GatewayError, of_division};
 use crate::{Division, Remote, divide};
 use bytes::Bytes;
 use gql_engine::phases::{ReadyOperation, Wanted, check_query, check_schema};
-use gql_engine::{Prepared, Service, Steps};
+use gql_engine::{Prepared, Service, Steps, laws as engine_laws};
 use gql_parser::laws as text_laws;
 use std::alloc::Global;
 use std::sync::ledger::Ledger;
@@ -29,6 +30,8 @@ pub(crate) fn respond_joined<R: Remote, L: Ledger>(
         (wanted_over schema.now query.now wanted.now) result }
     ensures later { R.faults remote.old ≤ R.faults remote.new }
     ensures unasked { IfErr result (λ refusal. IsBeforeAsking refusal → remote.new ≡ remote.old) }
+    ensures once { R.asked remote.new ≤ suc (R.asked remote.old) }
+    ensures left { AsksNobody (wanted_over schema.now query.now wanted.now) → remote.new ≡ remote.old }
 {
     match check_schema(alloc, schema) {
         Ok(service) => respond_by(alloc, &service, query, wanted, remote, steps),
@@ -49,6 +52,8 @@ fn respond_by<R: Remote, L: Ledger>(
         (wanted_over service.now query.now wanted.now) result }
     ensures later { R.faults remote.old ≤ R.faults remote.new }
     ensures unasked { IfErr result (λ refusal. IsBeforeAsking refusal → remote.new ≡ remote.old) }
+    ensures once { R.asked remote.new ≤ suc (R.asked remote.old) }
+    ensures left { AsksNobody (wanted_over service.now query.now wanted.now) → remote.new ≡ remote.old }
 {
     match check_query(alloc, service, query) {
         Ok(prepared) => respond_prepared(alloc, &prepared, wanted, remote, steps),
@@ -68,6 +73,8 @@ fn respond_prepared<R: Remote, L: Ledger>(
         (wanted_over prepared.now.schema prepared.now.query wanted.now) result }
     ensures later { R.faults remote.old ≤ R.faults remote.new }
     ensures unasked { IfErr result (λ refusal. IsBeforeAsking refusal → remote.new ≡ remote.old) }
+    ensures once { R.asked remote.new ≤ suc (R.asked remote.old) }
+    ensures left { AsksNobody (wanted_over prepared.now.schema prepared.now.query wanted.now) → remote.new ≡ remote.old }
 {
     match prepared.ready(alloc, wanted, steps) {
         Ok(ready) => respond_ready(alloc, &ready, remote, steps),
@@ -87,7 +94,10 @@ fn respond_ready<R: Remote, L: Ledger>(
         → JoinsOrCause (R.tells remote.old) (HasFailed (R.faults remote.old) (R.faults remote.new)) wanted result }
     ensures later { R.faults remote.old ≤ R.faults remote.new }
     ensures unasked { IfErr result (λ refusal. IsBeforeAsking refusal → remote.new ≡ remote.old) }
+    ensures once { R.asked remote.new ≤ suc (R.asked remote.old) }
+    ensures left { (wanted : WantedOf) (before after : ℕ) → IsReady wanted before after ready.now → AsksNobody wanted → remote.new ≡ remote.old }
 {
+    engine_laws::readiness_is_one();
     text_laws::valid_documents_run();
     text_laws::roots_are_object_types();
     let division = Division {

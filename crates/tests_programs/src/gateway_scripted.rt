@@ -27,6 +27,8 @@ impl Scripted {
 impl Remote for Scripted {
     ghost faults = { λ remote. remote.faults };
 
+    ghost asked = { λ remote. remote.asked };
+
     ghost tells = { λ remote schema document operation variables response. Unit {0} };
 
     fn execute(

@@ -1,10 +1,10 @@
-use Rattle.std.proofs.Common.{refl, subst}
+use Rattle.std.proofs.Common.{refl, sym, subst}
 use Rattle.gql_engine.specs.AtHand.{TwoTexts}
 use Rattle.gql_engine.specs.Responding.{HasCauseOf}
 use Rattle.gql_engine.specs.Wanted.{wanted_over}
 use Rattle.jb_io.specs.Stream.{HasFailed}
 use Rattle.gql_gateway.specs.bridge.Causes.{JoinsOrCause}
-use Rattle.gql_gateway.specs.Gateway.{Fits, IsTooLarge, LacksKey}
+use Rattle.gql_gateway.specs.Gateway.{AsksNobody, Fits, IsTooLarge, LacksKey}
 use Rattle.gql_gateway.proofs.Calls.{engine-caused}
 use Rattle.gql_gateway.proofs.responding.respond_by.Goals as goal
 
@@ -20,3 +20,8 @@ returns-in-Err-clause-responds g c =
     let Failed : Type 0 = HasFailed (g.R.Remote.faults c.args.remote.now) (g.R.Remote.faults c.args.remote.now) in
     engine-caused (HasCauseOf wanted) (IsTooLarge wanted) (Fits wanted × Failed) (LacksKey (g.R.Remote.tells c.args.remote.now) wanted)
     c.in-Err.refusal (c.in-Err.ensures.refused wanted refl refl) c.from.result c.from.ensures
+
+pub returns-in-Ok-clause-left : goal.returns-in-Ok-clause-left
+returns-in-Ok-clause-left g c = λ nobody.
+    c.respond_prepared.ensures.left
+    (subst (λ (texts : TwoTexts). AsksNobody (wanted_over texts.schema texts.query c.args.wanted.now)) (sym c.in-Ok.ensures.made.is) nobody)

@@ -1,9 +1,9 @@
-use Rattle.std.proofs.Common.{ℕ, List, refl, subst}
+use Rattle.std.proofs.Common.{ℕ, List, refl, sym, subst}
 use Rattle.gql_engine.specs.Responding.{HasCauseOf}
 use Rattle.gql_engine.specs.Wanted.{Wanted, wanted_over}
 use Rattle.jb_io.specs.Stream.{HasFailed}
 use Rattle.gql_gateway.specs.bridge.Causes.{JoinsOrCause}
-use Rattle.gql_gateway.specs.Gateway.{Fits, IsTooLarge, LacksKey}
+use Rattle.gql_gateway.specs.Gateway.{AsksNobody, Fits, IsTooLarge, LacksKey}
 use Rattle.gql_gateway.proofs.Calls.{engine-caused}
 use Rattle.gql_gateway.proofs.responding.respond_joined.Goals as goal
 
@@ -19,3 +19,8 @@ returns-in-Err-clause-responds g c =
     let Failed : Type 0 = HasFailed (g.R.Remote.faults c.args.remote.now) (g.R.Remote.faults c.args.remote.now) in
     engine-caused (HasCauseOf wanted) (IsTooLarge wanted) (Fits wanted × Failed) (LacksKey (g.R.Remote.tells c.args.remote.now) wanted)
     c.in-Err.refusal (c.in-Err.ensures.refused wanted refl) c.from.result c.from.ensures
+
+pub returns-in-Ok-clause-left : goal.returns-in-Ok-clause-left
+returns-in-Ok-clause-left g c = λ nobody.
+    c.respond_by.ensures.left
+    (subst (λ (schema : List ℕ). AsksNobody (wanted_over schema c.args.query.now c.args.wanted.now)) (sym c.in-Ok.ensures.made.is) nobody)

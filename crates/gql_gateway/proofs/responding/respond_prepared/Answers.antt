@@ -18,3 +18,7 @@ returns-in-Err-clause-responds g c =
     let Failed : Type 0 = HasFailed (g.R.Remote.faults c.args.remote.now) (g.R.Remote.faults c.args.remote.now) in
     engine-caused (HasCauseOf wanted) (IsTooLarge wanted) (Fits wanted × Failed) (LacksKey (g.R.Remote.tells c.args.remote.now) wanted)
     c.in-Err.refusal c.in-Err.ensures.refused c.from.result c.from.ensures
+
+pub returns-in-Ok-clause-left : goal.returns-in-Ok-clause-left
+returns-in-Ok-clause-left g c =
+    c.respond_ready.ensures.left (wanted_over c.args.prepared.now.schema c.args.prepared.now.query c.args.wanted.now) _ _ c.in-Ok.ensures.ready

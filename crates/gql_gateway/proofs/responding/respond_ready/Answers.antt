@@ -1,6 +1,6 @@
 use Rattle.gql_engine.specs.bridge.Phases.{ready_as}
 use Rattle.jb_io.specs.Stream.{HasFailed}
-use Rattle.gql_gateway.proofs.Calls.{division-caused, division-unasked}
+use Rattle.gql_gateway.proofs.Calls.{division-caused, division-unasked, nobody-left}
 use Rattle.gql_gateway.proofs.Chosen.{begins-at-object}
 use Rattle.gql_gateway.proofs.responding.respond_ready.Goals as goal
 
@@ -33,3 +33,15 @@ returns-in-Err-clause-responds g c = λ wanted before after is.
 
 pub returns-in-Err-clause-unasked : goal.returns-in-Err-clause-unasked
 returns-in-Err-clause-unasked g c = λ before. c.in-Err.ensures.unasked (division-unasked c.in-Err.refused c.of_division.result c.of_division.ensures before)
+
+pub returns-in_ok-to_bytes-in-Ok-clause-left : goal.returns-in_ok-to_bytes-in-Ok-clause-left
+returns-in_ok-to_bytes-in-Ok-clause-left g c = λ wanted before after is nobody.
+    c.divide.ensures.left (nobody-left c.readiness_is_one.ensures.document c.readiness_is_one.ensures.operation wanted (ready_as is) nobody)
+
+pub returns-in_err-to_bytes-in-Ok-clause-left : goal.returns-in_err-to_bytes-in-Ok-clause-left
+returns-in_err-to_bytes-in-Ok-clause-left g c = λ wanted before after is nobody.
+    c.divide.ensures.left (nobody-left c.readiness_is_one.ensures.document c.readiness_is_one.ensures.operation wanted (ready_as is) nobody)
+
+pub returns-in-Err-clause-left : goal.returns-in-Err-clause-left
+returns-in-Err-clause-left g c = λ wanted before after is nobody.
+    c.divide.ensures.left (nobody-left c.readiness_is_one.ensures.document c.readiness_is_one.ensures.operation wanted (ready_as is) nobody)
