@@ -5,7 +5,7 @@ use Rattle.gql_exec.specs.ThingMeaning.{Resolving}
 use Rattle.gql_engine.specs.Responding.{HasCauseOf}
 use Rattle.gql_engine.specs.Wanted.{Members}
 use Rattle.gql_engine.specs.declared.answer_error.AnswerError.{AnswerError}
-use Rattle.gql_cost.specs.Limited.{AnsweredWithin, HasLimitedCause, HasLimitedCauseOf, IsWithin}
+use Rattle.gql_cost.specs.Limited.{AnsweredWithin, HasLimitedCause, HasLimitedCauseOf, IsCallUnexecuted, IsUnexecuted, IsWithin}
 use Rattle.gql_cost.specs.declared.cost_limit.CostLimit.{CostLimit}
 use Rattle.gql_cost.specs.declared.limited_error.LimitedError.{LimitedError}
 use Rattle.gql_cost.specs.declared.limited_error.LimitedError.TheVariants.{Answer, TooCostly}
@@ -33,3 +33,13 @@ module _ {X : Type 0} (type_of : X → List ℕ) (resolves : Resolving X) (root 
         → IfErr result (HasLimitedCause limit call)
     result-refused (Ok bytes) cause = tt
     result-refused (Err refusal) cause = refusal-lifted refusal cause
+
+module _ (call : Call) (members : Members) (object : IsObjectText call.variables members) (before after : ℕ) where
+  refusal-unexecuted : (refusal : LimitedError) → IsUnexecuted (wanted_with call members) before after refusal → IsCallUnexecuted call before after refusal
+  refusal-unexecuted (Answer refusal) unexecuted = tt
+  refusal-unexecuted TooCostly unexecuted = record { members = members; object = object; holds = unexecuted }
+
+  pub result-unexecuted : (result : Result (List ℕ) LimitedError) → IfErr result (IsUnexecuted (wanted_with call members) before after)
+      → IfErr result (IsCallUnexecuted call before after)
+  result-unexecuted (Ok bytes) unexecuted = tt
+  result-unexecuted (Err refusal) unexecuted = refusal-unexecuted refusal unexecuted

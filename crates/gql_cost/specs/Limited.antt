@@ -61,6 +61,11 @@ IsUnexecuted wanted before after TooCostly =
     (ready : Ready wanted)
     × (after ≤ before + (depth_looks wanted.introspection ready.meant.document ready.operation + all_selections ready.meant.document ready.operation))
 
+-- the same of a call
+abbrev pub IsCallUnexecuted : Call → (before after : ℕ) → LimitedError → Type 0
+IsCallUnexecuted call before after (Answer refusal) = Unit {0}
+IsCallUnexecuted call before after TooCostly = Asks call (λ wanted. IsUnexecuted wanted before after TooCostly)
+
 -- ---- answers
 
 -- A response within the limit to what is wanted, or a refusal by its cause. Where a cause holds its refusal comes; and where nothing

@@ -1,7 +1,7 @@
 //! Requests to a service, answered within a limit.
 
 ghost use Rattle.std.specs.Prelude.{◌≡◌, ◌<◌, IfErr, IfOk};
-ghost use Rattle.gql_cost.specs.Limited.{AnsweredWithin, GivesLimitedAnswer, GivesWanted, HasLimitedCause, HasLimitedCauseOf, IsUnexecuted};
+ghost use Rattle.gql_cost.specs.Limited.{AnsweredWithin, GivesLimitedAnswer, GivesWanted, HasLimitedCause, HasLimitedCauseOf, IsCallUnexecuted, IsUnexecuted};
 ghost use Rattle.gql_engine.specs.AnswerError.{Asks, wanted_with};
 ghost use Rattle.gql_engine.specs.Service.{asked_of};
 ghost use Rattle.gql_engine.specs.Wanted.{wanted_over};
@@ -28,7 +28,8 @@ impl CostLimit {
     /// The first that applies, exactly where it does, and otherwise [`AnswerError::Memory`](gql_engine::AnswerError::Memory):
     ///
     /// - [`LimitedError::Answer`] with the cause for which [`Service::answer`] refuses it.
-    /// - [`LimitedError::TooCostly`] where its cost is above the limit.
+    /// - [`LimitedError::TooCostly`] where its cost is above the limit. Nothing was executed then: `steps` counts the looks of the
+    ///   check of the depth and of the cost alone.
     pub fn answer<O: ObjectValue, L: Ledger>(
         &self,
         alloc: Global,
@@ -37,7 +38,8 @@ impl CostLimit {
         root: &O,
         steps: &mut Steps<L>,
     ) -> Result<Bytes, LimitedError>
-        ensures { GivesLimitedAnswer O.type_of O.resolves (O.seen root.now) self.now (asked_of service.now question.now) result }
+        ensures answer { GivesLimitedAnswer O.type_of O.resolves (O.seen root.now) self.now (asked_of service.now question.now) result }
+        ensures unexecuted { IfErr result (IsCallUnexecuted (asked_of service.now question.now) steps.old steps.new) }
     {
         engine_laws::causes_exclude_one_another();
         engine_laws::readiness_is_one();
@@ -96,6 +98,7 @@ fn answer_question<O: ObjectValue, L: Ledger>(
     ensures answered { IfOk result (λ bytes. Asks (asked_of service.now question.now)
         (λ wanted. AnsweredWithin O.type_of O.resolves (O.seen root.now) limit.now wanted bytes)) }
     ensures refused { IfErr result (HasLimitedCause limit.now (asked_of service.now question.now)) }
+    ensures unexecuted { IfErr result (IsCallUnexecuted (asked_of service.now question.now) steps.old steps.new) }
 {
     engine_laws::causes_exclude_one_another();
     let variables = match read_variables(alloc, question.variables) {
@@ -122,6 +125,7 @@ fn answer_asked<O: ObjectValue, L: Ledger>(
     ensures answered { IfOk result (AnsweredWithin O.type_of O.resolves (O.seen root.now) limit.now
         (wanted_with (asked_of prepared.now.schema question.now) variables.now)) }
     ensures refused { IfErr result (HasLimitedCauseOf limit.now (wanted_with (asked_of prepared.now.schema question.now) variables.now)) }
+    ensures unexecuted { IfErr result (IsUnexecuted (wanted_with (asked_of prepared.now.schema question.now) variables.now) steps.old steps.new) }
 {
     let wanted = Wanted {
         operation_name: question.operation_name,

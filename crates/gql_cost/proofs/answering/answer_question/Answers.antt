@@ -2,7 +2,7 @@ use Rattle.std.proofs.Common.{◌≡◌, ap, refl}
 use Rattle.gql_engine.specs.AnswerError.{wanted_with}
 use Rattle.gql_engine.specs.AtHand.{TwoTexts}
 use Rattle.gql_engine.specs.Service.{asked_of}
-use Rattle.gql_cost.proofs.Calls.{result-answered, result-refused}
+use Rattle.gql_cost.proofs.Calls.{result-answered, result-refused, result-unexecuted}
 use Rattle.gql_cost.proofs.answering.answer_question.Goals as goal
 
 pub returns-in-Err-clause-refused : goal.returns-in-Err-clause-refused
@@ -29,3 +29,9 @@ pub returns-clause-refused : goal.returns-clause-refused
 returns-clause-refused g c =
     c.causes_exclude_one_another.ensures.lifted (asked_of c.args.service.now c.args.question.now) c.in-Ok.variables c.in-Err-check_query.refusal c.in-Ok.ensures.read
     (c.in-Err-check_query.ensures.refused (wanted_with (asked_of c.args.service.now c.args.question.now) c.in-Ok.variables) refl refl)
+
+pub returns-in-Ok-check_query-clause-unexecuted : goal.returns-in-Ok-check_query-clause-unexecuted
+returns-in-Ok-check_query-clause-unexecuted g c =
+    let schema : c.in-Ok-check_query.prepared.schema ≡ c.args.service.now = ap (λ (two : TwoTexts). two.schema) c.in-Ok-check_query.ensures.made.is in
+    result-unexecuted (asked_of c.args.service.now c.args.question.now) c.in-Ok.variables c.in-Ok.ensures.read c.args.steps.now c.answer_asked.new.steps
+    c.answer_asked.result (rw schema at c.answer_asked.ensures.unexecuted)
