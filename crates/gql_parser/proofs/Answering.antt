@@ -87,7 +87,7 @@ read_to given limits sources read is found reads =
     record {
       report = report;
       judged = judge (record { limits = limits; recursion_reached = read.recursion_reached; tokens_reached = read.tokens_reached }) rule.Document given.text report refl
-          (record { parse = r.reports.parse; recursion_reached = refl; tokens_reached = refl }) r.reports.accepts;
+          (record { reports = r.reports; recursion_reached = refl; tokens_reached = refl }) r.reports.accepts;
       ended = refl;
       partial = λ i. record { sources = is i; definitions = sym r.means i };
     }
@@ -95,7 +95,7 @@ read_to given limits sources read is found reads =
 pub read_ordered : (parser : ParserState) (given : Given) (document : Document) (error : Option CstError) → IsReadTo parser given document error → IsOrdered error
 read_ordered parser given document error r =
     subst IsOrdered r.ended
-    (ordered rule.Document given.text parser.limits r.report (so_far parser rule.Document given.text r.report r.report.error r.judged).parse)
+    (ordered rule.Document given.text parser.limits r.report (so_far parser rule.Document given.text r.report r.report.error r.judged).reports.parse)
 
 whole_read : DocumentLaw → (parser : ParserState) (given : Given) (document : Document) (error : Option CstError) → IsReadTo parser given document error → error ≡ None
     → IsDocumentRead parser given document
@@ -106,7 +106,7 @@ whole_read law parser given document error r is =
       report = r.report;
       whole = w;
       sources = ap (λ (d : Document). d.sources) r.partial;
-      means = subst (λ (d : Document). IsDocumentOf given.text given.file d.definitions) (sym r.partial) (law given.text given.file parser.limits r.report w.reading.parse none);
+      means = subst (λ (d : Document). IsDocumentOf given.text given.file d.definitions) (sym r.partial) (law given.text given.file parser.limits r.report w.reading.reports.parse none);
     }
 
 pub document_answer : DocumentLaw → (parser : ParserState) (given : Given) (document : Document) (error : Option CstError) → IsReadTo parser given document error
@@ -128,7 +128,7 @@ pub type_answer : TypeLaw → (parser : ParserState) (given : Given) (parsed : P
     → IsJudged parser rule.TypeReference given.text (report_of parsed) → IsTypeOfParse given parsed result → IsTypeAnswer parser given result
 type_answer law parser given parsed (Ok ty) judged h =
     let w = whole parser rule.TypeReference given.text (report_of parsed) judged h.0 in
-    record { report = report_of parsed; whole = w; means = law given.text given.file parser.limits (report_of parsed) ty w.reading.parse h.0 h.1 }
+    record { report = report_of parsed; whole = w; means = law given.text given.file parser.limits (report_of parsed) ty w.reading.reports.parse h.0 h.1 }
 type_answer law parser given parsed (Err (Fault errors)) judged h =
     record { report = report_of parsed; error = h.0; stopped = stopped parser rule.TypeReference given.text (report_of parsed) h.0 judged h.1; told = h.2 }
 type_answer law parser given parsed (Err Memory) judged h = tt
@@ -138,7 +138,7 @@ CompleteLaw = (text : List ℕ) (file : FileId) (tree : Plain) → tree.kind ≡
 
 pub complete : CompleteLaw → (parser : ParserState) (given : Given) (parsed : Parsed) → IsJudged parser rule.TypeReference given.text (report_of parsed) → IsComplete given parsed
 complete law parser given parsed judged is =
-    let parse = (whole parser rule.TypeReference given.text (report_of parsed) judged is).reading.parse in
+    let parse = (whole parser rule.TypeReference given.text (report_of parsed) judged is).reading.reports.parse in
     law given.text given.file (plain parsed.tree) parse.2.tree_kind (parse_tree rule.TypeReference given.text parser.limits (report_of parsed) parse is)
 
 -- ---- files that a builder takes
@@ -171,7 +171,7 @@ selections_read law parser given parsed read errors judged (inl h) =
       report = report_of parsed;
       whole = w;
       mean = subst (λ (s : List Selection). AreSelectionsOf given.text given.file s) (sym (h.1 ∙ gathered given.text given.file (plain parsed.tree).children))
-          (law given.text given.file parser.limits (report_of parsed) w.reading.parse h.0);
+          (law given.text given.file parser.limits (report_of parsed) w.reading.reports.parse h.0);
       told = h.2;
     })
 selections_read law parser given parsed read errors judged (inr h) = inr (record {

@@ -45,7 +45,7 @@ by_error : (parser : ParserState) (start : Rule) (text : List ℕ) (report : Rep
     → Admits start text parser.limits report.error → (error : Option CstError) → report.error ≡ error
     → MatchOption error (IsWhole parser start text report) (λ e. IsStopped parser start text report e)
 by_error parser start text report flat reading accepts None is =
-    record { reading = reading; no_error = is; sentence = sentence start text parser.limits report reading.parse is }
+    record { reading = reading; no_error = is; sentence = sentence start text parser.limits report reading.reports.parse is }
 by_error parser start text report flat reading accepts (Some error) is =
     record { reading = reading; stands = is; none = no_sentence start text parser.limits report error flat accepts is }
 

@@ -143,7 +143,7 @@ is_refused schema text parser refusal limits b = by_reading b.takes.read
         subst (DocumentFaults schema text) (sym is) (no_sentence stopped.error (record {
           none = λ h. stopped.stopped.none (subst (λ (l : Limits). IsSentenceWithin l rule.Document text) (sym limits) h);
           report = stopped.report;
-          parse = subst (λ (l : Limits). IsReport rule.Document text l stopped.report) limits stopped.stopped.reading.parse;
+          parse = subst (λ (l : Limits). IsReport rule.Document text l stopped.report) limits stopped.stopped.reading.reports.parse;
           stands = stopped.stopped.stands;
         }))
 

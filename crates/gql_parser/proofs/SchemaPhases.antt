@@ -111,7 +111,7 @@ is_stopped text document errors parser limits s = record {
   stops = record {
     none = λ h. s.stopped.none (subst (λ (l : Limits). IsSentenceWithin l rule.Document text) (sym limits) h);
     report = s.report;
-    parse = subst (λ (l : Limits). IsReport rule.Document text l s.report) limits s.stopped.reading.parse;
+    parse = subst (λ (l : Limits). IsReport rule.Document text l s.report) limits s.stopped.reading.reports.parse;
     stands = s.stopped.stands;
   };
   told = s.told;

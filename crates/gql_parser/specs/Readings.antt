@@ -7,7 +7,7 @@ use Rattle.gql_cst.specs.Forest.{Forest}
 use Rattle.gql_cst.specs.Leaves.{leaves}
 use Rattle.gql_cst.specs.Nesting.{nesting}
 use Rattle.gql_cst.specs.Outcome.{IsWithin}
-use Rattle.gql_cst.specs.Parses.{IsReport}
+use Rattle.gql_cst.specs.Parses.{Reports}
 use Rattle.gql_cst.specs.Report.{Report}
 use Rattle.gql_cst.specs.TreeOf.{IsTreeOf}
 use Rattle.gql_parser.specs.Parsers.{ParserState}
@@ -20,9 +20,9 @@ pub record IsSentenceWithin (limits : Limits) (start : Rule) (text : List ℕ) :
   pub counted : IsWithin limits.tokens (length (leaves children))
 
 -- The text was read from the start, and the parser tells how far. The report has the tree of what was read, which no
--- program need hold.
+-- program need hold: that of a sentence, or of one that begins so, cut behind the words that were read.
 pub record IsReading (parser : ParserState) (start : Rule) (text : List ℕ) (report : Report) : Type 0 where
-  pub parse : IsReport start text parser.limits report
+  pub reports : Reports start text parser.limits report
   pub recursion_reached : parser.recursion_reached ≡ report.recursion_reached
   pub tokens_reached : parser.tokens_reached ≡ report.tokens_reached
 
