@@ -128,8 +128,8 @@ uint32_t gql_step(gql_handle *query, gql_handle *answers, const uint8_t *name, s
  * Arguments may be left out where there are none, and are else those that were asked, in their order; other members are not looked at. A
  * value is JSON. At an object, an interface or a union type `{"object":8,"type":"Author"}` is the caller's object 8; at a list an array is
  * a list of such values; {"__error":"text"} is a failure of the field. Of two answers to one ask the first stays. UNREAD: the text is no list
- * of answers; then, and where it returns WRONG_HANDLE, `answers` holds what it held. NO_MEMORY: some of the answers may have been added; the
- * same text may be added again. */
+ * of answers; then, and where it returns WRONG_HANDLE, `answers` holds what it held. NO_MEMORY: the first of the answers may have been
+ * added, in their order, and nothing else is changed; the same text may be added again. */
 uint32_t gql_answers_add(gql_handle *answers, const uint8_t *text, size_t length);
 
 /* The kind of the operation that gql_execute would execute, into `kind`. REFUSED, and GQL_NO_OPERATION, where there is none. */

@@ -2,7 +2,7 @@
 use Rattle.std.specs.Prelude.{◌≡◌, ℕ, List, [], Option, Some, None}
 use Rattle.jb_text.specs.declared.refused.Refused.TheVariants.{Fault}
 use Rattle.jb_tree.specs.declared.value.Value.{Value}
-use Rattle.gql_rounds.specs.Told.{HasAnswersFault, TellsAnswers}
+use Rattle.gql_rounds.specs.Told.{HasAnswersFault, TellsAnswers, TellsSome}
 use Rattle.gql_rounds.specs.declared.answers_json.AnswersFault.{AnswersFault}
 use Rattle.gql_c.specs.declared.answers_add.Adding.{Adding}
 use Rattle.gql_c.specs.declared.answers_add.Adding.TheVariants.{Added, NoMemory, WrongHandle, Unread}
@@ -19,10 +19,10 @@ pub record IsNoAnswers (text : List ℕ) : Type 0 where
   pub fault : AnswersFault
   pub is : HasAnswersFault text (Fault fault)
 
--- to a table: the answers of the text are told too, or it is as it was
+-- to a table: the answers of the text are told too; or, where memory ran out, the first of them, and nothing else; or it is as it was
 abbrev pub AddsTo : List ℕ → (old new : Table) → Adding → Type 0
 AddsTo text old new Added = TellsAnswers text old new
-AddsTo text old new NoMemory = Unit {0}
+AddsTo text old new NoMemory = TellsSome text old new
 AddsTo text old new WrongHandle = ⊥
 AddsTo text old new Unread = IsNoAnswers text × (new ≡ old)
 

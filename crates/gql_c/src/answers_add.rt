@@ -32,7 +32,7 @@ pub enum Adding {
 ///
 /// [`UNREAD`](crate::UNREAD) exactly where the bytes are no such text, and [`WRONG_HANDLE`](crate::WRONG_HANDLE) exactly where the handle
 /// holds something else than answers: it holds what it held. [`NO_MEMORY`](crate::NO_MEMORY) only when out of memory: a handle that held
-/// nothing holds nothing, and to answers that were held some may have been added.
+/// nothing holds nothing, and to answers that were held the first of the text may have been added, in their order, and nothing else.
 #[unsafe(no_mangle)]
 pub extern "C" fn gql_answers_add(alloc: Global, answers: &mut Handle, text: &[u8]) -> u32
     ensures { TellsAdding (AddsHeld text.now answers.old.held answers.new.held) result }

@@ -100,6 +100,19 @@ HasAnswersFault text (Fault NotList) = IsNoList text
 HasAnswersFault text (Fault (NotAnswer index)) = HasOther text index
 HasAnswersFault text Memory = Unit {0}
 
-abbrev pub IsUnchanged : Refused AnswersFault → Table → Table → Type 0
-IsUnchanged (Fault fault) old new = new ≡ old
-IsUnchanged Memory old new = Unit {0}
+-- ---- what is left where answers are not told
+
+-- the first of these items were told, in their order, and nothing else was
+pub record TellsFirst (items : List Value) (old new : Table) : Type 0 where
+  pub count : ℕ
+  pub told : new ≡ all_told old (take count items)
+
+-- nothing was told, or the first of the answers of the text
+pub data TellsSome (text : List ℕ) (old new : Table) : Type 0 where
+  none : new ≡ old → TellsSome text old new
+  some : (items : List Value) → JsonText text (json.Array items) → AllByRecursion IsAnswer items → TellsFirst items old new → TellsSome text old new
+
+-- a fault leaves the table as it was; where memory runs out, this holds
+abbrev pub LeavesTable : Type 0 → Refused AnswersFault → Table → Table → Type 0
+LeavesTable Tells (Fault fault) old new = new ≡ old
+LeavesTable Tells Memory old new = Tells

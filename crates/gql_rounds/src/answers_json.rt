@@ -1,6 +1,6 @@
 //! Answers, read from JSON.
 
-ghost use Rattle.std.specs.Prelude.{◌≡◌, codes, option_map, IfErr, OnOk, MatchOption};
+ghost use Rattle.std.specs.Prelude.{◌≡◌, codes, option_map, IfErr, OnErr, OnOk, MatchOption};
 ghost use Rattle.std.specs.List.{AllByRecursion};
 ghost use Rattle.std.specs.Map.{lookup};
 ghost use Rattle.std.specs.Option.{option_copied};
@@ -8,7 +8,7 @@ ghost use Rattle.std.specs.Str.{bytes_eq};
 ghost use Rattle.gql_rounds.specs.ToldMeaning.{number_member as object_number};
 ghost use Rattle.gql_resolvers.specs.DataMeaning.{text_member as member_text};
 ghost use Rattle.gql_rounds.specs.Told as spec;
-ghost use Rattle.gql_rounds.specs.Told.{HasAnswersFault, IsAnswer, IsFirstOther, IsUnchanged, TellsAnswers, all_told, told_answer};
+ghost use Rattle.gql_rounds.specs.Told.{HasAnswersFault, IsAnswer, IsFirstOther, LeavesTable, TellsAnswers, TellsFirst, TellsSome, all_told, told_answer};
 ghost use Rattle.gql_rounds.specs.bridge.Told.{IsItemFault, arguments_seen, seen};
 
 use crate::Answers;
@@ -44,7 +44,8 @@ struct Answer<'v> {
 /// # Errors
 ///
 /// - An [`AnswersFault`] exactly where the text tells no answers. The table is as it was.
-/// - [`Refused::Memory`] when out of memory. Some of the answers may have been added.
+/// - [`Refused::Memory`] when out of memory. The first of the answers may have been added, in their order, and nothing else was
+///   changed. So the same text may be read again.
 pub fn read_answers(
     alloc: Global,
     text: &Bytes,
@@ -52,7 +53,7 @@ pub fn read_answers(
 ) -> Result<(), Refused<AnswersFault>>
     ensures told { OnOk result (TellsAnswers text.now answers.old answers.new) }
     ensures refused { IfErr result (HasAnswersFault text.now) }
-    ensures unchanged { IfErr result (λ refused. IsUnchanged refused answers.old answers.new) }
+    ensures left { IfErr result (λ refused. LeavesTable (TellsSome text.now answers.old answers.new) refused answers.old answers.new) }
 {
     match from_bytes_whole(alloc, text) {
         Ok(Value::Array(items)) => add_answers(alloc, items.as_slice(), answers),
@@ -70,7 +71,8 @@ fn add_answers(
 ) -> Result<(), Refused<AnswersFault>>
     ensures told { OnOk result (AllByRecursion IsAnswer items.now × (answers.new ≡ all_told answers.old items.now)) }
     ensures refused { IfErr result (IsItemFault items.now) }
-    ensures unchanged { IfErr result (λ refused. IsUnchanged refused answers.old answers.new) }
+    ensures left { IfErr result (λ refused. LeavesTable (AllByRecursion IsAnswer items.now × TellsFirst items.now answers.old answers.new)
+        refused answers.old answers.new) }
 {
     match first_other(items) {
         Some(index) => Err(Refused::Fault(AnswersFault::NotAnswer { index })),
@@ -92,7 +94,8 @@ fn first_other(items: &[Value]) -> Option<usize>
 
 /// Tells the answers among these items. `Err` only when out of memory.
 fn tell_all(alloc: Global, items: &[Value], answers: &mut Answers) -> Result<(), Memory>
-    ensures { OnOk result (answers.new ≡ all_told answers.old items.now) }
+    ensures told { OnOk result (answers.new ≡ all_told answers.old items.now) }
+    ensures left { OnErr result (TellsFirst items.now answers.old answers.new) }
 {
     for item in items {
         tell_item(alloc, item, answers)?;
@@ -102,7 +105,8 @@ fn tell_all(alloc: Global, items: &[Value], answers: &mut Answers) -> Result<(),
 
 /// Tells the answer that an item is, if it is one. `Err` only when out of memory.
 fn tell_item(alloc: Global, item: &Value, answers: &mut Answers) -> Result<(), Memory>
-    ensures { OnOk result (answers.new ≡ told_answer answers.old (spec.answer_in item.now)) }
+    ensures told { OnOk result (answers.new ≡ told_answer answers.old (spec.answer_in item.now)) }
+    ensures unchanged { OnErr result (answers.new ≡ answers.old) }
 {
     let Some(answer) = answer_in(item) else {
         return Ok(());

@@ -3,5 +3,5 @@ use Rattle.gql_c.proofs.answers_add.add_bytes.Goals as goal
 pub returns-in-Err-Fault : goal.returns-in-Err-Fault
 returns-in-Err-Fault c = (
   record { fault = c.in-Err-Fault.field-0-0; is = rw c.in-Err-Fault.field-0-is at c.in-Err-Fault.ensures.refused },
-  rw c.in-Err-Fault.field-0-is at c.in-Err-Fault.ensures.unchanged,
+  rw c.in-Err-Fault.field-0-is at c.in-Err-Fault.ensures.left,
 )
