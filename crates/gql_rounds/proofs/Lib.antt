@@ -11,7 +11,11 @@ mod LeftOut
 mod TwoTables
 mod Few
 mod Fields
+mod ToldWhole
+mod AskedNothing
+mod AskedThings
 mod Readies
 mod Causes
 mod Items
 mod Taken
+mod InFull

@@ -5,6 +5,9 @@
 //! them together; or the response, once nothing is asked. There are no more rounds than selection sets are nested.
 //!
 //! Both sides are JSON: [`asks_bytes`] prints what is asked, and [`read_answers`] reads what is answered.
+//!
+//! The functions of [`laws`] do nothing when they run: their contracts say what rounds come to, and that the response of a step is
+//! explained, with no premise.
 #![tactic(auto)]
 
 mod answers;
