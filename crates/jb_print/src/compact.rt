@@ -12,6 +12,7 @@ use jb_tree::{ByteString, Listed, Map, Memory, Number, Value};
 
 /// Appends the compact text of `value`.
 #[cycle(compact)]
+#[inline(always)]
 pub(crate) fn write_value(out: &mut String, value: &Value) -> Result<(), Memory>
     ensures { OnOk result (string_bytes out.new ≡ string_bytes out.old ++ compact value.now) }
 {

@@ -11,6 +11,7 @@ use jb_text::plain_length;
 use jb_tree::Memory;
 
 /// Appends the text in quotes, with its escapes.
+#[inline(always)]
 pub(crate) fn write_text(out: &mut String, text: &str) -> Result<(), Memory>
     ensures { OnOk result (string_bytes out.new ≡ string_bytes out.old ++ quoted text.now) }
 {
@@ -20,6 +21,7 @@ pub(crate) fn write_text(out: &mut String, text: &str) -> Result<(), Memory>
 }
 
 // Each run of bytes that need no escape is copied in one piece.
+#[inline(always)]
 fn write_escaped(out: &mut String, text: &str) -> Result<(), Memory>
     ensures { OnOk result (string_bytes out.new
         ≡ string_bytes out.old ++ flat_map escaped text.now) }
