@@ -15,6 +15,7 @@ const FLOAT_END: i64 = (1 << 53) - 1;
 /// `Int` takes a whole number of 32 bits with a sign, `Float` one of a magnitude below 2^53 - 1, `String` a text, `Boolean` a truth
 /// value, `ID` a text or a whole number of 64 bits with a sign, and any other type any value. It takes no memory.
 #[must_use]
+#[inline(always)]
 pub fn scalar_takes(name: &str, value: &Value) -> bool
     ensures { result ≡ scalar_takes name.now value.now }
 {

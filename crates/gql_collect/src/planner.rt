@@ -66,6 +66,7 @@ impl<'d> Planner<'d> {
 
     /// The number of the node for objects of this type among those below a group. It is added where none was there, and only
     /// then steps are counted. `Err` only when out of memory.
+    #[inline(always)]
     pub fn node_number<L: Ledger>(
         &self,
         object_type: &'d ObjectType,
@@ -127,6 +128,7 @@ impl<'d> Planner<'d> {
 }
 
 /// Where the node for objects of the type of this name is.
+#[inline(always)]
 fn number_of(name: &str, nodes: &[Node<'_>]) -> Option<usize>
     ensures { result ≡ position (growth.is_for name.now) nodes.now }
 {

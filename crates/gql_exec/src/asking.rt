@@ -55,6 +55,7 @@ impl<'s> Executing<'s> {
     }
 
     /// The same with what has come of coercing the arguments.
+    #[inline(always)]
     fn ask_with<O: ObjectValue>(
         &self,
         object_type: &ObjectType,
@@ -79,6 +80,7 @@ impl<'s> Executing<'s> {
     }
 
     /// The same with these arguments.
+    #[inline(always)]
     fn resolve<O: ObjectValue>(
         &self,
         object_type: &ObjectType,
@@ -167,6 +169,7 @@ fn copied(alloc: Global, fault: &ArgumentFault) -> Result<ArgumentFault, Memory>
 }
 
 /// What a resolver's answer is.
+#[inline(always)]
 fn told<O: ObjectValue>(answer: Result<ResolvedValue<O>, ResolveError>) -> Result<Asked<O>, Memory>
     ensures { (meaning : Meaning O.Seen) → Answers O.seen answer meaning → IfOk result (λ asked. outcome_of O.seen asked ≡ answered meaning) }
 {

@@ -62,6 +62,7 @@ impl<'x, 'a, O: ObjectValue> Introspected<'x, 'a, O> {
     }
 
     /// Any other field.
+    #[inline(always)]
     fn own_field(
         &self,
         alloc: Global,
@@ -83,6 +84,7 @@ impl<'x, 'a, O: ObjectValue> Introspected<'x, 'a, O> {
     }
 
     /// That of a user's object.
+    #[inline(always)]
     fn user_field(
         &self,
         alloc: Global,
@@ -120,6 +122,7 @@ impl<'x, 'a, O: ObjectValue> ObjectValue for Introspected<'x, 'a, O> {
         }
     }
 
+    #[inline(always)]
     fn resolve_field(
         &self,
         alloc: Global,

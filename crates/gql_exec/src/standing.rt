@@ -27,6 +27,7 @@ pub(crate) trait Standing<O, P> {
 }
 
 /// An answer whose objects stand as others.
+#[inline(always)]
 pub(crate) fn answer<O: Drop, P: Drop, K: Standing<O, P>>(
     alloc: Global,
     kind: &K,
@@ -43,6 +44,7 @@ pub(crate) fn answer<O: Drop, P: Drop, K: Standing<O, P>>(
 /// A resolved value whose objects stand as others. A list is made anew, and its items are moved. `Err` only when out of
 /// memory.
 #[cycle(stand)]
+#[inline(always)]
 pub(crate) fn value<O: Drop, P: Drop, K: Standing<O, P>>(
     alloc: Global,
     kind: &K,

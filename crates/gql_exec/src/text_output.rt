@@ -85,6 +85,7 @@ impl Output for TextOutput {
 
     ghost is_keyed = { λ start before object so_far key. IsKeyed start before object so_far key };
 
+    #[inline(always)]
     fn value(&mut self, value: Value) -> Result<(), Memory> {
         append_value(&mut self.text, &value)
     }
@@ -122,6 +123,7 @@ impl Output for TextOutput {
         })
     }
 
+    #[inline(always)]
     fn begin_member(&mut self, object: &mut OpenObject, key: &Name) -> Result<(), Memory> {
         object.last = self.text.len();
         // A name needs no escapes.

@@ -142,6 +142,7 @@ impl<'t> DataShape<'t> {
 }
 
 /// A value of the data as it stands.
+#[inline(always)]
 pub(crate) fn leaf<'d>(
     alloc: Global,
     value: &Value,
@@ -152,6 +153,7 @@ pub(crate) fn leaf<'d>(
 }
 
 /// The name of the type of an object with these members, which is this one unless they tell another.
+#[inline(always)]
 fn object_name<'d>(alloc: Global, name: &Name, members: &'d Map) -> Result<ObjectName<'d>, Memory>
     ensures { IfOk result (λ made. name_of made ≡ spec.told_name name.now.text members.now) }
 {
@@ -162,6 +164,7 @@ fn object_name<'d>(alloc: Global, name: &Name, members: &'d Map) -> Result<Objec
 }
 
 /// The text of a value that stands for a failure.
+#[inline(always)]
 fn failure_text(value: &Value) -> Option<&str>
     ensures { option_copied result ≡ spec.failure_text value.now }
 {
@@ -169,6 +172,7 @@ fn failure_text(value: &Value) -> Option<&str>
 }
 
 /// The text of a member, where it is one.
+#[inline(always)]
 fn text_member<'d>(members: &'d Map, name: &str) -> Option<&'d str>
     ensures { option_copied result ≡ spec.text_member name.now members.now }
 {

@@ -18,6 +18,7 @@ use std::alloc::Global;
 
 /// What is wrong with a list at a type, its items aside: `None` exactly where the type is a list's (GraphQL October 2021,
 /// section 6.4.3). `Err` only when out of memory.
+#[inline(always)]
 pub fn list_misfit(alloc: Global, ty: &TypeRef) -> Result<Option<Misfit>, Memory>
     ensures { IfOk result (λ found. misfit_seen found ≡ spec.list_misfit ty.now) }
 {
@@ -31,6 +32,7 @@ pub fn list_misfit(alloc: Global, ty: &TypeRef) -> Result<Option<Misfit>, Memory
 /// this type of the schema if it is one's (section 6.4.3):
 /// that object type itself, an interface that it lists, or a union that has it. `Fault` with what is wrong exactly where it
 /// does not fit, `Memory` only when out of memory.
+#[inline(always)]
 pub fn fitting_object<'s>(
     alloc: Global,
     schema: &'s Schema,
@@ -52,6 +54,7 @@ pub fn fitting_object<'s>(
 }
 
 /// The same at a type that is no list's, where this is the type of its name.
+#[inline(always)]
 fn object_at<'s>(
     alloc: Global,
     schema: &'s Schema,

@@ -19,6 +19,7 @@ use std::alloc::Global;
 /// What is wrong with a leaf at a type, `None` exactly where it fits (GraphQL October 2021, section 6.4.3): null at a type that
 /// rules it out, another leaf at a list's, an object's, an interface's or a union's type, or one that the scalar or enum type does
 /// not take. `named` is the type of the schema that the type names, if there is one. `Err` only when out of memory.
+#[inline(always)]
 pub fn leaf_misfit(
     alloc: Global,
     named: Option<&ExtendedType>,
@@ -48,6 +49,7 @@ fn null_misfit(alloc: Global, ty: &TypeRef) -> Result<Option<Misfit>, Memory>
 }
 
 /// What is wrong with a leaf that is not null at the type of this name, if there is one.
+#[inline(always)]
 fn leaf_at(
     alloc: Global,
     ty: Option<&ExtendedType>,

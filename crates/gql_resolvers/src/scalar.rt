@@ -16,6 +16,7 @@ use std::alloc::Global;
 
 /// What is wrong with a leaf at the scalar type of this name (GraphQL October 2021, section 3.5): a number at `Int` that 64 bits
 /// with a sign hold overflows it.
+#[inline(always)]
 pub(crate) fn scalar_misfit(
     alloc: Global,
     name: &str,
