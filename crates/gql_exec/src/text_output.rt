@@ -1,6 +1,6 @@
 //! A response that is written while it is made.
 
-ghost use Rattle.std.specs.Prelude.{◌≡◌, ◌++◌, [], codes, IfOk, string_bytes};
+ghost use Rattle.std.specs.Prelude.{◌≡◌, ◌++◌, [], codes, IfOk, OnOk, string_bytes};
 ghost use Rattle.jb_print.specs.bridge.Pieces.{comma_after};
 
 use crate::output::Output;
@@ -127,7 +127,7 @@ impl Output for TextOutput {
     fn begin_member(&mut self, object: &mut OpenObject, key: &Name) -> Result<(), Memory> {
         object.last = self.text.len();
         // A name needs no escapes.
-        self.text.push_str(opening(object.later))?;
+        write_opening(&mut self.text, object.later)?;
         self.text.push_str(key.as_str())?;
         self.text.push_str("\":")
     }
@@ -155,9 +155,14 @@ impl Output for TextOutput {
     }
 }
 
-/// What stands before a key: a quote, and before that a comma where the member is a later one.
-fn opening(later: bool) -> &'static str
-    ensures { result.now ≡ comma_after later ++ codes "\"" }
+/// Writes what stands before a key: a quote, and before that a comma where the member is a later one.
+#[inline(always)]
+fn write_opening(text: &mut String, later: bool) -> Result<(), Memory>
+    ensures { OnOk result (string_bytes text.new ≡ string_bytes text.old ++ (comma_after later ++ codes "\"")) }
 {
-    if later { ",\"" } else { "\"" }
+    if later {
+        text.push_str(",\"")
+    } else {
+        text.push_str("\"")
+    }
 }
