@@ -6,4 +6,4 @@ use Rattle.gql_resolvers.specs.declared.data_object.ObjectName.TheVariants.{Root
 abbrev pub name_of : ObjectName → List ℕ
 name_of Root = []
 name_of (Told name) = name.now
-name_of (Taken name) = name.text
+name_of (Taken name) = name

@@ -15,7 +15,7 @@ use crate::resolved_value::ResolvedValue;
 use crate::resolver::ObjectValue;
 use gql_ast_base::Name;
 use gql_schema_types::ExtendedType;
-use jb_tree::{Map, Value};
+use jb_tree::{ByteString, Map, Value};
 use std::alloc::Global;
 use std::marker::Model;
 
@@ -37,7 +37,7 @@ pub struct DataObject<'d> {
 pub(crate) enum ObjectName<'d> {
     Root,
     Told(&'d str),
-    Taken(Name),
+    Taken(ByteString),
 }
 
 impl<'d> Model for DataObject<'d> {

@@ -14,7 +14,7 @@ ghost use Rattle.gql_resolvers.specs.DataName.{name_of};
 use crate::data_object::{DataObject, ObjectName};
 use crate::resolve_error::{FieldError, ResolveError};
 use crate::resolved_value::ResolvedValue;
-use gql_ast_base::{Copying, Name, TypeRef};
+use gql_ast_base::{Name, TypeRef};
 use jb_text::{Listed, Memory, Text};
 use jb_tree::{Map, Value};
 use std::alloc::{AllocError, Global};
@@ -159,7 +159,7 @@ fn object_name<'d>(alloc: Global, name: &Name, members: &'d Map) -> Result<Objec
 {
     match text_member(members, TYPE_NAME_MEMBER) {
         Some(told) => Ok(ObjectName::Told(told)),
-        None => Ok(ObjectName::Taken(name.copy(alloc)?)),
+        None => Ok(ObjectName::Taken(name.text().copy(alloc)?)),
     }
 }
 
