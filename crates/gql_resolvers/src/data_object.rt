@@ -97,6 +97,7 @@ impl<'d> ObjectValue for DataObject<'d> {
         }
     }
 
+    #[inline(always)]
     fn resolve_field(
         &self,
         alloc: Global,
@@ -111,6 +112,7 @@ impl<'d> ObjectValue for DataObject<'d> {
 
 /// A value of the data at the field that is asked for. A value that is no list and no object is a leaf at any field, so that
 /// its definition is not asked for.
+#[inline(always)]
 fn field_value<'d>(
     alloc: Global,
     info: &ResolveInfo<'_>,
@@ -126,6 +128,7 @@ fn field_value<'d>(
 }
 
 /// Whether a value is no list and no object.
+#[inline(always)]
 fn is_simple(value: &Value) -> bool
     ensures { IsTrue result → (array_items value.now ≡ None) × (object_members value.now ≡ None) }
 {
@@ -133,6 +136,7 @@ fn is_simple(value: &Value) -> bool
 }
 
 /// A value of the data at a field.
+#[inline(always)]
 fn value_at<'d>(
     alloc: Global,
     field: FieldOnType<'_>,
@@ -157,6 +161,7 @@ fn value_at<'d>(
 }
 
 /// The name, where it is that of an object, an interface or a union type, which is given as the schema has it.
+#[inline(always)]
 fn composite_name<'t>(named: Option<&ExtendedType>, name: &'t Name) -> Option<&'t Name>
     ensures { option_copied result ≡ spec.composite_name (option_copied named.entry) name.now }
 {
@@ -168,6 +173,7 @@ fn composite_name<'t>(named: Option<&ExtendedType>, name: &'t Name) -> Option<&'
 }
 
 /// Whether this is an object, an interface or a union type.
+#[inline(always)]
 fn is_composite(ty: Option<&ExtendedType>) -> bool
     ensures { result ≡ spec.is_composite_type (option_copied ty.entry) }
 {

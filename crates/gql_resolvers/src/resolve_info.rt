@@ -50,6 +50,7 @@ impl<'a> ResolveInfo<'a> {
     /// What a resolver is told: execution makes one for each field, and a test of a resolver may. The fields are those of
     /// one response key, and the first of them is given apart.
     #[must_use]
+    #[inline(always)]
     pub fn new(
         request: &'a RequestInfo<'a>,
         object_type: &'a ObjectType,
@@ -73,6 +74,7 @@ impl<'a> ResolveInfo<'a> {
     /// The same, where the field's definition on the object type is known, and the type of the schema that it names within all
     /// lists: plain data then looks neither up.
     #[must_use]
+    #[inline(always)]
     pub fn planned(
         self,
         definition: &'a FieldDefinition,
@@ -158,6 +160,7 @@ impl<'a> ResolveInfo<'a> {
     }
 
     /// The field as the object type has it, which is looked up where it is not kept.
+    #[inline(always)]
     pub(crate) fn on_object_type(&self) -> FieldOnType<'a>
         ensures definition { option_copied result.definition ≡ spec.definition_on_type self.now }
         ensures named { option_copied result.named ≡ type_named_by_field (spec.schema_of self.now) (option_copied result.definition) }
