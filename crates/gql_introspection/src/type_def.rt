@@ -14,7 +14,7 @@ use crate::asked::Asked;
 use crate::deprecation::specified_by;
 use crate::items::Items;
 use crate::leaves::{
-    description_or_null, name_leaf, null_leaf, text_leaf, text_or_null, truth_leaf,
+    constant_leaf, description_or_null, name_leaf, null_leaf, text_or_null, truth_leaf,
 };
 use crate::meta_object::MetaObject;
 use crate::named_types::named_types;
@@ -34,7 +34,7 @@ pub(crate) fn type_def_field<'a>(
 {
     let alloc = asked.alloc;
     match asked.field {
-        "kind" => text_leaf(alloc, kind(ty)).map(Some),
+        "kind" => constant_leaf(alloc, kind(ty)).map(Some),
         "name" => name_leaf(alloc, ty.own_name()).map(Some),
         "description" => description_or_null(alloc, description(ty)).map(Some),
         "fields" => fields(asked, schema, ty).map(Some),

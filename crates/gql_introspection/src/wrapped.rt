@@ -8,7 +8,7 @@ ghost use Rattle.gql_introspection.specs.bridge.Seen.{GivesField};
 ghost use Rattle.gql_introspection.specs.Wrapped as spec;
 
 use crate::asked::Asked;
-use crate::leaves::{null_leaf, text_or_null};
+use crate::leaves::{constant_or_null, null_leaf};
 use crate::meta_object::MetaObject;
 use crate::named_types::{named_type, type_object};
 use gql_ast_base::TypeRef;
@@ -26,7 +26,7 @@ pub(crate) fn wrapped_field<'a>(
     ensures { GivesField result (spec.wrapped_row schema.now ty.now stripped asked.now.field.now) }
 {
     match asked.field {
-        "kind" => text_or_null(asked.alloc, kind(ty, stripped)).map(Some),
+        "kind" => constant_or_null(asked.alloc, kind(ty, stripped)).map(Some),
         "ofType" => Ok(Some(inner_type(schema, ty, stripped))),
         other if is_null_field(other) => Ok(Some(null_leaf())),
         _ => Ok(None),
