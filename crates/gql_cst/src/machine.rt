@@ -64,6 +64,7 @@ fn end_rule<O: Output>(top: &Frame, out: &mut O) -> Result<(), Memory>
 }
 
 /// The rule that may come once more and begins with the next word, and the way to write it.
+#[inline(always)]
 fn repeated_way(symbol: Symbol, next: Option<Word>) -> Option<(Rule, &'static [Symbol])>
     ensures stays { IfNone result (Stays next symbol) }
     ensures begins { IfSome result (λ found. symbol ≡ Repeated found.0) }
@@ -130,6 +131,7 @@ impl<O: Output> Machine<O> {
     }
 
     /// A node of the kind begins at the place, and the symbols come in it.
+    #[inline(never)]
     fn open(&mut self, kind: SyntaxKind, way: &'static [Symbol], place: usize) -> Result<(), Memory>
         requires node { is_node (part_of kind) ≡ true }
         requires loose { list_all is_loose way.now ≡ true }
@@ -149,6 +151,7 @@ impl<O: Output> Machine<O> {
     }
 
     /// The symbols come next.
+    #[inline(never)]
     fn push_way(&mut self, way: &'static [Symbol]) -> Result<(), Memory>
         requires { list_all is_loose way.now ≡ true }
         ensures { OnOk result ((at : ℕ) → Becomes O.stands self.old self.new at (spec.pushed way.now)) }
@@ -163,6 +166,7 @@ impl<O: Output> Machine<O> {
     }
 
     /// Goes into a rule, by this way to write it.
+    #[inline(always)]
     fn enter_way(&mut self, rule: Rule, way: &'static [Symbol], place: usize) -> Result<(), Memory>
         requires { list_all is_loose way.now ≡ true }
         ensures { OnOk result (Becomes O.stands self.old self.new place (spec.entered (kind_of rule) way.now)) }
@@ -175,6 +179,7 @@ impl<O: Output> Machine<O> {
     }
 
     /// Goes into a rule that begins with the next word.
+    #[inline(always)]
     fn enter(
         &mut self,
         rule: Rule,
@@ -202,6 +207,7 @@ impl<O: Output> Machine<O> {
     }
 
     /// One turn, with the next word in sight, or the end of the text. It begins at the place.
+    #[inline(always)]
     fn turn(&mut self, next: Option<Word>, place: usize) -> Result<Turn, Memory>
         ensures { IfOk result (λ turn. Goes O.stands self.old self.new place (λ s t. spec.told turn t ≡ spec.turned next s)) }
     {
@@ -228,6 +234,7 @@ impl<O: Output> Machine<O> {
     }
 
     /// What a symbol comes to that was taken off.
+    #[inline(always)]
     fn act(&mut self, symbol: Symbol, next: Option<Word>, place: usize) -> Result<Turn, Memory>
         requires loose { is_loose symbol ≡ true }
         requires stays { Stays next symbol }

@@ -21,6 +21,7 @@ pub(crate) enum Turn {
 }
 
 /// The way to write the rule that the next word chooses.
+#[inline(always)]
 pub(crate) fn way_at(rule: Rule, next: Option<Word>) -> Option<&'static [Symbol]>
     ensures { option_map (λ way. way.now) result ≡ stands.way_at rule next }
 {

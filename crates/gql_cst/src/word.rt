@@ -18,6 +18,7 @@ fn number_word(number: &str) -> Word
 }
 
 /// The word of a token that is not ignored.
+#[inline(always)]
 pub(crate) fn word_of(token: &str) -> Word
     requires { 0 < length token.now }
     ensures { result ≡ spec.word_of token.now }

@@ -17,4 +17,5 @@ pub mod Leaves
 pub mod Unique
 pub mod Rooted
 pub mod Allowed
+pub mod FirstBytes
 pub mod Spelled

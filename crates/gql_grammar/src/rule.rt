@@ -92,6 +92,7 @@ pub enum Rule {
 
 impl Rule {
     /// The kind of the node that the rule makes, or None for a group, whose parts stand in the node around it.
+    #[inline(always)]
     pub fn kind(self) -> Option<SyntaxKind>
         ensures { result ≡ spec.kind_of self }
     {

@@ -1,6 +1,7 @@
 //! The words that tokens are.
 
-ghost use Rattle.std.specs.Prelude.{◌≡◌};
+ghost use Rattle.std.specs.Prelude.{◌≡◌, ◌<◌, length, if◌then◌else◌};
+ghost use Rattle.std.specs.Str.{bytes_eq};
 ghost use Rattle.gql_grammar.specs.bridge.Lengths as by_length;
 ghost use Rattle.gql_grammar.specs.Spelling as spec;
 
@@ -29,7 +30,7 @@ impl Word {
         }
     }
 
-    /// The word of a name. It is looked for among those of the name's length alone.
+    /// The word of a name. It is looked for among those of the name's length and first byte alone.
     pub fn of_name(name: &str) -> Word
         ensures { result ≡ spec.word_of_name name.now }
     {
@@ -58,83 +59,120 @@ fn word_of_two(name: &str) -> Word
 }
 
 /// The word of a name of four bytes.
+#[tactic(auto, using(crate::proofs::FirstBytes::other_first))]
 fn word_of_four(name: &str) -> Word
+    requires { 0 < length name.now }
     ensures { result ≡ by_length.word_of_four name.now }
 {
-    match name {
-        "ENUM" => Word::LocationWord,
-        "true" => Word::BooleanWord,
-        "null" => Word::NullWord,
-        "type" => Word::TypeWord,
-        "enum" => Word::EnumWord,
+    match name.as_bytes()[0] {
+        b'E' => one_word(name, "ENUM", Word::LocationWord),
+        b't' => two_words(name, "true", Word::BooleanWord, "type", Word::TypeWord),
+        b'n' => one_word(name, "null", Word::NullWord),
+        b'e' => one_word(name, "enum", Word::EnumWord),
         _ => Word::OtherName,
     }
 }
 
 /// The word of a name of five bytes.
+#[tactic(auto, using(crate::proofs::FirstBytes::other_first))]
 fn word_of_five(name: &str) -> Word
+    requires { 0 < length name.now }
     ensures { result ≡ by_length.word_of_five name.now }
 {
-    match name {
-        "QUERY" => Word::LocationWord,
-        "FIELD" => Word::LocationWord,
-        "UNION" => Word::LocationWord,
-        "query" => Word::OperationWord,
-        "false" => Word::BooleanWord,
-        "union" => Word::UnionWord,
-        "input" => Word::InputWord,
+    match name.as_bytes()[0] {
+        b'Q' => one_word(name, "QUERY", Word::LocationWord),
+        b'F' => one_word(name, "FIELD", Word::LocationWord),
+        b'U' => one_word(name, "UNION", Word::LocationWord),
+        b'q' => one_word(name, "query", Word::OperationWord),
+        b'f' => one_word(name, "false", Word::BooleanWord),
+        b'u' => one_word(name, "union", Word::UnionWord),
+        b'i' => one_word(name, "input", Word::InputWord),
         _ => Word::OtherName,
     }
 }
 
 /// The word of a name of six bytes.
+#[tactic(auto, using(crate::proofs::FirstBytes::other_first))]
 fn word_of_six(name: &str) -> Word
+    requires { 0 < length name.now }
     ensures { result ≡ by_length.word_of_six name.now }
 {
-    match name {
-        "SCHEMA" => Word::LocationWord,
-        "SCALAR" => Word::LocationWord,
-        "OBJECT" => Word::LocationWord,
-        "schema" => Word::SchemaWord,
-        "scalar" => Word::ScalarWord,
-        "extend" => Word::ExtendWord,
+    match name.as_bytes()[0] {
+        b'S' => two_words(
+            name,
+            "SCHEMA",
+            Word::LocationWord,
+            "SCALAR",
+            Word::LocationWord,
+        ),
+        b'O' => one_word(name, "OBJECT", Word::LocationWord),
+        b's' => two_words(name, "schema", Word::SchemaWord, "scalar", Word::ScalarWord),
+        b'e' => one_word(name, "extend", Word::ExtendWord),
         _ => Word::OtherName,
     }
 }
 
 /// The word of a name of eight bytes.
+#[tactic(auto, using(crate::proofs::FirstBytes::other_first))]
 fn word_of_eight(name: &str) -> Word
+    requires { 0 < length name.now }
     ensures { result ≡ by_length.word_of_eight name.now }
 {
-    match name {
-        "MUTATION" => Word::LocationWord,
-        "mutation" => Word::OperationWord,
-        "fragment" => Word::FragmentWord,
+    match name.as_bytes()[0] {
+        b'M' => one_word(name, "MUTATION", Word::LocationWord),
+        b'm' => one_word(name, "mutation", Word::OperationWord),
+        b'f' => one_word(name, "fragment", Word::FragmentWord),
         _ => Word::OtherName,
     }
 }
 
 /// The word of a name of nine bytes.
+#[tactic(auto, using(crate::proofs::FirstBytes::other_first))]
 fn word_of_nine(name: &str) -> Word
+    requires { 0 < length name.now }
     ensures { result ≡ by_length.word_of_nine name.now }
 {
-    match name {
-        "INTERFACE" => Word::LocationWord,
-        "interface" => Word::InterfaceWord,
-        "directive" => Word::DirectiveWord,
+    match name.as_bytes()[0] {
+        b'I' => one_word(name, "INTERFACE", Word::LocationWord),
+        b'i' => one_word(name, "interface", Word::InterfaceWord),
+        b'd' => one_word(name, "directive", Word::DirectiveWord),
         _ => Word::OtherName,
     }
 }
 
 /// The word of a name of ten bytes.
+#[tactic(auto, using(crate::proofs::FirstBytes::other_first))]
 fn word_of_ten(name: &str) -> Word
+    requires { 0 < length name.now }
     ensures { result ≡ by_length.word_of_ten name.now }
 {
-    match name {
-        "ENUM_VALUE" => Word::LocationWord,
-        "implements" => Word::ImplementsWord,
-        "repeatable" => Word::RepeatableWord,
+    match name.as_bytes()[0] {
+        b'E' => one_word(name, "ENUM_VALUE", Word::LocationWord),
+        b'i' => one_word(name, "implements", Word::ImplementsWord),
+        b'r' => one_word(name, "repeatable", Word::RepeatableWord),
         _ => Word::OtherName,
+    }
+}
+
+/// The word, if the name is spelled so.
+fn one_word(name: &str, spelling: &str, word: Word) -> Word
+    ensures { result ≡ (if bytes_eq name.now spelling.now then word else Word.OtherName) }
+{
+    if name == spelling {
+        word
+    } else {
+        Word::OtherName
+    }
+}
+
+/// The word of one or of the other spelling, if the name has one of the two.
+fn two_words(name: &str, one: &str, word_of_one: Word, other: &str, word_of_other: Word) -> Word
+    ensures { result ≡ (if bytes_eq name.now one.now then word_of_one else if bytes_eq name.now other.now then word_of_other else Word.OtherName) }
+{
+    if name == one {
+        word_of_one
+    } else {
+        one_word(name, other, word_of_other)
     }
 }
 

@@ -83,6 +83,7 @@ const DEFINITION_WORD: u64 = SCHEMA_WORD
 
 impl Rule {
     /// Whether the rule can begin with the word. No rule is without words.
+    #[inline(always)]
     pub fn starts(self, word: Word) -> bool
         ensures { result ≡ spec.starts self word }
     {
@@ -90,6 +91,7 @@ impl Rule {
     }
 
     /// The words that the rule can begin with.
+    #[inline(always)]
     fn first(self) -> u64
         ensures { result ≡ spec.first self }
     {

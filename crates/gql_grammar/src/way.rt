@@ -8,6 +8,7 @@ use crate::{Rule, Symbol, Word, definition, executable, extension, value};
 
 impl Rule {
     /// The symbols that the rule is written with where it begins with the word, or None where it cannot.
+    #[inline(always)]
     pub fn way(self, word: Word) -> Option<&'static [Symbol]>
         ensures { option_map (λ way. way.now) result ≡ spec.way self word }
     {
@@ -19,6 +20,7 @@ impl Rule {
     }
 
     /// The first way that can begin with the word, and the last where none before it can.
+    #[inline(never)]
     fn chosen(self, word: Word) -> &'static [Symbol]
         ensures { result.now ≡ spec.chosen_way self word }
     {

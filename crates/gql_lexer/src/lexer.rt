@@ -42,6 +42,7 @@ impl<'a> Lexer<'a> {
     /// text and after a fault.
     ///
     /// The faults are `BadCharacter`, `OpenString`, `BadEscape` and `BadNumber`.
+    #[inline(always)]
     pub fn next_token(&mut self) -> Option<Result<Token, CstError>>
         ensures end { IsNone result ↔ (self.old.place ≡ length self.old.text) }
         ensures ended { IfNone result (self.new ≡ self.old) }
