@@ -36,7 +36,7 @@ class Book:
         self.calls, self.laws = self.calls_of_crates(), self.laws_of_crates()
         self.types = sorted(node for node in self.all if node[0] == "item" and self.item(node).kind in SHOWN_TYPES)
         self.anchors = self.named()
-        self.rows = self.computed_rows()
+        self.rows, self.laws_on = self.computed_rows(), self.laws_by_definition()
 
     # Order.
 
@@ -233,6 +233,15 @@ class Book:
                 heads = [target for word in words for target in names.resolved(word) or [] if target and target[0] == "definition" and target in self.all]
                 if heads:
                     rows[heads[0]].append((fact, path))
+
+    def laws_by_definition(self):
+        """For each definition the laws whose clauses name it."""
+        found = collections.defaultdict(list)
+        for _, nodes in self.laws:
+            for node in nodes:
+                for target in sorted({target for clause in self.item(node).clauses for target in self.heads(node, clause)}, key=str):
+                    found[target].append(node)
+        return found
 
     # Numbers.
 

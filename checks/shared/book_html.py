@@ -56,6 +56,9 @@ td.n{text-align:right;font-variant-numeric:tabular-nums}
 """
 
 
+# How many laws are named beside a definition.
+MOST_LAWS = 6
+
 MARKS = re.compile(r"(?m)^( *)(?:(?:pattern|unfoldable|abbrev|pub) )+(?=\S)")
 
 
@@ -105,8 +108,21 @@ class Page:
         bridge = sum(len(made.names) for file in book.definitions.files.values() if file.module.startswith("bridge") for made in file.definitions)
         return [FIRST_PAGE.format(definitions=f"{definitions:,}", lines=f"{lines:,}", files=len(files), crates=len(crates), words=len(words),
                                   all_definitions=f"{all_definitions:,}", all_lines=f"{all_lines:,}", bridge=f"{bridge:,}",
-                                  kit=", ".join(f"<code>{html.escape(word)}</code>" for word in words), parts=self.parts_table(),
+                                  kit=", ".join(f"<code>{escaped(word)}</code>" for word in words), parts=self.parts_table(), first=self.first_definitions(),
                                   clause=self.call(ANSWER))]
+
+    def first_definitions(self):
+        """The definitions to begin with, each with what is said of it."""
+        rows = []
+        for crate, module, name in book_plan.FIRST:
+            found = self.book.definitions.found(f"Rattle.{crate}.specs.{module}.{name}")
+            if not found or found[0] != "definition" or (*found, name) not in self.book.anchors:
+                raise SystemExit(f"book: {crate}/{module} has no `{name}` any more, with which the first page begins: see FIRST in checks/shared/book_plan.py")
+            made = self.book.made(found)
+            member = next((member for member in made.members if name in member.names), made)
+            said = prose(member.comment or made.comment) or prose(self.book.definitions.files[found[1]].head_comment)
+            rows.append(f"<li><a href=#{self.book.anchors[(*found, name)]}><code>{escaped(name)}</code></a>: {inline(lowered(said)).rstrip('.')}")
+        return "<ol>" + "".join(rows) + "</ol>"
 
     def parts_table(self):
         """For each part how many definitions it has, and how many of them are below `answer`."""
@@ -123,7 +139,7 @@ class Page:
                 totals[part][1] += below
                 totals[part][2] += lines
         for (sign, title), (count, below, lines) in totals.items():
-            rows.append(f"<tr><td><a href=#{anchor_of_section(sign)}>{book_plan.shown_sign(sign)}{html.escape(title)}</a><td class=n>{count}<td class=n>{below}<td class=n>{lines}</tr>")
+            rows.append(f"<tr><td><a href=#{anchor_of_section(sign)}>{book_plan.shown_sign(sign)}{escaped(title)}</a><td class=n>{count}<td class=n>{below}<td class=n>{lines}</tr>")
         return "<table><tr><th>Part<th>Definitions<th>Below <code>answer</code><th>Their lines</tr>" + "".join(rows) + "</table>"
 
     def contents(self):
@@ -136,14 +152,14 @@ class Page:
                 out.append("</ul>")
                 depths -= 1
             count = sum(self.book.count({("definition", path, number) for number in numbers})[0] for path, numbers in self.book.files.get(sign, []))
-            out.append(f"<li><a href=#{anchor_of_section(sign)}>{book_plan.shown_sign(sign)}{html.escape(title)}</a>" + (f" <span>{count}</span>" if count else ""))
+            out.append(f"<li><a href=#{anchor_of_section(sign)}>{book_plan.shown_sign(sign)}{escaped(title)}</a>" + (f" <span>{count}</span>" if count else ""))
         return out + ["</ul>" * depths, "</div>"]
 
     # Sections.
 
     def section(self, sign, title, depth):
         level = min(depth + 1, 5)
-        out = [f"<h{level} id={anchor_of_section(sign)}>{book_plan.shown_sign(sign)}{html.escape(title)}</h{level}>"]
+        out = [f"<h{level} id={anchor_of_section(sign)}>{book_plan.shown_sign(sign)}{escaped(title)}</h{level}>"]
         if self.notes.get(sign):
             out.append(f"<details><summary>What is ours here ({len(self.notes[sign])})</summary><ul>" + "".join(f"<li>{note}" for note in self.notes[sign]) + "</ul></details>")
         out += self.calls_of(sign)
@@ -170,9 +186,9 @@ class Page:
         book = self.book
         item = node[4] if node[0] == "method" else book.item(node)
         module = book.crates.modules[node[1], node[2]]
-        lines = [html.escape(re.sub(r"\s+", " ", item.head).strip())]
+        lines = [escaped(re.sub(r"\s+", " ", item.head).strip())]
         for clause, text, links in book.clauses(node):
-            lines.append(f"  {clause.kind} <i>{html.escape(clause.name)}</i> {{ {self.linked(text, clause.start, links).strip()} }}")
+            lines.append(f"  {clause.kind} <i>{escaped(clause.name)}</i> {{ {self.linked(text, clause.start, links).strip()} }}")
         said = documentation(module.source.text, item.start)
         return f"<div class=d id={book.anchors[node]}>" + (f"<p>{inline(said)}</p>" if said else "") + f"<pre>{chr(10).join(lines)}</pre></div>"
 
@@ -180,7 +196,7 @@ class Page:
         """A file's definitions."""
         file = self.book.definitions.files[path]
         said = prose(file.head_comment)
-        out = [f"<h6>{html.escape(title_of(file.module))}</h6><p class=path>{file.crate}/specs/{file.module.replace('.', '/')}.antt</p>"]
+        out = [f"<h6>{escaped(title_of(file.module))}</h6><p class=path>{file.crate}/specs/{file.module.replace('.', '/')}.antt</p>"]
         if said:
             out.append(f"<p class=lead>{inline(said)}</p>")
         blocks = []
@@ -201,8 +217,12 @@ class Page:
             shown += f"<p>{inline(said)}</p>"
         shown += f"<pre>{self.code(node, made, new_blocks)}</pre>"
         for fact, origin in book.rows.get(node, []):
-            where = f" (<a href=#{book.anchors[origin]}>{html.escape(origin[3])}</a>)" if isinstance(origin, tuple) else ""
-            shown += f"<p class=row>Computed: <code>{html.escape(fact)}</code>{where}</p>"
+            where = f" (<a href=#{book.anchors[origin]}>{escaped(origin[3])}</a>)" if isinstance(origin, tuple) else ""
+            shown += f"<p class=row>Computed: <code>{escaped(fact)}</code>{where}</p>"
+        laws = book.laws_on.get(node, [])
+        if laws:
+            named = ", ".join(f"<a href=#{book.anchors[law]}>{escaped(law[3])}</a>" for law in laws[:MOST_LAWS])
+            shown += f"<p class=row>Laws: {named}{', ..' if len(laws) > MOST_LAWS else ''}</p>"
         return shown + "</div>"
 
     def user_of(self, node):
@@ -214,7 +234,7 @@ class Page:
             return ""
         name = self.book.made(parent).names[0] if parent[0] == "definition" else parent[3]
         anchor = self.book.anchors.get((*parent, name) if parent[0] == "definition" else parent)
-        return f"<p class=up>for <a href=#{anchor}>{html.escape(name)}</a></p>" if anchor else ""
+        return f"<p class=up>for <a href=#{anchor}>{escaped(name)}</a></p>" if anchor else ""
 
     def code(self, node, made, new_blocks):
         """The text of a definition, each name linked to what it stands for; the marks of the language, as `pub`, are left out."""
@@ -222,12 +242,12 @@ class Page:
         links = [(word.start, word.end, anchor, word.text) for word, anchor in book.links_of(node)]
         own = {book.anchors[(*node, name)] for name in made.names}
         text = book.definitions.files[node[1]].text
-        spots = {start: f"<a href=#{anchor}>{html.escape(shown)}</a>" for start, end, anchor, shown in links if anchor not in own}
+        spots = {start: f"<a href=#{anchor}>{escaped(shown)}</a>" for start, end, anchor, shown in links if anchor not in own}
         ends = {start: end for start, end, _, _ in links}
         for member in made.members or [made]:
             begin = text.index(member.names[0], member.start)
             place = f" id={book.anchors[(*node, member.names[0])]}" if made.members and member is not made.members[0] else ""
-            spots[begin] = f"<b{place}>{html.escape(member.names[0])}</b>"
+            spots[begin] = f"<b{place}>{escaped(member.names[0])}</b>"
             ends[begin] = begin + len(member.names[0])
         heads = ""
         for block in new_blocks:
@@ -237,7 +257,7 @@ class Page:
         return heads + MARKS.sub(r"\1", shown)
 
     def linked(self, text, start, links):
-        spots = {word.start: f"<a href=#{anchor}>{html.escape(word.text)}</a>" for word, anchor in links}
+        spots = {word.start: f"<a href=#{anchor}>{escaped(word.text)}</a>" for word, anchor in links}
         return re.sub(r"\s+", " ", self.filled(text, 0, len(text), {at - start: shown for at, shown in spots.items()}, {word.start - start: word.end - start for word, _ in links}))
 
     @staticmethod
@@ -245,10 +265,10 @@ class Page:
         out, at = [], start
         for place in sorted(place for place in spots if start <= place < end):
             if place >= at:
-                out.append(html.escape(text[at:place]))
+                out.append(escaped(text[at:place]))
                 out.append(spots[place])
                 at = ends[place]
-        return "".join(out) + html.escape(text[at:end])
+        return "".join(out) + escaped(text[at:end])
 
     def laws(self):
         """What the laws say, crate by crate."""
@@ -286,7 +306,7 @@ class Page:
         text = re.sub(r"\n\s*\n+", "\n", text.strip())
         text = re.sub(r"(?m)\{\s*\}", "{}", text)
         said = documentation(module.source.text, item.start)
-        shown = html.escape(text)
+        shown = escaped(text)
         names = {node[3]: book.anchors[node]}
         for name, anchor in self.type_names(node, text):
             names.setdefault(name, anchor)
@@ -316,9 +336,13 @@ class Page:
             else:
                 entries.append((node[3], anchor, node[1]))
         counts = collections.Counter(name for name, _, _ in entries)
-        shown = [f"<div><a href=#{anchor}>{html.escape(name)}</a>" + (f" <small>{crate}</small>" if counts[name] > 1 else "") + "</div>"
+        shown = [f"<div><a href=#{anchor}>{escaped(name)}</a>" + (f" <small>{crate}</small>" if counts[name] > 1 else "") + "</div>"
                  for name, anchor, crate in sorted(entries, key=lambda entry: (entry[0].lower(), entry[0], entry[2], entry[1]))]
         return ["<h2 id=index>Index of names</h2><div class=index>", *shown, "</div>"]
+
+
+def escaped(text):
+    return html.escape(text, quote=False)
 
 
 def anchor_of_section(sign):
@@ -336,6 +360,12 @@ def prose(comment):
     lines = [re.sub(r"^\s*-- ?", "", line) for line in comment.splitlines()]
     text = " ".join(line.strip() for line in lines if not re.fullmatch(r"\s*-*\s*", line))
     return text[:1].upper() + text[1:]
+
+
+def lowered(said):
+    """A sentence as it stands behind a colon: its first word is small, if it is a common word."""
+    word = said.split()[0]
+    return said[:1].lower() + said[1:] if word[1:].islower() or len(word) == 1 else said
 
 
 def documentation(text, start):
@@ -357,7 +387,7 @@ def documentation(text, start):
 
 def inline(text):
     """A line of Markdown as HTML: code, links."""
-    shown = html.escape(text, quote=False)
+    shown = escaped(text)
     shown = re.sub(r"`([^`]+)`", r"<code>\1</code>", shown)
     shown = re.sub(r"\[([^\]]+)\]\([^)]*\)", r"\1", shown)
     return re.sub(r"\[(<code>[^<]*</code>)\]", r"\1", shown)
@@ -386,6 +416,9 @@ order in which they build on each other. Each name leads to where it is defined.
 <code>docs/READING_CONTRACTS.md</code> explains the notation in five minutes. If a definition says something else than the standard, and nothing here says so,
 that is a fault of ours which no proof can show.</p>
 {parts}
+<h3>Where to begin</h3>
+<p>These say the most. Each rests on what stands below it.</p>
+{first}
 <h3 id=clauses>The clauses of <code>answer</code></h3>
 {clause}
 <details><summary>The toolchain's words below <code>answer</code> ({words})</summary><p>{kit}. <code>rt lemma NAME</code> prints each.</p></details>

@@ -271,6 +271,21 @@ FILES = {
     "gql_request/Meaning": "commands",
 }
 
+# The definitions that the first page begins with, by crate, module and name.
+FIRST = [
+    ("gql_engine", "Answered", "Answered"),
+    ("gql_engine", "AnswerError", "HasCause"),
+    ("gql_engine", "Ready", "Ready"),
+    ("gql_parser", "SchemaText", "SchemaText"),
+    ("gql_parser", "DocumentText", "DocumentText"),
+    ("gql_grammar", "Sentence", "Sentence"),
+    ("gql_coerce", "Variables", "coerced_variables"),
+    ("gql_resolvers", "Execute", "execute"),
+    ("gql_resolvers", "Reached", "Reaches"),
+    ("gql_resolvers", "Explained", "IsExplainedBy"),
+    ("jb_read", "Spelling", "JsonText"),
+]
+
 # Where the decisions stand that docs/DECISIONS.md has under each heading.
 DECISIONS = {
     "Values": "json-values",
