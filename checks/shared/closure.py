@@ -29,7 +29,7 @@ class Graph:
         self.definitions, self.crates = Definitions(root), Crates(root)
         self.uses = {path: Uses(self.definitions, path) for path in self.definitions.files}
         self.kit = collections.defaultdict(set)
-        self.edges, self.unknown = {}, []
+        self.edges, self.unknown, self.known_names = {}, [], {}
         self.impls, self.impls_by_type, self.impls_by_trait = {}, collections.defaultdict(list), collections.defaultdict(list)
         for (crate, path), module in self.crates.modules.items():
             for item in module.items:
@@ -185,8 +185,6 @@ class Graph:
 
     def names_of(self, module, imports):
         key = (module.source.path, tuple(item.start for item in imports))
-        if not hasattr(self, "known_names"):
-            self.known_names = {}
         if key not in self.known_names:
             top = [item for item in module.source.items if item.kind == "ghost use"] + [item for item in module.items if item.kind == "ghost use"]
             lines = [import_of(item.head, item.start) for item in [*top, *imports]]

@@ -4,7 +4,8 @@ from shared.scopes import Scope, closer, first
 from shared.sources import ROOT
 
 # Names that the language has by itself, and some of the Prelude that stand for constructors.
-BUILT_IN = {"cc", "omega", "search", "grind", "rw", "simp", "assumption", "hlevel", "⊥", "absurd", "¬", "¬◌", "Unit", "tt", "Dec", "yes", "no", "refl", "ℓ", "×", "Prim", "package", "result"}
+BUILT_IN = {"⊥", "absurd", "¬", "¬◌", "×", "Unit", "tt", "Dec", "yes", "no", "refl", "ℓ", "Prim", "package", "result"}
+BUILT_IN |= {"cc", "omega", "search", "grind", "rw", "simp", "assumption", "hlevel"}
 MATCHED = {"true", "false", "zero", "suc", "[]", "∷", "None", "Some", "Ok", "Err", "pos", "negsuc", "inl", "inr", "tt", "refl", "yes", "no", "Less", "Equal",
            "Greater", "Continue", "Break", "alloc_error"}
 
@@ -14,7 +15,7 @@ class Definitions:
 
     def __init__(self, root=ROOT):
         self.root = root
-        self.files, self.module_files, self.owners = {}, {}, {}
+        self.files, self.module_files = {}, {}
         self.crates = [folder.name for folder in sorted((root / "crates").iterdir()) if (folder / "src").is_dir()]
         for crate in self.crates:
             folder = root / "crates" / crate / "specs"

@@ -84,42 +84,51 @@ class Source:
         return end
 
     def item(self, match, end, attributes):
+        """An item whose head was found, and the place behind it."""
         public = (match["public"] or "").strip() == "pub"
-        begin = match.start()
-        if match["use"]:
-            stop = self.code.index(";", match.end()) + 1
-            kind = "ghost use" if match["use"].startswith("ghost") else "use"
-            return Item(kind, "", public, attributes, begin, stop, self.text[begin:stop]), stop
         if match["fn"]:
             return self.function(match, public, attributes, end)
-        name = match["mod_name"] or match["type_name"] or match["alias_name"] or match["ghost"] or match["macro_name"] or ""
-        kind = "mod" if match["mod"] else match["type"] or ("impl" if match["impl"] else match["alias"] or ("ghost" if match["ghost"] else "macro"))
-        place, depth = match.end() - (1 if match["mod"] else 0), 0
+        if match["use"]:
+            stop = self.code.index(";", match.end())
+            kind = "ghost use" if match["use"].startswith("ghost") else "use"
+            return Item(kind, "", public, attributes, match.start(), stop + 1, self.text[match.start() : stop + 1]), stop + 1
+        if match["ghost"]:
+            return self.ghost(match, public, attributes, end)
+        name = match["mod_name"] or match["type_name"] or match["alias_name"] or match["macro_name"] or ""
+        kind = "mod" if match["mod"] else match["type"] or ("impl" if match["impl"] else match["alias"] or "macro")
+        since = match.end() - (1 if match["mod"] else 0)
+        place = self.first(since, end, ";" if kind in ("type", "const", "static") else ";{")
+        if place == end or self.code[place] == ";":
+            return Item(kind, name, public, attributes, match.start(), place + 1, self.text[match.start() : place], (match.end(), place)), place + 1
+        stop = closing_brace(self.code, place)
+        item = Item(kind, name, public, attributes, match.start(), stop + 1, self.text[match.start() : place], (place + 1, stop))
+        if kind in ("mod", "impl", "trait", "struct"):
+            item.children = self.read(place + 1, stop)
+        return item, stop + 1
+
+    def ghost(self, match, public, attributes, end):
+        """A ghost member or a ghost field: it reaches to the mark behind its braces."""
+        place = self.first(match.end(), end, ";,{")
+        if place < end and self.code[place] == "{":
+            place = self.first(closing_brace(self.code, place) + 1, end, ";,}")
+        return Item("ghost", match["ghost"], public, attributes, match.start(), place + 1, self.text[match.start() : place], (match.end(), place)), place + 1
+
+    def first(self, place, end, marks):
+        """The first of some marks that stands in no brackets, or the end."""
+        depth = 0
         while place < end:
             character = self.code[place]
+            if depth == 0 and character in marks:
+                return place
             if character in "([":
                 depth += 1
             elif character in ")]":
                 depth -= 1
-            elif character == ";" and depth == 0:
-                return Item(kind, name, public, attributes, begin, place + 1, self.text[begin:place], (match.end(), place)), place + 1
-            elif character == "," and depth == 0 and kind == "ghost":
-                return Item(kind, name, public, attributes, begin, place + 1, self.text[begin:place], (match.end(), place)), place + 1
-            elif character == "{" and depth == 0 and kind not in ("type", "const", "static"):
-                stop = closing_brace(self.code, place)
-                if kind == "ghost" or (kind in ("struct",) and self.code[place - 1] == "="):
-                    place = stop + 1
-                    if place < end and re.match(r"\s*[;,]", self.code[place:]):
-                        place = self.code.index(self.code[place:].lstrip()[0], place)
-                    return Item(kind, name, public, attributes, begin, place + 1, self.text[begin:place], (match.end(), place)), place + 1
-                item = Item(kind, name, public, attributes, begin, stop + 1, self.text[begin:place], (place + 1, stop))
-                if kind in ("mod", "impl", "trait", "struct"):
-                    item.children = self.read(place + 1, stop)
-                return item, stop + 1
             place += 1
-        return Item(kind, name, public, attributes, begin, end, self.text[begin:end], (match.end(), end)), end
+        return end
 
     def function(self, match, public, attributes, end):
+        """A function with its clauses, each of which stands in braces before its body."""
         place = since = match.end()
         depth, clauses, head = 0, [], None
         while place < end:
