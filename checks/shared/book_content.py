@@ -135,7 +135,8 @@ class Book:
             if self.graph.is_front(crate):
                 nodes, laws = [], self.graph.laws(crate)
                 public = {("item", *key) for key in self.crates.public_items(crate) if key[0] == crate}
-                for node in sorted(public, key=str):
+                page = next(source.text for source in self.crates.sources.values() if source.crate == crate and source.path.stem in ("lib", "main"))
+                for node in sorted(public, key=lambda node: (page.find(node[3]) % len(page), str(node))):
                     if self.item(node).kind == "fn" and node not in laws:
                         nodes.append(node)
                     for impl in self.graph.impls_by_type.get(node, []):

@@ -95,7 +95,7 @@ class Page:
         return "<table><tr><th>Part<th>Definitions<th>Below <code>answer</code><th>Their lines</tr>" + "".join(rows) + "</table>"
 
     def contents(self):
-        out, depths = ["<h2 id=contents>Contents</h2><div class=toc>"], 0
+        out, depths = ["<h2 id=contents>Contents</h2><p>Behind each section stands how many definitions it has, and how many of these are below <code>answer</code>.</p><div class=toc>"], 0
         for sign, title, depth in self.sections_with_content():
             while depths < depth:
                 out.append("<ul>")
@@ -103,8 +103,10 @@ class Page:
             while depths > depth:
                 out.append("</ul>")
                 depths -= 1
-            count = sum(self.book.count({("definition", path, number) for number in numbers})[0] for path, numbers in self.book.files.get(sign, []))
-            out.append(f"<li><a href=#{anchor_of_section(sign)}>{book_plan.shown_sign(sign)}{escaped(title)}</a>" + (f" <span>{count}</span>" if count else ""))
+            nodes = {("definition", path, number) for path, numbers in self.book.files.get(sign, []) for number in numbers}
+            count, below = self.book.count(nodes)[0], self.book.count(nodes & self.book.under_answer)[0]
+            counts = f" <span>{count}</span>" + (f" <span class=b>{below}</span>" if below else "") if count else ""
+            out.append(f"<li><a href=#{anchor_of_section(sign)}>{book_plan.shown_sign(sign)}{escaped(title)}</a>{counts}")
         return out + ["</ul>" * depths, "</div>"]
 
     # Sections.
@@ -142,7 +144,8 @@ class Page:
         for clause, text, links in book.clauses(node):
             lines.append(f"  {clause.kind} <i>{escaped(clause.name)}</i> {{ {self.linked(text, clause.start, links).strip()} }}")
         said = documentation(module.source.text, item.start)
-        return f"<div class=d id={book.anchors[node]}>" + (f"<p>{inline(said)}</p>" if said else "") + f"<pre>{chr(10).join(lines)}</pre></div>"
+        name = f"<p class=name>{escaped(node[3])}</p>" if node[0] == "method" else ""
+        return f"<div class=d id={book.anchors[node]}>{name}" + (f"<p>{inline(said)}</p>" if said else "") + f"<pre>{chr(10).join(lines)}</pre></div>"
 
     def file(self, path, numbers):
         """A file's definitions."""
@@ -323,7 +326,7 @@ def lowered(said):
 def documentation(text, start):
     """The first paragraph of the documentation above an item."""
     lines = []
-    for line in reversed(text[:start].splitlines()):
+    for line in reversed(text[:start].rstrip(" ").splitlines()):
         bare = line.strip()
         if bare.startswith("///"):
             lines.append(bare[3:].strip())

@@ -26,6 +26,7 @@ h6{font:600 .95rem/1.4 system-ui,sans-serif;margin:2rem 0 0}
 .d p.up,.d p.row{font:.78rem/1.5 system-ui,sans-serif;color:var(--soft)}
 .d p.up{float:right;margin:.25rem .5rem 0 1.2rem}
 .d p.row code{font-size:.82rem}
+.d p.name{font:600 .85rem/1.6 ui-monospace,monospace;color:var(--own)}
 pre{margin:0;padding:.35rem .6rem;background:var(--code);border-radius:4px;font:14px/1.5 "DejaVu Sans Mono",ui-monospace,Menlo,Consolas,monospace;white-space:pre-wrap;overflow-wrap:anywhere;tab-size:2}
 code{font:.86em ui-monospace,Menlo,Consolas,"DejaVu Sans Mono",monospace}
 pre b{color:var(--own);font-weight:600}
@@ -39,6 +40,7 @@ td.n{text-align:right;font-variant-numeric:tabular-nums}
 .toc ul{list-style:none;padding-left:1.1rem;margin:0}
 .toc>ul{padding-left:0}
 .toc span{color:var(--soft);font-size:.85rem}
+.toc span.b{color:var(--mark);margin-left:.3rem}
 .index{columns:17rem;font:.85rem/1.7 ui-monospace,monospace;column-gap:1.5rem}
 .index div{break-inside:avoid;overflow-wrap:anywhere}
 .key{display:inline-block;width:.9rem;height:.9rem;background:var(--mark);vertical-align:-.1rem;margin-right:.3rem}
