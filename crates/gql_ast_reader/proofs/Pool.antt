@@ -38,6 +38,14 @@ get-last : {T : Type 0} (xs : List T) (x : T) → slice_get (xs ++ x ∷ []) (le
 get-last [] x = refl
 get-last (y ∷ ys) x = get-last ys x
 
+set-last : {T : Type 0} (xs : List T) (x y : T) → slice_set (xs ++ x ∷ []) (length xs) y ≡ xs ++ y ∷ []
+set-last [] x y = refl
+set-last (z ∷ xs) x y = ap (λ l. z ∷ l) (set-last xs x y)
+
+-- the one that came behind these begins in place
+pub last-begun : {T : Type 0} (xs ys : List T) (x y z : T) (i : ℕ) → ys ≡ xs ++ x ∷ [] → i ≡ length xs → y ≡ z → slice_set ys i y ≡ xs ++ z ∷ []
+last-begun xs ys x y z i behind at is = (λ k. slice_set (behind k) (at k) (is k)) ∙ set-last xs x z
+
 -- a row begins among these, or behind them
 pub begun-in : (old new : OpenRows) (k : SyntaxKind) (r : OpenRow) → old.depth < length old.rows.items → r ≡ empty k → new.depth ≡ suc old.depth
     → new.rows.items ≡ slice_set old.rows.items old.depth r → Begins k old new

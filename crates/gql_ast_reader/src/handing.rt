@@ -8,6 +8,7 @@ use gql_ast_base::{Memory, Source, SyntaxKind};
 use std::alloc::Global;
 
 /// One more row, with nothing in it.
+#[inline(never)]
 pub(crate) fn push_row(
     rows: &mut Vec<OpenRow>,
     alloc: Global,
@@ -17,7 +18,10 @@ pub(crate) fn push_row(
     ensures len { OnOk result (vec_len rows.new ≡ vec_len rows.old + 1) }
     ensures stay { vec_len rows.old ≤ vec_len rows.new }
 {
-    rows.push(OpenRow::new(alloc, kind))?;
+    rows.push(OpenRow::new(alloc))?;
+    if let Some(row) = rows.last_mut() {
+        row.begin(alloc, kind);
+    }
     Ok(())
 }
 

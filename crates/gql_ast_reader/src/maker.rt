@@ -33,7 +33,7 @@ impl<'t, K: Told> Maker<'t, K> {
         requires file { source.file_id ≡ K.file }
         ensures { IfOk result (λ maker. Stands K.text K.file maker.source maker.rows (whole_text [] ∷ []) []) }
     {
-        let mut rows = OpenRows::new(source.alloc);
+        let mut rows = OpenRows::new(source.alloc)?;
         rows.begin(source.alloc, SyntaxKind::Document)?;
         Ok(Maker {
             source,

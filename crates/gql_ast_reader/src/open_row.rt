@@ -49,19 +49,19 @@ fn span(file_id: FileId, start: Option<usize>, end: Option<usize>) -> Option<Sou
 }
 
 impl OpenRow {
-    /// A node of the kind begins.
-    pub(crate) fn new(alloc: Global, kind: SyntaxKind) -> OpenRow
-        ensures { result ≡ empty kind }
+    /// A row with nothing in it.
+    pub(crate) fn new(alloc: Global) -> OpenRow
+        ensures { result ≡ empty SyntaxKind.Token }
     {
         OpenRow {
-            kind,
-            row: Row::new(alloc, kind),
+            kind: SyntaxKind::Token,
+            row: Row::new(alloc),
             start: None,
             end: None,
         }
     }
 
-    /// A node of the kind begins, in a row that was used before.
+    /// A node of the kind begins, in a row that may have been used before.
     pub(crate) fn begin(&mut self, alloc: Global, kind: SyntaxKind)
         ensures { self.new ≡ empty kind }
     {

@@ -1,6 +1,6 @@
 //! The open nodes of a text.
 
-ghost use Rattle.std.specs.Prelude.{◌≡◌, ℕ, ◌≤◌, List, [], ◌∷◌, None, OnOk, vec_len};
+ghost use Rattle.std.specs.Prelude.{◌≡◌, ℕ, ◌≤◌, List, [], ◌∷◌, None, IfOk, OnOk, vec_len};
 ghost use Rattle.gql_source.specs.declared.file_id.FileId.{FileId};
 ghost use Rattle.gql_cst.specs.Forest.{row_of};
 ghost use Rattle.gql_ast.specs.Documents.{definition_of};
@@ -26,17 +26,20 @@ pub(crate) struct OpenRows {
     ghost within: { depth ≤ vec_len rows },
 }
 
+/// For how many nodes there is room from the beginning. Few texts have more open at once, and a row is large to move.
+const ROOM: usize = 16;
+
 impl OpenRows {
     ghost use Rattle.gql_ast_reader.specs.bridge.Stand.{token_child, Keeps, Grows, Wraps, Ends, Begins};
 
     /// No node is open.
-    pub(crate) fn new(alloc: Global) -> OpenRows
-        ensures { (text : List ℕ) (file : FileId) → Keeps text file result [] }
+    pub(crate) fn new(alloc: Global) -> Result<OpenRows, Memory>
+        ensures { IfOk result (λ rows. (text : List ℕ) (file : FileId) → Keeps text file rows []) }
     {
-        OpenRows {
-            rows: Vec::new(alloc),
+        Ok(OpenRows {
+            rows: Vec::with_capacity(alloc, ROOM)?,
             depth: 0,
-        }
+        })
     }
 
     /// A node of the kind begins.

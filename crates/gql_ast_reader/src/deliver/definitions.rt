@@ -65,7 +65,7 @@ pub(crate) fn deliver_definition(
     ensures { OnOk result (outer.new ≡ taking.taken source.now.text.now source.now.file_id outer.old (part.Item (item.Definition (spec.own_defined row.old.own)))) }
 {
     let found = row.own.take_defined();
-    outer.own.take_in_definition(found)
+    outer.own.take_in_definition(source.alloc, found)
 }
 
 /// An operation. `Err` only where memory runs out.

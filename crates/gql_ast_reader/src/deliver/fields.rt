@@ -23,7 +23,7 @@ pub(crate) fn deliver_variable(
     ensures { OnOk result (outer.new ≡ taking.taken source.now.text.now source.now.file_id outer.old (part.Item (item.Variable (spec.variable_made source.now.text.now source.now.file_id row.old location)))) }
 {
     let found = make_variable(source, row, location)?;
-    outer.own.take_in_variable(found)
+    outer.own.take_in_variable(source.alloc, found)
 }
 
 /// An argument of a field or a directive, or a field of an input object type. `Err` only where memory runs out.
@@ -36,7 +36,7 @@ pub(crate) fn deliver_input(
     ensures { OnOk result (outer.new ≡ taking.taken source.now.text.now source.now.file_id outer.old (part.Item (item.Input (spec.input_made source.now.text.now source.now.file_id row.old location)))) }
 {
     let found = make_input(source, row, location)?;
-    outer.own.take_in_input(found)
+    outer.own.take_in_input(source.alloc, found)
 }
 
 /// A field of an object type or an interface type. `Err` only where memory runs out.
@@ -49,7 +49,7 @@ pub(crate) fn deliver_field_definition(
     ensures { OnOk result (outer.new ≡ taking.taken source.now.text.now source.now.file_id outer.old (part.Item (item.Field (spec.field_definition_made source.now.text.now source.now.file_id row.old location)))) }
 {
     let found = make_field_definition(source, row, location)?;
-    outer.own.take_in_field(found)
+    outer.own.take_in_field(source.alloc, found)
 }
 
 /// A value of an enum type. `Err` only where memory runs out.
@@ -62,5 +62,5 @@ pub(crate) fn deliver_enum_value(
     ensures { OnOk result (outer.new ≡ taking.taken source.now.text.now source.now.file_id outer.old (part.Item (item.EnumValue (spec.enum_value_made source.now.text.now source.now.file_id row.old location)))) }
 {
     let found = make_enum_value(source, row, location)?;
-    outer.own.take_in_enum_value(found)
+    outer.own.take_in_enum_value(source.alloc, found)
 }

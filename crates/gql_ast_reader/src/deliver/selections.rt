@@ -26,7 +26,7 @@ pub(crate) fn deliver_argument(
     ensures { OnOk result (outer.new ≡ taking.taken source.now.text.now source.now.file_id outer.old (part.Item (item.Argument (spec.argument_made source.now.text.now source.now.file_id row.old location)))) }
 {
     let found = make_argument(source, row, location)?;
-    outer.own.take_in_argument(found)
+    outer.own.take_in_argument(source.alloc, found)
 }
 
 /// A directive. `Err` only where memory runs out.
@@ -39,7 +39,7 @@ pub(crate) fn deliver_directive(
     ensures { OnOk result (outer.new ≡ taking.taken source.now.text.now source.now.file_id outer.old (part.Item (item.Directive (spec.directive_made source.now.text.now source.now.file_id row.old location)))) }
 {
     let found = make_directive(source, row, location)?;
-    outer.own.take_in_directive(found)
+    outer.own.take_in_directive(source.alloc, found)
 }
 
 /// A field, as the way to select. `Err` only where memory runs out.
@@ -93,5 +93,5 @@ pub(crate) fn deliver_selection(
     ensures { OnOk result (outer.new ≡ taking.taken source.now.text.now source.now.file_id outer.old (part.Item (item.Selection (spec.own_choice row.old.own)))) }
 {
     let found = row.own.take_choice();
-    outer.own.take_in_selection(found)
+    outer.own.take_in_selection(source.alloc, found)
 }

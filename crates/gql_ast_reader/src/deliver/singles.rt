@@ -75,5 +75,5 @@ pub(crate) fn deliver_root_operation(
     ensures { OnOk result (outer.new ≡ taking.taken source.now.text.now source.now.file_id outer.old (part.RootOperation (spec.root_operation_made source.now.text.now source.now.file_id row.now))) }
 {
     let found = make_root_operation(source, row)?;
-    add(&mut outer.root_operations, found)
+    add(&mut outer.root_operations, source.alloc, found)
 }

@@ -23,7 +23,9 @@ pub(crate) fn deliver_value(
 ) -> Result<(), Memory>
     ensures { OnOk result (outer.new ≡ taking.taken source.now.text.now source.now.file_id outer.old (part.Item (item.Value (spec.value_made row.old location)))) }
 {
-    outer.own.take_in_value(make_value(row, location))
+    outer
+        .own
+        .take_in_value(source.alloc, make_value(row, location))
 }
 
 /// A boolean value, as the content of a value.
@@ -67,5 +69,5 @@ pub(crate) fn deliver_pair(
     ensures { OnOk result (outer.new ≡ taking.taken source.now.text.now source.now.file_id outer.old (part.Item (item.Pair (spec.pair_made source.now.text.now source.now.file_id row.old)))) }
 {
     let found = make_pair(source, row)?;
-    outer.own.take_in_pair(found)
+    outer.own.take_in_pair(source.alloc, found)
 }

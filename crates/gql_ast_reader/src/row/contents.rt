@@ -108,5 +108,5 @@ pub(crate) fn add_name(
     ensures { OnOk result (list.new ≡ taking.added list.old (taking.name_named source.now.text.now source.now.file_id role place)) }
 {
     let found = name_named(source, role, place)?;
-    add(list, found)
+    add(list, source.alloc, found)
 }

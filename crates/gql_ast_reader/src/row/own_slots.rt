@@ -3,6 +3,7 @@
 ghost use Rattle.std.specs.Prelude.{◌≡◌, OnOk};
 ghost use Rattle.gql_ast_reader.specs.bridge.Taking as taking;
 ghost use Rattle.gql_ast_reader.specs.bridge.Fresh as fresh;
+ghost use Rattle.gql_ast_reader.specs.declared.row.Own.TheVariants as own;
 
 use crate::part::Role;
 use crate::place::Place;
@@ -13,17 +14,51 @@ use jb_text::{Listed, Memory};
 use std::alloc::Global;
 
 impl Own {
-    /// What a node of the kind keeps that has just begun.
-    pub(crate) fn new(alloc: Global, kind: SyntaxKind) -> Own
-        ensures { result ≡ fresh.fresh_own kind }
-    {
-        let mut own = Own::Nothing;
-        own.begin(alloc, kind);
-        own
-    }
-
     /// Makes it what a node of the kind keeps that has just begun. What it held goes.
     pub(crate) fn begin(&mut self, alloc: Global, kind: SyntaxKind)
+        ensures { self.new ≡ fresh.fresh_own kind }
+    {
+        match kind {
+            SyntaxKind::Value
+            | SyntaxKind::Description
+            | SyntaxKind::Argument
+            | SyntaxKind::ObjectField
+            | SyntaxKind::DefaultValue
+            | SyntaxKind::Selection
+            | SyntaxKind::Definition
+            | SyntaxKind::Arguments
+            | SyntaxKind::Directives
+            | SyntaxKind::SelectionSet
+            | SyntaxKind::ListValue
+            | SyntaxKind::ObjectValue
+            | SyntaxKind::VariableDefinitions
+            | SyntaxKind::ArgumentsDefinition
+            | SyntaxKind::InputFieldsDefinition
+            | SyntaxKind::FieldsDefinition
+            | SyntaxKind::EnumValuesDefinition
+            | SyntaxKind::ImplementsInterfaces
+            | SyntaxKind::UnionMemberTypes
+            | SyntaxKind::Document => self.begin_kept(alloc, kind),
+            // Most nodes come here, and most of the rows that they use again kept nothing of their own before.
+            _ => {
+                if !matches!(self, Own::Nothing) {
+                    self.leave();
+                }
+            }
+        }
+    }
+
+    /// Makes it keep nothing. What it held goes.
+    #[inline(never)]
+    fn leave(&mut self)
+        ensures { self.new ≡ own.Nothing }
+    {
+        *self = Own::Nothing;
+    }
+
+    /// Makes it what a node of the kind keeps, apart from the nodes that keep nothing: what is written here is as large as the largest.
+    #[inline(never)]
+    fn begin_kept(&mut self, alloc: Global, kind: SyntaxKind)
         ensures { self.new ≡ fresh.fresh_own kind }
     {
         match kind {
@@ -49,12 +84,7 @@ impl Own {
                 *self = Own::Names(Listed::new(alloc));
             }
             SyntaxKind::Document => *self = Own::Definitions(Listed::new(alloc)),
-            // Most nodes come here, and most of the rows that they use again kept nothing of their own before.
-            _ => {
-                if !matches!(self, Own::Nothing) {
-                    *self = Own::Nothing;
-                }
-            }
+            _ => *self = Own::Nothing,
         }
     }
 

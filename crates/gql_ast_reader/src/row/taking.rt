@@ -16,9 +16,9 @@ use jb_text::{Listed, Memory};
 use std::alloc::Global;
 
 impl Row {
-    /// The row of a node of the kind that has just begun.
-    pub(crate) fn new(alloc: Global, kind: SyntaxKind) -> Row
-        ensures { result ≡ fresh.fresh kind }
+    /// A row with nothing in it, which keeps nothing of its own.
+    pub(crate) fn new(alloc: Global) -> Row
+        ensures { result ≡ fresh.fresh SyntaxKind.Token }
     {
         Row {
             words: Words::new(alloc),
@@ -26,7 +26,7 @@ impl Row {
             singles: Singles::new(),
             groups: Groups::new(),
             root_operations: Listed::new(alloc),
-            own: Own::new(alloc, kind),
+            own: Own::Nothing,
         }
     }
 

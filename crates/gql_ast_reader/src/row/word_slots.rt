@@ -58,6 +58,10 @@ impl Words {
         if self.three.is_none() {
             self.three = Some(place);
         }
-        add(&mut self.locations, location_at(source.text, place))
+        add(
+            &mut self.locations,
+            source.alloc,
+            location_at(source.text, place),
+        )
     }
 }

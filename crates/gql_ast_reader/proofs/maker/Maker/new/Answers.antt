@@ -6,6 +6,6 @@ pub returns : goal.returns
 returns g c = record {
   is_text = c.requires.text;
   is_file = c.requires.file;
-  keeps = begins _ _ c.new-rows.result _ _ _ _ c.in_ok-begin.ensures refl refl refl (c.new-rows.ensures _ _);
+  keeps = begins _ _ c.in_ok-rows.rows _ _ _ _ c.in_ok-begin.ensures refl refl refl (c.in_ok-rows.ensures _ _);
   ignored = tt {0};
 }
