@@ -197,7 +197,8 @@ def run_node():
     if not (node / "sunwaket.node").is_file():
         skip("the package for Node", "Node is not here with its headers")
         return
-    try_command("Node", ["node", "--test", "tests/sunwaket.test.js", "tests/resolvers.test.js"], cwd=node)
+    words = ["node", "--test", "tests/sunwaket.test.js", "tests/resolvers.test.js"]
+    try_command("Node", words, cwd=node, env=os.environ | {"SUNWAKET_ENGINE": "native"})
 
 
 def run_go():

@@ -12,13 +12,22 @@
  *
  * A field of the data is the member of its name, whatever its arguments; an object with a text member `__error` is a failure of its field,
  * and one with `__typename` is of that type. Numbers are whole, from -2^63 to 2^64-1.
+ *
+ * Over the WebAssembly module a call that fails inside the engine, as where the stack is used up, throws an error whose member `code` is
+ * `GQL_LOST`: all values that were made before are lost, and what is made after it is made in a new instance.
  */
 
 /** The JSON of an object, or an object that has one. */
-export type Json = object | string | Buffer;
+export type Json = object | string | Uint8Array;
+
+/** The bytes of a JSON text, whose `toString()` gives the text: in Node a `Buffer`. */
+export type Reply = typeof globalThis extends { Buffer: { from(text: string, encoding?: any): infer B } } ? B : Uint8Array;
 
 /** The version of the library. */
 export const VERSION: string;
+
+/** Which library answers: the native one, or the WebAssembly module that stands for it on other systems and in browsers. */
+export const ENGINE: 'native' | 'wasm';
 
 /** One thing that is wrong. */
 export interface GraphQLError {
@@ -31,7 +40,7 @@ export interface GraphQLError {
 /** A text or a request is refused. */
 export class Refused extends Error {
   /** The JSON for a client: an object whose member `errors` has what is wrong. */
-  readonly json: Buffer;
+  readonly json: Reply;
   /** What is wrong. */
   readonly errors: GraphQLError[];
 }
@@ -48,7 +57,7 @@ export class TooCostly extends RequestRefused {}
 declare class Value {
   /** The same value once more, for executions at the same time. It costs no copy. */
   share(): this;
-  /** Lets go of the value. Without it that is done when the collector takes the object. */
+  /** Lets go of the value. Without it that is done when the collector takes the object, which knows nothing of the memory of a module. */
   close(): void;
 }
 
@@ -59,9 +68,9 @@ export class Data extends Value {
 
 /** A schema, read and checked once. `SchemaRefused` where the text means none. */
 export class Schema extends Value {
-  constructor(text: string | Buffer);
+  constructor(text: string | Uint8Array);
   /** A query, read and checked against the schema once; it keeps the schema. `QueryRefused` where the text means none. */
-  query(text: string | Buffer): Query;
+  query(text: string | Uint8Array): Query;
 }
 
 export interface RequestOptions {
@@ -110,10 +119,10 @@ export interface ResolveOptions extends RequestOptions {
 /** A query that `Schema.query` read and checked. */
 export class Query extends Value {
   private constructor();
-  /** The JSON of the response, made on another thread. Rejected with `RequestRefused` where there is none. */
-  execute(data?: Data | Json, options?: RequestOptions): Promise<Buffer>;
+  /** The JSON of the response, made on another thread where the library is native. Rejected with `RequestRefused` where there is none. */
+  execute(data?: Data | Json, options?: RequestOptions): Promise<Reply>;
   /** The same at once, on this thread. */
-  executeSync(data?: Data | Json, options?: RequestOptions): Buffer;
+  executeSync(data?: Data | Json, options?: RequestOptions): Reply;
   /**
    * The JSON of the response, by resolvers over any objects.
    *
@@ -140,7 +149,7 @@ export class Query extends Value {
    *
    * Rejected with `RequestRefused` where there is no response, and with `TypeError` for a resolver of a field that the schema lacks.
    */
-  resolve(root?: unknown, resolvers?: Resolvers, options?: ResolveOptions): Promise<Buffer>;
+  resolve(root?: unknown, resolvers?: Resolvers, options?: ResolveOptions): Promise<Reply>;
   /** The kind of the operation of the name, or of the only one; null where there is none. */
   kind(operationName?: string | null): 'query' | 'mutation' | 'subscription' | null;
   /**
@@ -151,7 +160,7 @@ export class Query extends Value {
 }
 
 /** The JSON of the response to one request, all its texts at once. */
-export function answer(schema: string | Buffer, query: string | Buffer, data?: Data | Json, options?: RequestOptions): Promise<Buffer>;
+export function answer(schema: string | Uint8Array, query: string | Uint8Array, data?: Data | Json, options?: RequestOptions): Promise<Reply>;
 
 /** What is wrong with the texts of a schema and of a query, for people; empty where nothing is. */
-export function check(schema: string | Buffer, query: string | Buffer): string;
+export function check(schema: string | Uint8Array, query: string | Uint8Array): string;

@@ -3,6 +3,8 @@
 // `{"object":7,"type":"Book"}` by the number that it has here, or a failure as `{"__error":"text"}`. What has no such JSON is a failure
 // too, so that one value never spoils the others.
 
+const { bytesOf, textOf } = require('./bytes.js');
+
 // A text of answers is nested at most 127 deep, and a value stands in the list of answers and in its answer.
 const DEEPEST = 125;
 const LEAST = -(2n ** 63n);
@@ -10,7 +12,7 @@ const BEYOND = 2n ** 64n;
 const SURROGATE = /[\ud800-\udfff]/;
 
 /** The JSON of a text. A half of a surrogate pair, which no UTF-8 has, is U+FFFD. */
-const textJson = (value) => JSON.stringify(SURROGATE.test(value) ? Buffer.from(value).toString() : value);
+const textJson = (value) => JSON.stringify(SURROGATE.test(value) ? textOf(bytesOf(value)) : value);
 
 const failureJson = (message) => `{"__error":${textJson(message)}}`;
 

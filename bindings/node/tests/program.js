@@ -1,7 +1,8 @@
 #!/usr/bin/env node
 'use strict';
 // The program `gql_program` once more, over the package: `program.js answer` and `program.js check` read a request from standard input,
-// write what the program writes, and end with its status.
+// write what the program writes, and end with its status. `program.js cases` reads a JSON list of cases, each a list of words and an input
+// in base64, and writes the list of what comes of them: the status, and what is written, in base64.
 
 const fs = require('node:fs');
 const { Refused, RequestRefused, Schema, check } = require('..');
@@ -95,6 +96,15 @@ function run(words, bytes) {
   }
 }
 
-const [status, written] = run(process.argv.slice(2), fs.readFileSync(0));
+function runCases(cases) {
+  return JSON.stringify(cases.map(([words, input]) => {
+    const [status, written] = run(words, Buffer.from(input, 'base64'));
+    return [status, Buffer.from(written).toString('base64')];
+  }));
+}
+
+const words = process.argv.slice(2);
+const given = fs.readFileSync(0);
+const [status, written] = words[0] === 'cases' ? [ANSWERED, runCases(JSON.parse(given))] : run(words, given);
 fs.writeFileSync(1, written);
 process.exitCode = status;

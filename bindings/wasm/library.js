@@ -1,0 +1,259 @@
+'use strict';
+// What `sunwaket.node` gives, over the WebAssembly module, for Node and for browsers: the other files of the package run over either.
+//
+// A value is an object with the place of its handle in the module's memory. A call that traps, as where the stack of the host is used up,
+// leaves that memory half written: its instance is never called again, its values are lost, and the next value is made in a new instance.
+
+const CODES = { 1: 'GQL_REFUSED', 3: 'GQL_NO_MEMORY', 8: 'GQL_WRONG_HANDLE', 10: 'GQL_TOO_COSTLY' };
+const [ANSWERED, REFUSED, NO_MEMORY, WRONG_HANDLE, TOO_COSTLY, ASKS] = [0, 1, 3, 8, 10, 11];
+const LOST = 'a call failed inside the engine, and all values that were made before are lost: make them anew';
+
+// Bytes of this many are passed in one place that each instance keeps for them.
+const ROOM = 1 << 16;
+
+function errorOf(status, reply) {
+  const code = CODES[status] ?? 'GQL_UNREAD';
+  const error = Object.assign(new Error(code), { code });
+  if (reply !== undefined) error.reply = reply;
+  return error;
+}
+
+const lost = (cause) => Object.assign(new Error(LOST, { cause }), { code: 'GQL_LOST' });
+
+/** An instance of the module, with a place for what a call is given, and a handle for its reply. */
+class Engine {
+  constructor(module, { make, memoryLimit }) {
+    Object.assign(this, { make, calls: new WebAssembly.Instance(module, {}).exports, isWhole: true, used: 0, far: [] });
+    this.memory = this.calls.memory;
+    this.view = new Uint8Array(this.memory.buffer);
+    if (memoryLimit !== undefined) this.calls.js_limit(Math.min(memoryLimit, 2 ** 32 - 1));
+    this.room = this.allocated(ROOM);
+    this.reply = this.handle();
+    this.cell = this.handle();
+  }
+
+  allocated(length) {
+    const at = this.calls.js_alloc(length);
+    if (at === 0) throw errorOf(NO_MEMORY);
+    // The number is signed.
+    return at >>> 0;
+  }
+
+  /** The memory, whose buffer is another once it has grown. */
+  bytes() {
+    if (this.view.length === 0) this.view = new Uint8Array(this.memory.buffer);
+    return this.view;
+  }
+
+  handle() {
+    const at = this.allocated(8);
+    this.bytes().fill(0, at, at + 8);
+    return at;
+  }
+
+  release(at) {
+    if (this.isWhole) this.calls.js_dealloc(at);
+  }
+
+  /** Lets go of a handle and of what it holds. */
+  free(at) {
+    if (!this.isWhole) return;
+    this.calls.js_free(at);
+    this.calls.js_dealloc(at);
+  }
+
+  /** The place of some bytes in the memory, for one call. */
+  put(bytes) {
+    if (!(bytes instanceof Uint8Array)) throw new TypeError('this is no array of bytes');
+    const { length } = bytes;
+    let at = this.room + this.used;
+    if (this.used + length <= ROOM) this.used += length;
+    else this.far.push((at = this.allocated(length)));
+    this.bytes().set(bytes, at);
+    return at;
+  }
+
+  /** A call, by whose end nothing that was put is kept. */
+  call(name, ...given) {
+    if (!this.isWhole) throw lost();
+    try {
+      return this.calls[name](...given);
+    } catch (error) {
+      this.isWhole = false;
+      throw lost(error);
+    } finally {
+      this.clear();
+    }
+  }
+
+  clear() {
+    this.used = 0;
+    while (this.far.length > 0) this.release(this.far.pop());
+  }
+
+  /** The bytes of the reply, which is let go. */
+  take() {
+    const length = this.calls.js_reply_copy(this.reply, this.room, ROOM) >>> 0;
+    const made = this.make(length);
+    const at = length <= ROOM ? this.room : this.copied(length);
+    made.set(this.bytes().subarray(at, at + length));
+    if (at !== this.room) this.release(at);
+    this.drop();
+    return made;
+  }
+
+  copied(length) {
+    const at = this.allocated(length);
+    this.calls.js_reply_copy(this.reply, at, length);
+    return at;
+  }
+
+  drop() {
+    if (this.isWhole) this.calls.js_free(this.reply);
+  }
+
+  /** The error for a status, with the reply where the call made one. */
+  refusal(status) {
+    if (status === REFUSED || status === TOO_COSTLY) return errorOf(status, this.take());
+    this.drop();
+    return errorOf(status);
+  }
+
+  /** The number that the last call put into the cell. */
+  number() {
+    return new DataView(this.memory.buffer).getUint32(this.cell, true);
+  }
+}
+
+/** A value of the library: the place of its handle, and 0 once it is closed. */
+class Value {
+  constructor(owner, at) {
+    Object.assign(this, { owner, at });
+  }
+}
+
+/** The instance that some values are of. */
+function ownerOf(...values) {
+  if (!values.every((it) => it instanceof Value)) throw new TypeError('this is no value of the library');
+  const [{ owner }] = values;
+  if (!values.every((it) => it.owner.isWhole)) throw lost();
+  if (!values.every((it) => it.at !== 0 && it.owner === owner)) throw errorOf(WRONG_HANDLE);
+  return owner;
+}
+
+/**
+ * The calls, over a compiled module. `make` gives an array for so many bytes of a reply. An instance's memory never grows beyond
+ * `memoryLimit` bytes: what would need more is told as want of memory.
+ */
+function libraryOf(module, { make = (length) => new Uint8Array(length), memoryLimit } = {}) {
+  const options = { make, memoryLimit };
+  let engine = new Engine(module, options);
+  const left = new FinalizationRegistry(({ owner, at }) => owner.free(at));
+  const current = () => (engine.isWhole ? engine : (engine = new Engine(module, options)));
+
+  function value(owner, at) {
+    const it = new Value(owner, at);
+    left.register(it, { owner, at }, it);
+    return it;
+  }
+
+  /** What a call makes, which is given the place of the new value's handle; a refusal where it makes none. */
+  function made(owner, call) {
+    const at = owner.handle();
+    let status;
+    try {
+      status = call(at);
+    } finally {
+      if (status !== ANSWERED) owner.free(at);
+    }
+    if (status !== ANSWERED) throw owner.refusal(status);
+    return value(owner, at);
+  }
+
+  /** The five arguments of an execution: query, data or answers, name, variables, flags. */
+  function perform(call, query, data, name, variables, flags) {
+    if (query === data) throw new TypeError('a value cannot be query and data at once');
+    const owner = ownerOf(query, data);
+    const status = owner.call(call, query.at, data.at, owner.put(name), name.length, owner.put(variables), variables.length, flags, owner.reply);
+    if (status !== ANSWERED && status !== ASKS) throw owner.refusal(status);
+    return { status, told: owner.take() };
+  }
+
+  const library = {
+    version: () => current().call('js_version'),
+
+    newSchema(text) {
+      const owner = current();
+      return made(owner, (at) => owner.call('js_schema_new', owner.put(text), text.length, at, owner.reply));
+    },
+
+    newQuery(schema, text) {
+      const owner = ownerOf(schema);
+      return made(owner, (at) => owner.call('js_query_new', schema.at, owner.put(text), text.length, at, owner.reply));
+    },
+
+    newData(text) {
+      const owner = current();
+      return made(owner, (at) => owner.call('js_data_new', owner.put(text), text.length, at));
+    },
+
+    newAnswers() {
+      const owner = current();
+      return value(owner, owner.handle());
+    },
+
+    share(from) {
+      const owner = ownerOf(from);
+      return made(owner, (at) => owner.call('js_share', from.at, at));
+    },
+
+    close(it) {
+      if (it.at === 0) return;
+      left.unregister(it);
+      it.owner.free(it.at);
+      it.at = 0;
+    },
+
+    execute: (...given) => perform('js_execute', ...given).told,
+
+    executeAsync: async (...given) => library.execute(...given),
+
+    step(...given) {
+      const { status, told } = perform('js_step', ...given);
+      return status === ASKS ? new TextDecoder().decode(told) : told;
+    },
+
+    addAnswers(answers, text) {
+      const owner = ownerOf(answers);
+      const status = owner.call('js_answers_add', answers.at, owner.put(text), text.length);
+      if (status !== ANSWERED) throw errorOf(status);
+    },
+
+    operationKind(query, name, flags) {
+      const owner = ownerOf(query);
+      const status = owner.call('js_operation_kind', query.at, owner.put(name), name.length, flags, owner.cell);
+      if (status !== ANSWERED && status !== REFUSED) throw errorOf(status);
+      return owner.number();
+    },
+
+    operationCost(query, name, flags, items, nodes) {
+      const owner = ownerOf(query);
+      const status = owner.call('js_operation_cost', query.at, owner.put(name), name.length, flags, items, nodes, owner.cell, owner.reply);
+      if (status !== ANSWERED) throw owner.refusal(status);
+      return owner.number();
+    },
+
+    check(schema, query) {
+      const owner = current();
+      const status = owner.call('js_check', owner.put(schema), schema.length, owner.put(query), query.length, owner.reply);
+      if (status !== ANSWERED && status !== REFUSED) throw owner.refusal(status);
+      return owner.take();
+    },
+
+    /** How many blocks and bytes of memory the present instance has. */
+    memory: () => ({ blocks: current().calls.js_blocks(), bytes: current().memory.buffer.byteLength }),
+  };
+  return library;
+}
+
+module.exports = { libraryOf };
