@@ -31,7 +31,7 @@ MODULE = NODE / "sunwaket.wasm"
 OVER_MODULE = os.environ | {"SUNWAKET_ENGINE": "wasm"}
 NODE_TESTS = ["tests/sunwaket.test.js", "tests/resolvers.test.js", "../wasm/tests/module.test.js"]
 SANITIZED = ["-fsanitize=address,undefined", "-fno-sanitize-recover=all"]
-AS_MALLOC = [f"-D{name}=module_{other}" for name, other in (("malloc", "malloc"), ("realloc", "remalloc"), ("free", "free"))]
+AS_MALLOC = [f"-Wl,--wrap={name}" for name in ("malloc", "realloc", "free")]
 
 BOOK = """
 const schema = new Schema('type Query { book: Book } type Book { title: String }');

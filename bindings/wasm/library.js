@@ -64,8 +64,9 @@ class Engine {
 
   /** The place of some bytes in the memory, for one call. */
   put(bytes) {
-    if (!(bytes instanceof Uint8Array)) throw new TypeError('this is no array of bytes');
+    if (!ArrayBuffer.isView(bytes)) throw new TypeError('this is no array of bytes');
     const { length } = bytes;
+    if (length === 0) return this.room;
     let at = this.room + this.used;
     if (this.used + length <= ROOM) this.used += length;
     else this.far.push((at = this.allocated(length)));
@@ -132,13 +133,12 @@ class Value {
   }
 }
 
-/** The instance that some values are of. */
-function ownerOf(...values) {
-  if (!values.every((it) => it instanceof Value)) throw new TypeError('this is no value of the library');
-  const [{ owner }] = values;
-  if (!values.every((it) => it.owner.isWhole)) throw lost();
-  if (!values.every((it) => it.at !== 0 && it.owner === owner)) throw errorOf(WRONG_HANDLE);
-  return owner;
+/** The instance that a value is of. */
+function ownerOf(it) {
+  if (!(it instanceof Value)) throw new TypeError('this is no value of the library');
+  if (!it.owner.isWhole) throw lost();
+  if (it.at === 0) throw errorOf(WRONG_HANDLE);
+  return it.owner;
 }
 
 /**
@@ -173,7 +173,8 @@ function libraryOf(module, { make = (length) => new Uint8Array(length), memoryLi
   /** The five arguments of an execution: query, data or answers, name, variables, flags. */
   function perform(call, query, data, name, variables, flags) {
     if (query === data) throw new TypeError('a value cannot be query and data at once');
-    const owner = ownerOf(query, data);
+    const owner = ownerOf(query);
+    if (ownerOf(data) !== owner) throw errorOf(WRONG_HANDLE);
     const status = owner.call(call, query.at, data.at, owner.put(name), name.length, owner.put(variables), variables.length, flags, owner.reply);
     if (status !== ANSWERED && status !== ASKS) throw owner.refusal(status);
     return { status, told: owner.take() };

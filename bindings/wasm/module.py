@@ -1,5 +1,5 @@
 """Makes the WebAssembly module of the proved library: what rattle lowers for x86-64 is compiled for WebAssembly, linked with the allocator,
-and brought to a memory of 32 bits by wasm-opt. bindings/build calls `build`."""
+and brought to a memory of 32 bits by wasm-opt. bindings/build calls `build`, for a module that is fast and for one that is small."""
 
 import os
 import pathlib
@@ -15,11 +15,14 @@ STACK = 2 << 20
 C_WORDS = ["--target=wasm64-unknown-unknown", "-mcpu=lime1", "--no-default-config", "-O2", "-fno-builtin", "-ffreestanding", "-Wall", "-Wextra"]
 FEATURES = ["memory64", "bulk-memory", "sign-ext", "mutable-globals", "nontrapping-float-to-int"]
 
-# What stands for the kit's clang: it compiles the library's module for WebAssembly, and leaves all else to that one.
+# How clang and wasm-opt are told to make the two.
+FAST, SMALL = ("-O3", "-O3"), ("-Os", "-Oz")
+
+# What stands for the kit's clang: it keeps the library's module, compiles it for WebAssembly, and leaves all else to that one.
 CLANG = """\
 #!/bin/sh
 case " $* " in
-  *" -x ir module.bc "*) exec {python} {here}/to_wasm64.py {kit} module.bc module.o ;;
+  *" -x ir module.bc "*) cp module.bc {kept} && exec {python} {here}/to_wasm64.py {kit} module.bc module.o -O3 ;;
   *) exec {kit}/toolchain/bin/clang "$@" ;;
 esac
 """
@@ -38,7 +41,7 @@ def make_toolchain(kit, folder):
     """A folder in the place of the kit's toolchain, which compiles the library's module for WebAssembly."""
     (folder / "bin").mkdir(parents=True, exist_ok=True)
     clang = folder / "bin" / "clang"
-    clang.write_text(CLANG.format(python=sys.executable, here=HERE, kit=kit), encoding="utf-8")
+    clang.write_text(CLANG.format(python=sys.executable, here=HERE, kit=kit, kept=folder / "library.bc"), encoding="utf-8")
     clang.chmod(0o755)
     links = {folder / "lib": kit / "toolchain" / "lib"}
     links |= {folder / "bin" / name: kit / "toolchain" / "bin" / name for name in ("ld.lld", "llvm-ar", "rattle-x64")}
@@ -66,17 +69,19 @@ def link(kit, archive, folder, to):
     run("wasm-ld", *words, "-o", to, *objects, archive, executable=kit / "toolchain" / "bin" / "ld.lld")
 
 
-def lower(wide, to):
+def lower(wide, to, level):
     """The same module with a memory of 32 bits, which all browsers and every Node have."""
     words = [f"--enable-{name}" for name in FEATURES]
-    run(wasm_opt(), *words, "--memory64-lowering", os.environ.get("SUNWAKET_WASM_OPT_LEVEL", "-Oz"), wide, "-o", to)
+    run(wasm_opt(), *words, "--memory64-lowering", level, wide, "-o", to)
 
 
-def build(kit, archive, folder, to):
-    """Makes the module of an archive that the toolchain of `make_toolchain` compiled."""
-    folder.mkdir(parents=True, exist_ok=True)
-    wide = folder / "wide.wasm"
+def build(kit, archive, folder, to, how=FAST):
+    """Makes the module of an archive that the toolchain in `folder` compiled, or of the same library compiled otherwise."""
+    level, lowered_level = how
+    wide, made = folder / "wide.wasm", to.with_suffix(".wasm.new")
+    if how != FAST:
+        archive = folder / "library.o"
+        run(sys.executable, HERE / "to_wasm64.py", kit, folder / "toolchain" / "library.bc", archive, level)
     link(kit, archive, folder, wide)
-    made = to.with_suffix(".wasm.new")
-    lower(wide, made)
+    lower(wide, made, lowered_level)
     made.replace(to)

@@ -1,4 +1,5 @@
-/* The module's allocator as `malloc`, `realloc` and `free` of the tests of the C library, over a memory of its own. */
+/* The module's allocator as what the linker puts in the place of `malloc`, `realloc` and `free` in the tests of the C library, over a memory
+ * of its own. */
 #define rattle_block module_block
 #define rattle_alloc module_alloc
 #define rattle_realloc module_realloc
@@ -26,14 +27,14 @@ bool memory_grows(size_t bytes) {
     return true;
 }
 
-void *module_malloc(size_t size) {
+void *__wrap_malloc(size_t size) {
     return heap_alloc(size);
 }
 
-void *module_remalloc(void *at, size_t size) {
+void *__wrap_realloc(void *at, size_t size) {
     return at == NULL ? heap_alloc(size) : heap_realloc(at, size_of(block_of(at)) - sizeof(size_t), size);
 }
 
-void module_free(void *at) {
+void __wrap_free(void *at) {
     heap_free(at);
 }

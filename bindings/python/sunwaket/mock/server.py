@@ -1,6 +1,7 @@
-"""The server: `/graphql` by GraphQL over HTTP, a page at `/`, and `/status`, where the page learns what is wrong with the files."""
+"""The server: `/graphql` by GraphQL over HTTP, a page at `/`, and for the page `/status`, what is wrong with the files, and `/schema`, the text."""
 
 import contextlib
+import hashlib
 import json
 import pathlib
 import socket
@@ -18,7 +19,9 @@ from .source import Source
 # The engine takes at most two megabytes of a thread's stack, and the reading of queries recurs as deep as they are nested.
 STACK = 32 << 20
 
+# The page of the playground, which bindings/build makes. By this word in it the page knows that there is a server behind it.
 PAGE = pathlib.Path(__file__).with_name("page.html")
+ALONE, SERVED = b'<html lang="en">', b'<html lang="en" data-server>'
 METHODS = "GET, HEAD, POST, OPTIONS"
 
 
@@ -92,15 +95,30 @@ class Handler(BaseHTTPRequestHandler):
         return super().parse_request()
 
     def do_GET(self):
-        """The page, the status, or a query in the address."""
+        """The page, what it learns of the files, or a query in the address."""
         path = urlsplit(self.path).path
         if path in ("/", "/index.html"):
-            self.answer(200, "text/html", PAGE.read_bytes())
+            self.answer_page()
         elif path == "/status":
-            self.server.source.current()
-            self.answer(200, JSON, json.dumps({"faults": self.server.source.faults}).encode())
+            text = self.schema_text()
+            told = {"faults": self.server.source.faults, "schema": None if text is None else hashlib.sha256(text).hexdigest()}
+            self.answer(200, JSON, json.dumps(told).encode())
+        elif path == "/schema" and self.schema_text() is not None:
+            self.answer(200, "text/plain", self.schema_text())
         else:
             self.respond()
+
+    def answer_page(self):
+        """The page, where it is built."""
+        if PAGE.is_file():
+            self.answer(200, "text/html", PAGE.read_bytes().replace(ALONE, SERVED, 1))
+        else:
+            self.answer(503, "text/plain", b"There is no page: bindings/build makes it. Queries are answered at /graphql.")
+
+    def schema_text(self):
+        """The text of the schema, where it may be told and there is one."""
+        served = self.server.source.current()
+        return served.text.encode("utf-8") if served and self.server.settings.introspection else None
 
     do_HEAD = do_GET
 

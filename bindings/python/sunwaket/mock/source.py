@@ -50,6 +50,7 @@ class Served:
     """A schema that was checked, its types, the data of the file, and the queries that were asked last."""
 
     def __init__(self, schema_text, data_text, settings):
+        self.text = schema_text
         self.schema = sunwaket.Schema(schema_text)
         self.types = types_of(self.schema)
         self.settings = settings
