@@ -30,7 +30,10 @@ class Editor {
   listen() {
     const { area } = this;
     area.addEventListener('input', (event) => this.edited(event));
-    area.addEventListener('scroll', () => this.follow());
+    area.addEventListener('scroll', () => {
+      this.follow();
+      this.popup.close();
+    });
     area.addEventListener('keydown', (event) => this.pressed(event));
     area.addEventListener('blur', () => this.popup.close());
     area.addEventListener('mousemove', (event) => this.moved(event));
@@ -130,7 +133,6 @@ class Editor {
   follow() {
     this.paper.scrollTop = this.area.scrollTop;
     this.paper.scrollLeft = this.area.scrollLeft;
-    this.popup?.close();
   }
 
   caretMoved() {

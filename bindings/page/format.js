@@ -92,7 +92,7 @@ class Layout {
   isTight({ text, kind }) {
     if (TIGHT_AFTER.has(this.last.text)) return true;
     if (this.last.text === '...') return kind === 'name' && text !== 'on';
-    return TIGHT_BEFORE.has(text) && !(text === '(' && this.last.text === '@');
+    return TIGHT_BEFORE.has(text) && !(text === '(' && this.last === this.head);
   }
 
   bracket({ text }) {
@@ -134,7 +134,7 @@ function formatJson(text) {
   };
   for (const { text: token } of tokensOf(text, 'json')) {
     if (token === '}' || token === ']') {
-      depth--;
+      depth = Math.max(0, depth - 1);
       if (last !== '{' && last !== '[') newLine();
     } else if (last === '{' || last === '[' || last === ',') newLine();
     out += token === ':' ? ': ' : token;

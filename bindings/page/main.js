@@ -246,18 +246,18 @@ async function checkFiles() {
 
 // ---- what is pressed
 
+/** Lays out all texts, that with the caret last: browsers undo the last change of a page first. */
 function formatAll() {
-  for (const [name, editor] of Object.entries(editors)) {
-    if (editor.area.offsetParent === null || editor.text.trim() === '') continue;
-    const language = name === 'schema' || name === 'query' ? 'graphql' : 'json';
-    const text = format(editor.text, language);
-    const caret = editor.caret;
+  const focused = document.activeElement;
+  const all = Object.entries(editors).filter(([, { area, text }]) => area.offsetParent !== null && text.trim() !== '');
+  for (const [name, editor] of all.sort(([, one], [, other]) => (one.area === focused) - (other.area === focused))) {
+    const text = format(editor.text, name === 'schema' || name === 'query' ? 'graphql' : 'json');
+    const { caret } = editor;
     if (text === editor.text) continue;
-    const focused = document.activeElement;
     editor.insert(text, 0, editor.text.length);
     editor.area.setSelectionRange(caret, caret);
-    focused?.focus();
   }
+  focused?.focus();
 }
 
 function showTab(id) {

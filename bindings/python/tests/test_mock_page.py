@@ -1,42 +1,15 @@
-"""The mock server's page in a real browser: Chromium without a window, by Selenium. Skipped where either is missing.
+"""The mock server's page in a real browser. Skipped where there is none."""
 
-With SCREENSHOTS=FOLDER in the environment, pictures of the page are put there."""
-
-import os
-import pathlib
-import shutil
 import unittest
 
+from browsing import HAS_BROWSER, By, InBrowser, Keys
 from mock_serving import DATA, serving
 
-try:
-    from selenium import webdriver
-    from selenium.webdriver.chrome.service import Service
-    from selenium.webdriver.common.by import By
-    from selenium.webdriver.common.keys import Keys
-    from selenium.webdriver.support.ui import WebDriverWait
-except ImportError:
-    webdriver = None
-
-PATIENCE = 60
 WRONG = "{ books { id\n  nope } }"
 
 
-def browser(scheme):
-    """Chromium without a window, in this colour scheme."""
-    options = webdriver.ChromeOptions()
-    for word in ("--headless=new", "--no-sandbox", "--disable-dev-shm-usage", "--disable-gpu", "--window-size=1400,800"):
-        options.add_argument(word)
-    if scheme == "dark":
-        options.add_argument("--force-dark-mode")
-    options.set_capability("goog:loggingPrefs", {"browser": "ALL"})
-    made = webdriver.Chrome(options=options, service=Service(shutil.which("chromedriver")))
-    made.execute_cdp_cmd("Emulation.setEmulatedMedia", {"features": [{"name": "prefers-color-scheme", "value": scheme}]})
-    return made
-
-
-@unittest.skipUnless(webdriver and shutil.which("chromedriver"), "there is no Selenium, or no Chromium with its driver")
-class Page(unittest.TestCase):
+@unittest.skipUnless(HAS_BROWSER, "there is no Selenium, or no Chromium with its driver")
+class Page(InBrowser):
     def setUp(self):
         self.context = serving(DATA)
         self.server = self.context.__enter__()
@@ -44,35 +17,14 @@ class Page(unittest.TestCase):
 
     def open(self, scheme="light", path=""):
         """The page in a browser that ends with the test."""
-        self.page = browser(scheme)
-        self.addCleanup(self.page.quit)
-        self.page.get(f"http://127.0.0.1:{self.server.port}/{path}")
+        self.open_page(f"http://127.0.0.1:{self.server.port}/{path}", scheme)
         self.wait(lambda: self.at("schema").text)
-
-    def at(self, name):
-        """The element of this id."""
-        return self.page.find_element(By.ID, name)
-
-    def wait(self, holds):
-        """Waits until something holds, and gives it."""
-        return WebDriverWait(self.page, PATIENCE).until(lambda _: holds())
 
     def ask(self, query):
         """Types a query and runs it by the keyboard."""
-        self.at("query").send_keys(Keys.CONTROL, "a")
-        self.at("query").send_keys(query)
+        self.replace("query", query)
         self.at("query").send_keys(Keys.CONTROL, Keys.ENTER)
         self.wait(lambda: " ms" in self.at("status").text)
-
-    def picture(self, name):
-        """Keeps a picture of the page, where pictures are wanted."""
-        folder = os.environ.get("SCREENSHOTS")
-        if folder:
-            self.page.save_screenshot(str(pathlib.Path(folder, name)))
-
-    def console(self):
-        """What the browser's console was told."""
-        return [entry["message"] for entry in self.page.get_log("browser") if "400 (Bad Request)" not in entry["message"]]
 
     def test_a_query_is_answered(self):
         self.open()
@@ -85,12 +37,45 @@ class Page(unittest.TestCase):
     def test_an_error_is_marked_at_its_place(self):
         self.open("dark")
         self.ask(WRONG)
-        self.assertEqual([mark.get_attribute("textContent") for mark in self.page.find_elements(By.TAG_NAME, "mark")], ["nope"])
+        self.assertEqual(self.marks(), ["nope"])
         self.page.find_element(By.CSS_SELECTOR, "#errors button").click()
         selected = self.page.execute_script("const q = document.getElementById('query'); return q.value.slice(q.selectionStart, q.selectionEnd)")
         self.assertEqual(selected, "nope")
         self.assertEqual(self.console(), [])
         self.picture("page-dark.png")
+
+    def test_a_fault_is_marked_before_the_query_is_run(self):
+        self.open()
+        self.replace("query", "{ count nope")
+        self.at("query").send_keys(" }")
+        self.wait(lambda: self.marks() == ["nope"])
+        self.assertEqual(self.at("response").text, "")
+        self.server.schema.write_text("type Query { count: Int nope: Int }", encoding="utf-8")
+        self.script("dispatchEvent(new Event('focus'))")
+        self.wait(lambda: self.marks() == [])
+
+    def test_names_are_suggested_from_the_schema_of_the_server(self):
+        self.open()
+        self.replace("query", "{ books { ti")
+        self.wait(lambda: self.at("suggestions").text.split() == ["title", "String"])
+        self.at("query").send_keys(Keys.ENTER, " } }")
+        self.assertEqual(self.at("query").get_attribute("value"), "{ books { title } }")
+
+    def test_headers_go_with_a_query(self):
+        self.open()
+        self.script("window.sent = []; const real = fetch; window.fetch = (to, how) => { sent.push(how?.headers); return real(to, how); }")
+        self.page.find_element(By.CSS_SELECTOR, "details.remote summary").click()
+        self.replace("headers", '{ "X-Who": "me" }')
+        self.ask("{ count }")
+        self.assertEqual(self.script("return sent.find((it) => it)['X-Who']"), "me")
+        self.replace("headers", '{ "X-Who" }')
+        self.at("headers").send_keys(Keys.CONTROL, Keys.ENTER)
+        self.wait(lambda: "a colon is missing here" in self.at("status").text)
+
+    def test_screen_readers_have_names(self):
+        self.open()
+        self.page.find_element(By.CSS_SELECTOR, "details.remote summary").click()
+        self.assertEqual(self.unnamed(), [])
 
     def test_both_colour_schemes(self):
         colours = set()
