@@ -129,13 +129,34 @@ def run_package(folder):
     expect("the file that a browser takes", run.stdout.endswith(b"/sunwaket/browser.mjs\n"))
 
 
+def run_page():
+    """The parts of the page that need no page, and the playground in the browsers that are here."""
+    tests = BINDINGS / "page" / "tests"
+    try_command("the parts of the page", ["node", "--test", tests / "parts.test.js"])
+    if server.has_browser():
+        words = [server.DEBIAN_PYTHON, "-B", "-m", "unittest", "test_playground"]
+        how = {"cwd": tests, "env": os.environ | {"PYTHONPATH": str(BINDINGS / "python" / "tests")}}
+        # Once more where it failed: a browser's driver may lose its browser.
+        if subprocess.run([str(word) for word in words], capture_output=True, check=False, **how).returncode:
+            try_command("the playground in Chromium", words, **how)
+        else:
+            passed.append("the playground in Chromium")
+    else:
+        skip("the playground in Chromium", "there is no Chromium with its driver and Selenium")
+    if shutil.which("firefox-esr"):
+        try_command("the playground in Firefox", [sys.executable, "-B", tests / "in_firefox.py"])
+    else:
+        skip("the playground in Firefox", "Debian's firefox-esr is not here")
+
+
 def tell_sizes():
-    """How large the module is, as it is and compressed."""
-    raw = MODULE.read_bytes()
-    told = {"raw": len(raw), "gzip": len(gzip.compress(raw, 9))}
-    if shutil.which("brotli"):
-        told["brotli"] = len(subprocess.run(["brotli", "-q", "11", "-c", MODULE], capture_output=True, check=True).stdout)
-    print("wasm: the module has " + ", ".join(f"{count} bytes {kind}" for kind, count in told.items()))
+    """How large the modules and the page are, as they are and compressed."""
+    for path in (MODULE, BINDINGS / "out" / "wasm" / "small.wasm", BINDINGS / "out" / "playground.html"):
+        raw = path.read_bytes()
+        told = {"raw": len(raw), "gzip": len(gzip.compress(raw, 9))}
+        if shutil.which("brotli"):
+            told["brotli"] = len(subprocess.run(["brotli", "-q", "11", "-c", path], capture_output=True, check=True).stdout)
+        print(f"wasm: {path.name} has " + ", ".join(f"{count:,} bytes {kind}" for kind, count in told.items()))
 
 
 def main():
@@ -157,6 +178,7 @@ def main():
         run_node()
         run_worked()
         run_package(folder)
+    run_page()
     tell_sizes()
     print(f"wasm: {len(passed)} passed, {len(failed)} failed")
     return 1 if failed or not passed else 0
