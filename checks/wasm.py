@@ -129,20 +129,25 @@ def run_package(folder):
     expect("the file that a browser takes", run.stdout.endswith(b"/sunwaket/browser.mjs\n"))
 
 
+def run_in_chromium(name, folder, test):
+    """A test in the browser; once more where it failed, since a browser's driver may lose its browser."""
+    words = [str(server.DEBIAN_PYTHON), "-B", "-m", "unittest", test]
+    how = {"cwd": folder, "env": os.environ | {"PYTHONPATH": str(BINDINGS / "python" / "tests")}}
+    if subprocess.run(words, capture_output=True, check=False, **how).returncode:
+        try_command(name, words, **how)
+    else:
+        passed.append(name)
+
+
 def run_page():
     """The parts of the page that need no page, and the playground in the browsers that are here."""
     tests = BINDINGS / "page" / "tests"
     try_command("the parts of the page", ["node", "--test", tests / "parts.test.js"])
     if server.has_browser():
-        words = [server.DEBIAN_PYTHON, "-B", "-m", "unittest", "test_playground"]
-        how = {"cwd": tests, "env": os.environ | {"PYTHONPATH": str(BINDINGS / "python" / "tests")}}
-        # Once more where it failed: a browser's driver may lose its browser.
-        if subprocess.run([str(word) for word in words], capture_output=True, check=False, **how).returncode:
-            try_command("the playground in Chromium", words, **how)
-        else:
-            passed.append("the playground in Chromium")
+        run_in_chromium("the package in Chromium", WASM / "tests", "test_browser")
+        run_in_chromium("the playground in Chromium", tests, "test_playground")
     else:
-        skip("the playground in Chromium", "there is no Chromium with its driver and Selenium")
+        skip("the package and the playground in Chromium", "there is no Chromium with its driver and Selenium")
     if shutil.which("firefox-esr"):
         try_command("the playground in Firefox", [sys.executable, "-B", tests / "in_firefox.py"])
     else:

@@ -133,7 +133,7 @@ function showResponse(text) {
 }
 
 function showModel(found) {
-  if (found === model) return;
+  if (found === model && at('schema').childElementCount > 0) return;
   model = found;
   showSchema(model);
   editors.query.paint();

@@ -6,7 +6,7 @@ import json
 import unittest
 from urllib.parse import quote
 
-from mock_serving import DATA, serving
+from mock_serving import DATA, SCHEMA, serving
 from sunwaket.mock.settings import settings_of
 
 NEW, OLD = "application/graphql-response+json", "application/json"
@@ -160,6 +160,22 @@ class Rules(unittest.TestCase):
             with self.subTest(word), contextlib.redirect_stderr(io.StringIO()), self.assertRaises(SystemExit):
                 settings_of(["schema.graphql", "--cost", word])
         self.assertEqual(settings_of(["schema.graphql", "--cost", "0:4294967295"]).cost, (0, 4294967295))
+
+    def test_the_page_and_what_it_learns(self):
+        with serving(DATA) as it:
+            status, headers, page = it.send("GET", "/")
+            self.assertEqual((status, headers["Content-Type"]), (200, "text/html; charset=utf-8"))
+            self.assertIn(b'<html lang="en" data-server>', page)
+            status, headers, text = it.send("GET", "/schema")
+            self.assertEqual((status, headers["Content-Type"], text.decode()), (200, "text/plain; charset=utf-8", SCHEMA))
+            first = json.loads(it.send("GET", "/status")[2])
+            self.assertEqual(first["faults"], [])
+            it.schema.write_text(SCHEMA + "scalar Another", encoding="utf-8")
+            second = json.loads(it.send("GET", "/status")[2])
+            self.assertNotEqual(second["schema"], first["schema"])
+        with serving(DATA, "--no-introspection") as it:
+            self.assertEqual(it.send("GET", "/schema")[0], 404)
+            self.assertIsNone(json.loads(it.send("GET", "/status")[2])["schema"])
 
     def test_introspection_may_be_off(self):
         with serving(DATA, "--no-introspection") as it:

@@ -72,6 +72,14 @@ class Page(InBrowser):
         self.at("headers").send_keys(Keys.CONTROL, Keys.ENTER)
         self.wait(lambda: "a colon is missing here" in self.at("status").text)
 
+    def test_introspection_may_be_off(self):
+        with serving(DATA, "--no-introspection") as other:
+            self.open_page(f"http://127.0.0.1:{other.port}/")
+            self.wait(lambda: self.at("schema").text == "Introspection is off.")
+            self.ask("{ count nope }")
+            self.assertEqual(self.marks(), ["nope"])
+            self.assertEqual(self.console(), [])
+
     def test_screen_readers_have_names(self):
         self.open()
         self.page.find_element(By.CSS_SELECTOR, "details.remote summary").click()
