@@ -2,56 +2,101 @@
 
 import base64
 import hashlib
+import io
 import pathlib
 import sys
 import zipfile
 
 HERE = pathlib.Path(__file__).resolve().parent
-NAME, VERSION = "sunwaket", "0.1.0"
+sys.path.insert(0, str(HERE.parent))
 
-# Any Python 3, and no other C library than glibc of that age on x86-64.
-TAG = "py3-none-manylinux_2_17_x86_64"
+from packing.compiled import VERSION  # noqa: E402
+from packing.symbols import glibc_age, wheel_platform  # noqa: E402
 
-METADATA = f"""\
+NAME = "sunwaket"
+INFO = f"{NAME}-{VERSION}.dist-info"
+LIBRARY = f"{NAME}/libgql.so"
+
+# An extension module that keeps to the limited API of this Python, and later ones, ends so.
+LIMITED, LIMITED_TAG = ".abi3.so", "cp38-abi3"
+
+METADATA = """\
 Metadata-Version: 2.1
-Name: {NAME}
-Version: {VERSION}
+Name: {name}
+Version: {version}
 Summary: GraphQL requests answered by a proved engine
+License: MIT
 Requires-Python: >=3.8
-"""
-WHEEL = f"""\
-Wheel-Version: 1.0
-Generator: {NAME}
-Root-Is-Purelib: false
-Tag: {TAG}
-"""
+Classifier: License :: OSI Approved :: MIT License
+Classifier: Operating System :: POSIX :: Linux
+Classifier: Programming Language :: Python :: 3
+Classifier: Typing :: Typed
+Description-Content-Type: text/markdown
+
+{page}"""
+
+# Where files that go with each package lie in a wheel; others lie beside the metadata.
+FOLDERS = {"LICENSE": "licenses", "THIRD_PARTY_LICENSES.txt": "licenses", "sunwaket.spdx.json": "sboms"}
 
 
-def files():
-    """What the wheel holds, by name."""
-    found = [path for path in sorted((HERE / NAME).rglob("*")) if path.is_file() and "__pycache__" not in path.parts]
-    held = {path.relative_to(HERE).as_posix(): path.read_bytes() for path in found}
-    if f"{NAME}/libgql.so" not in held:
-        raise SystemExit("there is no libgql.so in the package: run bindings/build first")
-    info = f"{NAME}-{VERSION}.dist-info"
-    held[f"{info}/METADATA"] = METADATA.encode()
-    held[f"{info}/WHEEL"] = WHEEL.encode()
-    record = f"{info}/RECORD"
-    lines = [f"{name},sha256={digest(held[name])},{len(held[name])}\n" for name in held]
-    held[record] = "".join([*lines, f"{record},,\n"]).encode()
-    return held
+def sources():
+    """The package's own files, by name, without the shared library."""
+    paths = [path for path in sorted((HERE / NAME).rglob("*")) if path.is_file() and "__pycache__" not in path.parts]
+    held = {path.relative_to(HERE).as_posix(): path.read_bytes() for path in paths}
+    return {name: content for name, content in held.items() if not name.startswith(LIBRARY)}
+
+
+def tags_of(held):
+    """The tags of a wheel: which Python, which interface to it, and which systems, as the symbols of its libraries allow."""
+    libraries = {name: content for name, content in held.items() if name.endswith(".so")}
+    python = LIMITED_TAG if any(name.endswith(LIMITED) for name in libraries) else "py3-none"
+    return python, wheel_platform(glibc_age(*libraries.values()))
+
+
+def head(python, platforms):
+    """What the wheel says of itself."""
+    tags = "".join(f"Tag: {python}-{platform}\n" for platform in platforms.split("."))
+    return f"Wheel-Version: 1.0\nGenerator: {NAME}\nRoot-Is-Purelib: false\n{tags}".encode()
 
 
 def digest(content):
     return base64.urlsafe_b64encode(hashlib.sha256(content).digest()).rstrip(b"=").decode()
 
 
+def wheel(library, told):
+    """The name and the bytes of the wheel with this shared library; `told` are files that go with it, of which README.md is its page."""
+    held = sources() | {LIBRARY: library}
+    python, platforms = tags_of(held)
+    page = told.get("README.md", b"").decode("utf-8")
+    for name, content in told.items():
+        if name != "README.md":
+            held["/".join(filter(None, [INFO, FOLDERS.get(name), name]))] = content
+    held[f"{INFO}/METADATA"] = METADATA.format(name=NAME, version=VERSION, page=page).encode()
+    held[f"{INFO}/WHEEL"] = head(python, platforms)
+    record = f"{INFO}/RECORD"
+    lines = [f"{name},sha256={digest(content)},{len(content)}\n" for name, content in held.items()]
+    held[record] = "".join([*lines, f"{record},,\n"]).encode()
+    return f"{NAME}-{VERSION}-{python}-{platforms}.whl", zipped(held)
+
+
+def zipped(held):
+    """The bytes of a zip file, with one time for all that it holds."""
+    file = io.BytesIO()
+    with zipfile.ZipFile(file, "w", zipfile.ZIP_DEFLATED) as archive:
+        for name, content in held.items():
+            entry = zipfile.ZipInfo(name)
+            entry.external_attr = 0o100644 << 16
+            archive.writestr(entry, content, zipfile.ZIP_DEFLATED)
+    return file.getvalue()
+
+
 def build_wheel(wheel_directory, config_settings=None, metadata_directory=None):
     """The entry that pip calls: writes the wheel, and gives its name."""
-    name = f"{NAME}-{VERSION}-{TAG}.whl"
-    with zipfile.ZipFile(pathlib.Path(wheel_directory) / name, "w", zipfile.ZIP_DEFLATED) as wheel:
-        for path, content in files().items():
-            wheel.writestr(zipfile.ZipInfo(path), content, zipfile.ZIP_DEFLATED)
+    library = HERE / LIBRARY
+    if not library.is_file():
+        raise SystemExit("there is no libgql.so in the package: run bindings/build first")
+    name, content = wheel(library.read_bytes(), {"LICENSE": (HERE.parent.parent / "LICENSE").read_bytes()})
+    (pathlib.Path(wheel_directory) / name).write_bytes(content)
     return name
 
 
