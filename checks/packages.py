@@ -122,6 +122,31 @@ def try_tag(release, folder):
     print(f"packages: the wheel's library needs glibc {'.'.join(map(str, max(versions)))}, and its tag allows {'.'.join(map(str, allowed))} and later")
 
 
+def pythons():
+    """The interpreters here that the wheel is for, by what they say that they are."""
+    found = {}
+    for command in ["python3", *(f"python3.{minor}" for minor in range(8, 20))]:
+        if shutil.which(command):
+            told = subprocess.run([command, "-c", "import sys; print(*sys.version_info[:2], sys.executable)"], capture_output=True, text=True, check=False)
+            if told.returncode == 0:
+                major, minor, place = told.stdout.split(maxsplit=2)
+                found[int(major), int(minor)] = place.strip()
+    return {version: place for version, place in found.items() if version >= (3, 8)}
+
+
+def try_pythons(release, folder):
+    """The page's program under each Python that is here, over the unpacked wheel."""
+    wheel = only(release, PAGES["python"][1])
+    with zipfile.ZipFile(wheel) as held:
+        held.extractall(folder / "wheel")
+    code, printed = first_answer(page_of("python", wheel))
+    program = re.search(r"<<'END'\n(.*?)END\n", "".join(code), re.DOTALL)[1]
+    for version, place in sorted(pythons().items()):
+        env = {"PYTHONPATH": str(folder / "wheel"), "PYTHONDONTWRITEBYTECODE": "1"}
+        made = subprocess.run([place, "-c", program], capture_output=True, text=True, env=env, check=False)
+        expect(f"the wheel under Python {version[0]}.{version[1]}", made.returncode == 0 and made.stdout == printed, made.stderr)
+
+
 def try_lintian(release):
     debs = sorted(release.glob("*.deb"))
     if shutil.which("lintian") is None or not debs:
@@ -274,6 +299,7 @@ def main(words):
             try_lintian(release)
             places = {name: follow(name, release, folder) for name in PAGES}
             try_further_code(release, folder)
+            try_pythons(release, folder)
             if places["linux"]:
                 try_c(places["linux"])
                 try_front(places["linux"])

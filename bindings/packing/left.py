@@ -6,10 +6,14 @@ import pathlib
 import re
 import shutil
 import subprocess
+import sys
 
 ROOT = pathlib.Path(__file__).resolve().parent.parent.parent
 CRATES = ROOT / "crates"
 HELP = ROOT / "bindings" / "programs" / "help"
+
+# The status with which bindings/build, and bindings/release, say that something is not here.
+LACKING = 3
 
 # What .ci/run notes of its last run.
 GATE = ROOT / "bindings" / "out" / "gate.txt"
@@ -87,6 +91,16 @@ def gate_of(commit):
     return noted if noted.get("commit") == commit else {}
 
 
+def built_archive():
+    """The archive of what C calls, which bindings/build makes anew where its sources have changed."""
+    made = subprocess.run([sys.executable, ROOT / "bindings" / "build"], capture_output=True, text=True, check=False)
+    if made.returncode == LACKING:
+        raise Lacking(made.stdout.strip())
+    if made.returncode:
+        raise RuntimeError(f"bindings/build failed\n{made.stderr}")
+    return ROOT / "bindings" / "out" / "lib" / "libgql_c.a"
+
+
 def what_is_left(folder=None, archive=None):
     """All of it. What is handed in, changed or not known to be proved is a doubt."""
     commit, when = asked("git", "rev-parse", "HEAD"), asked("git", "log", "-1", "--format=%ct")
@@ -99,8 +113,5 @@ def what_is_left(folder=None, archive=None):
         doubts.append("no run of the gate is noted that passed at this commit")
     if folder is not None or archive is not None:
         doubts.append("programs or the library were handed in, and not taken from where the gate leaves them")
-    archive = archive or ROOT / "bindings" / "out" / "lib" / "libgql_c.a"
-    if not archive.is_file():
-        raise Lacking(f"there is no {archive.name}: run bindings/build")
-    kit = gate.get("kit") or asked("rt", "version") or "not known"
-    return Left(programs_in(folder), archive, library_sums(), commit, int(when), kit, gate.get("last line", "not known"), doubts)
+    programs, kit = programs_in(folder), gate.get("kit") or asked("rt", "version") or "not known"
+    return Left(programs, archive or built_archive(), library_sums(), commit, int(when), kit, gate.get("last line", "not known"), doubts)
