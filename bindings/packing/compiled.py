@@ -8,8 +8,10 @@ import subprocess
 BINDINGS = pathlib.Path(__file__).resolve().parent.parent
 VERSION = (BINDINGS.parent / "VERSION").read_text(encoding="utf-8").strip()
 
-# The shared library is asked for by this name, which changes with its interface.
-SHARED = f"libgql.so.{VERSION.partition('.')[0]}"
+MAJOR, MINOR = VERSION.split(".")[:2]
+
+# The shared library is asked for by this name.
+SHARED = f"libgql.so.{MAJOR}"
 CC = os.environ.get("CC", "cc")
 
 

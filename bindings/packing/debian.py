@@ -14,13 +14,16 @@ import tempfile
 from . import linux
 from .archives import Held, text, write_tree
 from .bill import parts
-from .compiled import BINDINGS, SHARED, VERSION
+from .compiled import BINDINGS, MAJOR, MINOR, SHARED, VERSION
 from .left import Lacking
 from .symbols import exported, glibc_age
 
 MAINTAINER = "Sunwaket maintainers <maintainers@users.noreply.sunwaket.example>"
 LIBDIR = "lib/x86_64-linux-gnu"
 REVISION = f"{VERSION}-1"
+
+# As long as the first number is 0, another second one is another interface.
+SAME_INTERFACE = f"libgql0 (<< {MAJOR}.{int(MINOR) + 1}~)"
 
 CONTROL = """\
 Package: {name}
@@ -156,8 +159,8 @@ def library_package(left, lib, told):
     content = tree[f"{LIBDIR}/{SHARED}"].content
     symbols = "".join(f" {name}@Base {VERSION}\n" for name in exported(content))
     control = {
-        "shlibs": text(f"libgql 0 libgql0 (>= {VERSION})\n"),
-        "symbols": text(f"{SHARED} libgql0\n{symbols}"),
+        "shlibs": text(f"libgql 0 libgql0 (>= {VERSION}), {SAME_INTERFACE}\n"),
+        "symbols": text(f"{SHARED} libgql0 #MINVER#, {SAME_INTERFACE}\n{symbols}"),
         "triggers": text("activate-noawait ldconfig\n"),
     }
     return Package(

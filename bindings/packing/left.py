@@ -97,7 +97,7 @@ def built_archive():
     if made.returncode == LACKING:
         raise Lacking(made.stdout.strip())
     if made.returncode:
-        raise RuntimeError(f"bindings/build failed\n{made.stderr}")
+        raise SystemExit(f"bindings/build failed\n{made.stderr}")
     return ROOT / "bindings" / "out" / "lib" / "libgql_c.a"
 
 

@@ -1,8 +1,10 @@
 """The tree of programs, library and development files, as it lies below a prefix on Linux; and its archive."""
 
+import datetime
+
 from . import archives
 from .archives import Held, link, program, text
-from .compiled import BINDINGS, SHARED, VERSION
+from .compiled import BINDINGS, MAJOR, MINOR, SHARED, VERSION
 
 ROOT = BINDINGS.parent
 NAME = f"sunwaket-{VERSION}-x86_64-linux"
@@ -35,10 +37,11 @@ if(NOT TARGET gql::gql)
 endif()
 """
 
-# Versions of one number before the first point have one interface.
+# As long as the first number is 0, the second one tells which interface a version has.
 CMAKE_VERSION = """\
 set(PACKAGE_VERSION "{version}")
-if(PACKAGE_FIND_VERSION VERSION_GREATER PACKAGE_VERSION OR NOT PACKAGE_FIND_VERSION_MAJOR EQUAL {major})
+set(_gql_asked "${{PACKAGE_FIND_VERSION_MAJOR}}.${{PACKAGE_FIND_VERSION_MINOR}}")
+if(PACKAGE_FIND_VERSION VERSION_GREATER PACKAGE_VERSION OR NOT _gql_asked STREQUAL "{interface}")
   set(PACKAGE_VERSION_COMPATIBLE FALSE)
 else()
   set(PACKAGE_VERSION_COMPATIBLE TRUE)
@@ -51,10 +54,8 @@ endif()
 
 def manual(name, when):
     """The page of the manual of a program."""
-    from datetime import datetime, timezone
-
     page = (BINDINGS / "programs" / "man" / f"{name}.1").read_text(encoding="utf-8")
-    day = datetime.fromtimestamp(when, timezone.utc).strftime("%Y-%m-%d")
+    day = datetime.datetime.fromtimestamp(when, datetime.timezone.utc).strftime("%Y-%m-%d")
     return page.replace("@VERSION@", VERSION).replace("@DATE@", day)
 
 
@@ -87,7 +88,7 @@ def library(lib, libdir):
 def development(lib, libdir, prefix):
     """What a C compiler needs, by pkg-config and CMake too. `prefix` is what pkg-config is told."""
     up = "/".join([".."] * (libdir.count("/") + 3))
-    filled = {"libdir": libdir, "shared": SHARED, "version": VERSION, "major": VERSION.partition(".")[0], "prefix": prefix, "up": up}
+    filled = {"libdir": libdir, "shared": SHARED, "version": VERSION, "interface": f"{MAJOR}.{MINOR}", "prefix": prefix, "up": up}
     return {
         "include/gql.h": Held((BINDINGS / "c" / "gql.h").read_bytes()),
         f"{libdir}/libgql.a": Held((lib / "libgql.a").read_bytes()),
