@@ -91,6 +91,8 @@ def try_contents(release):
     sums = {line.split("  ")[1]: line.split("  ")[0] for line in lines}
     right = all(hashlib.sha256((release / name).read_bytes()).hexdigest() == total for name, total in sums.items())
     expect("the sums of all packages", right and set(sums) | {"SHA256SUMS", "README.md"} == {path.name for path in release.iterdir()})
+    version, changes = ((ROOT / name).read_text(encoding="utf-8") for name in ("VERSION", "CHANGELOG.md"))
+    expect("the list of changes, which begins with this version,", re.search(r"(?m)^## (.*)$", changes)[1] == version.strip())
     for archive in filter(None, (only(release, pattern) for _, pattern in PAGES.values())):
         held = names_in(archive)
         # The page of the wheel is in its metadata.

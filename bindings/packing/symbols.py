@@ -7,6 +7,9 @@ NEEDED_LIBRARY = 1
 UNDEFINED, FIRST_SPECIAL_SECTION = 0, 0xFF00
 GLOBAL_OR_WEAK = (1, 2)
 
+# The libraries that are parts of glibc.
+GLIBC = {f"lib{name}" for name in ("c.so.6", "m.so.6", "pthread.so.0", "dl.so.2", "rt.so.1")} | {"ld-linux-x86-64.so.2"}
+
 # The ages of glibc that tags of wheels know, with the older name of a tag where it has one (PEP 600).
 AGES = [((2, 5), "manylinux1"), ((2, 12), "manylinux2010"), ((2, 17), "manylinux2014")]
 LATER_AGES = [(2, 24), (2, 27), (2, 28), (2, 31), (2, 34), (2, 35), (2, 36), (2, 38), (2, 39)]
@@ -70,11 +73,12 @@ def exported(content):
     return sorted(name_at(names, it[0]) for it in defined)
 
 
-def glibc_age(*contents):
-    """The oldest glibc with all that these files ask for, as (2, 14). Raises ValueError where one asks for another library."""
+def glibc_age(*contents, beside=()):
+    """The oldest glibc with all that these files ask for, as (2, 14). Raises ValueError where one asks for another library, those of the names
+    `beside` aside, which lie with it."""
     ages = [(2, 2)]
     for content in contents:
-        others = set(needed_libraries(content)) - {"libc.so.6", "ld-linux-x86-64.so.2"}
+        others = set(needed_libraries(content)) - GLIBC - set(beside)
         if others:
             raise ValueError(f"needs {', '.join(sorted(others))} beside glibc")
         for version in needed_versions(content):

@@ -50,7 +50,8 @@ def tags_of(held):
     """The tags of a wheel: which Python, which interface to it, and which systems, as the symbols of its libraries allow."""
     libraries = {name: content for name, content in held.items() if name.endswith(".so")}
     python = LIMITED_TAG if any(name.endswith(LIMITED) for name in libraries) else "py3-none"
-    return python, wheel_platform(glibc_age(*libraries.values()))
+    names = [pathlib.PurePosixPath(name).name for name in libraries]
+    return python, wheel_platform(glibc_age(*libraries.values(), beside=names))
 
 
 def head(python, platforms):
