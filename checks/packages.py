@@ -34,12 +34,12 @@ LACKING = 3
 PATIENCE = 1800
 TOLD = ["LICENSE", "THIRD_PARTY_LICENSES.txt", "CHANGELOG.md", "PROVED.txt", "PROVED.md", "sunwaket.spdx.json", "README.md"]
 
-# Which package a page is of, the command that it cannot do without, and its archive.
+# Which package a page is of: what it cannot do without, as a command that passes where that is here, and its archive.
 PAGES = {
-    "linux": ("tar", "sunwaket-*-linux.tar.gz"),
-    "python": ("python3", "sunwaket-*.whl"),
-    "node": ("npm", "sunwaket-*.tgz"),
-    "go": ("go", "sunwaket-go-*.tar.gz"),
+    "linux": ("tar --version", "sunwaket-*-linux.tar.gz"),
+    "python": ("python3 -m venv fresh", "sunwaket-*.whl"),
+    "node": ("npm --version", "sunwaket-*.tgz"),
+    "go": ("go version && cc --version", "sunwaket-go-*.tar.gz"),
 }
 
 CMAKE = """\
@@ -165,10 +165,10 @@ def follow(name, release, folder):
     """Follows a package's page to its first answer, in a folder with nothing but the package."""
     needed, pattern = PAGES[name]
     archive, place = only(release, pattern), folder / name
-    if shutil.which(needed) is None or archive is None:
-        skip(f"the page {name}", f"{needed} is not here" if archive else "the package was left out")
-        return None
     place.mkdir()
+    if archive is None or run_in(place, needed)[0] != 0:
+        skip(f"the page {name}", f"`{needed}` does not pass here" if archive else "the package was left out")
+        return None
     shutil.copy2(archive, place)
     code, printed = first_answer(page_of(name, archive))
     begin = time.monotonic()
@@ -190,7 +190,7 @@ def try_further_code(release, folder):
     runners = {"python": ("first/bin/python", "-c", "#", "python"), "node": ("node", "-e", "//", "js")}
     for name, (runner, word, mark, language) in runners.items():
         place = folder / name
-        if not place.is_dir():
+        if not (place / "first").is_dir():
             continue
         code = blocks(page_of(name, only(release, PAGES[name][1])), language)[0]
         printed = code.strip().rpartition(mark + " ")[2]
@@ -286,7 +286,7 @@ def release_into(folder, given):
 def main(words):
     sys.dont_write_bytecode = True
     given = words_of(words)
-    with tempfile.TemporaryDirectory() as room:
+    with tempfile.TemporaryDirectory(ignore_cleanup_errors=True) as room:
         folder = pathlib.Path(room)
         release = folder / "release"
         came = release_into(release, given)

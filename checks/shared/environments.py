@@ -65,7 +65,8 @@ class Debian:
             return None
         if shutil.which("debootstrap") is None:
             return "debootstrap is not here"
-        words = ["debootstrap", "--variant=minbase", "stable", self.folder]
+        # What it mounts is gone with it.
+        words = ["unshare", "--mount", "debootstrap", "--variant=minbase", "stable", self.folder]
         try:
             came = subprocess.run(words, capture_output=True, timeout=COMING, check=False).returncode == 0
         except subprocess.TimeoutExpired:

@@ -1,13 +1,9 @@
 """`gql answer --schema F --query F ..`: a request of parts, answered by the proved program."""
 
 import argparse
-import re
-import sys
 
 from programs import MISUSED, UNWRITABLE, end, read, write
-from requests import Request, fault_in, quoted
-
-FAULT = re.compile(rb'^\{"errors":\[\{"message":"request: (.*) at byte (\d+)"\}\]\}$')
+from requests import Request, fault_in
 
 
 def parser():
@@ -29,8 +25,8 @@ def json_member(request, member, name, content):
     """Adds a member whose JSON is given, once that is known to be one value."""
     fault = fault_in(content)
     if fault is not None:
-        end(MISUSED, f"{name}:{fault}" if fault[:1].isdigit() else f"{name}: {fault}")
-    request.add(member, content, name)
+        end(MISUSED, f"{name}:{fault}")
+    request.add_json(member, content, name)
 
 
 def request_of(given):
@@ -38,8 +34,8 @@ def request_of(given):
     if [given.schema, given.query, given.data].count("-") > 1:
         end(MISUSED, "standard input is read once")
     request = Request()
-    request.add("schema", quoted(read(given.schema)), given.schema)
-    request.add("query", quoted(read(given.query)), given.query)
+    request.add_text("schema", read(given.schema), given.schema)
+    request.add_text("query", read(given.query), given.query)
     if given.data is not None:
         json_member(request, "data", given.data, read(given.data))
     if given.variables is not None:
@@ -47,18 +43,10 @@ def request_of(given):
         content = read(given.variables[1:]) if is_file else given.variables.encode("utf-8", "surrogateescape")
         json_member(request, "variables", given.variables[1:] if is_file else "--variables", content)
     if given.operation is not None:
-        request.add("operationName", quoted(given.operation.encode("utf-8", "surrogateescape")), "--operation")
+        request.add_text("operationName", given.operation.encode("utf-8", "surrogateescape"), "--operation")
     if given.introspection:
-        request.add("introspection", b"true", "--introspection")
+        request.add_json("introspection", b"true", "--introspection")
     return request
-
-
-def tell_place(request, written):
-    """Says on standard error in which file a fault of the request stands, which the response tells by the byte of the whole."""
-    fault = FAULT.match(written.strip())
-    found = request.name_at(int(fault[2])) if fault else None
-    if found:
-        print(f"gql: {found[0]}: {fault[1].decode(errors='replace')} at byte {found[1]}", file=sys.stderr)
 
 
 def answer(proved, words):
@@ -67,5 +55,5 @@ def answer(proved, words):
     status, written = proved.run("answer", request.whole())
     if not write(written):
         return UNWRITABLE
-    tell_place(request, written)
+    request.tell_place(written)
     return status

@@ -6,7 +6,7 @@ import sys
 
 from programs import DONE, MISUSED, UNWRITABLE, end, read, write
 from reports import Source, renamed, shown
-from requests import Request, quoted
+from requests import Request
 
 USAGE = "usage: gql check [REQUEST.json | -]\n       gql check SCHEMA [QUERY]"
 
@@ -34,11 +34,10 @@ def of_files(schema, query):
     if schema == query == "-":
         end(MISUSED, "standard input is read once")
     texts = {"schema": read(schema), "query": ANY_QUERY if query is None else read(query)}
-    request = Request()
+    names, request = {"schema": schema, "query": query or "query"}, Request()
     for kind, text in texts.items():
-        request.add(kind, quoted(text), kind)
-    names = {"schema": schema, "query": query or "query"}
-    return request.whole(), {kind: Source(names[kind], text.decode("utf-8", "replace")) for kind, text in texts.items()}
+        request.add_text(kind, text, names[kind])
+    return request, {kind: Source(names[kind], text.decode("utf-8", "replace")) for kind, text in texts.items()}
 
 
 def asked(words):
@@ -50,15 +49,16 @@ def asked(words):
         print(USAGE, file=sys.stderr)
         sys.exit(MISUSED)
     if not words or len(words) == 1 and (words[0] == "-" or words[0].endswith(".json")):
-        request = read(words[0] if words else "-")
-        return request, texts_of(request)
+        content = read(words[0] if words else "-")
+        return Request(content), texts_of(content)
     return of_files(words[0], words[1] if len(words) == 2 else None)
 
 
 def check(proved, words):
     """Checks; gives the program's status."""
     request, sources = asked(words)
-    status, written = proved.run("check", request)
+    status, written = proved.run("check", request.whole())
+    request.tell_place(written)
     if is_plain():
         written = renamed(written, sources)
     else:

@@ -154,6 +154,11 @@ class Check(Files):
         self.assertEqual(self.check("s.graphqls", "wrong.graphql")[:2], (1, wanted))
         self.assertEqual(self.check("wrong.graphql", "q.graphql")[1].splitlines()[1].partition(b":")[0], b"wrong.graphql")
 
+    def test_a_file_that_is_no_utf8(self):
+        (self.folder / "bad.graphql").write_bytes(b"{\n a\n} # \xff")
+        status, written, said = self.check("s.graphqls", "bad.graphql")
+        self.assertEqual((status, written[:10], said), (1, b'{"errors":', "gql: bad.graphql: syntax at byte 9\n"))
+
     def test_wrong_words(self):
         for words in (("--nonsense",), ("a", "b", "c"), ("-", "-")):
             self.assertEqual(self.check(*words)[:2], (2, b""))
