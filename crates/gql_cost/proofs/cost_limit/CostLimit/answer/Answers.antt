@@ -3,8 +3,8 @@ use Rattle.gql_cost.proofs.Calls.{asks-within}
 use Rattle.gql_cost.proofs.Exact.{EngineLaws, call-exact, call-valid}
 use Rattle.gql_cost.proofs.cost_limit.CostLimit.answer.Goals as goal
 
-pub returns : goal.returns
-returns g c =
+pub returns-clause-answer : goal.returns-clause-answer
+returns-clause-answer g c =
     let laws : EngineLaws =
     record {
       calls = c.causes_exclude_one_another.ensures.calls;
