@@ -12,12 +12,12 @@ use Rattle.gql_rules_merging.specs.bridge.Classes.{same_head, has_class, same_it
 use Rattle.gql_rules_merging.specs.bridge.ClassSteps.{IsClassFor}
 use Rattle.gql_rules_merging.specs.Numbering.{Selected}
 
-got_before : {A : Type 0} (xs ys : List A) (i : ℕ) → i < length xs → slice_get (xs ++ ys) i ≡ slice_get xs i
+pub got_before : {A : Type 0} (xs ys : List A) (i : ℕ) → i < length xs → slice_get (xs ++ ys) i ≡ slice_get xs i
 got_before [] ys i within = absurd (omega (arith, within))
 got_before (x ∷ xs) ys zero within = refl
 got_before (x ∷ xs) ys (suc i) within = got_before xs ys i (omega (arith, within))
 
-got_last : {A : Type 0} (xs : List A) (x : A) → slice_get (xs ++ x ∷ []) (length xs) ≡ Some x
+pub got_last : {A : Type 0} (xs : List A) (x : A) → slice_get (xs ++ x ∷ []) (length xs) ≡ Some x
 got_last [] x = refl
 got_last (y ∷ xs) x = got_last xs x
 

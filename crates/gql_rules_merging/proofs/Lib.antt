@@ -3,6 +3,8 @@ mod ClassGrowth
 mod FamilySets
 mod Keyed
 mod Likeness
+mod ObjectFamilies
+mod PlaceNumbers
 mod Pairing
 mod SameArguments
 mod Screened

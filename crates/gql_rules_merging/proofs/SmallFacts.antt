@@ -33,7 +33,7 @@ number_within fields x some = by_position (place_of (has_key (key_of x)) fields)
     by_position None at = some
     by_position (Some n) at = first_within (has_key (key_of x)) fields n at
 
-length_map : {A B : Type 0} (f : A → B) (xs : List A) → length (map f xs) ≡ length xs
+pub length_map : {A B : Type 0} (f : A → B) (xs : List A) → length (map f xs) ≡ length xs
 length_map f [] = refl
 length_map f (x ∷ xs) = ap suc (length_map f xs)
 

@@ -81,7 +81,7 @@ fn are_apart(types: &Table<ExtendedType>, one: &Selected<'_>, other: &Selected<'
 }
 
 /// Whether this is the name of an object type.
-fn is_object(types: &Table<ExtendedType>, name: &str) -> bool
+pub(crate) fn is_object(types: &Table<ExtendedType>, name: &str) -> bool
     ensures { result ≡ spec.is_object_name types.now name.now }
 {
     matches!(types.get(name), Some(ExtendedType::Object(_)))

@@ -9,8 +9,7 @@ use crate::numbering::Selected;
 use crate::same_value::same_value;
 use gql_ast_base::Argument;
 use gql_diag_messages::{DiagnosticData, Rule};
-use gql_rules_values::list_fault;
-use gql_schema_types::argument_called;
+use gql_rules_values::{ByName, list_fault};
 use jb_text::{Listed, Memory};
 use std::alloc::Global;
 
@@ -18,31 +17,28 @@ use std::alloc::Global;
 pub(crate) fn have_same_arguments(one: &Selected<'_>, other: &Selected<'_>) -> bool
     ensures { result ≡ spec.same_arguments (selected_of one.now).arguments (selected_of other.now).arguments }
 {
-    same_arguments(
-        one.field.arguments.as_slice(),
-        other.field.arguments.as_slice(),
-    )
+    same_arguments(one.arguments.as_slice(), &other.arguments)
 }
 
 /// As many arguments, and each among the others.
-fn same_arguments(arguments: &[Argument], others: &[Argument]) -> bool
+fn same_arguments(arguments: &[Argument], others: &ByName<'_, Argument>) -> bool
     ensures { result ≡ spec.same_arguments arguments.now others.now }
 {
-    arguments.len() == others.len() && are_given(others, arguments)
+    arguments.len() == others.as_slice().len() && are_given(others, arguments)
 }
 
 /// Whether each of these is among the others.
-fn are_given(others: &[Argument], arguments: &[Argument]) -> bool
+fn are_given(others: &ByName<'_, Argument>, arguments: &[Argument]) -> bool
     ensures { result ≡ list_all (spec.is_given others.now) arguments.now }
 {
     arguments.iter().all(|argument| is_given(others, argument))
 }
 
 /// Whether the first of the name among these has the same value.
-fn is_given(others: &[Argument], argument: &Argument) -> bool
+fn is_given(others: &ByName<'_, Argument>, argument: &Argument) -> bool
     ensures { result ≡ spec.is_given others.now argument.now }
 {
-    match argument_called(argument.name.as_str(), others) {
+    match others.get(argument.name.as_str()) {
         Some(other) => same_value(&argument.value, &other.value),
         None => false,
     }

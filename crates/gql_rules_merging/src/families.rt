@@ -5,7 +5,7 @@ ghost use Rattle.std.specs.Prelude.{◌≡◌, true, [], IfOk};
 ghost use Rattle.gql_rules_merging.specs.bridge.Families as spec;
 ghost use Rattle.gql_rules_merging.specs.bridge.Gathering.{fields_of, selected_of, numbered_of};
 ghost use Rattle.gql_rules_merging.specs.bridge.Telling as telling;
-ghost use Rattle.gql_graph.specs.bridge.Explored.{IsExplored};
+ghost use Rattle.gql_graph.specs.bridge.Explored.{AreKeys, IsExplored};
 
 use crate::classes::class_of;
 use crate::comparison::{Comparison, differ};
@@ -13,6 +13,7 @@ use crate::conflicting_field_type::same_shape;
 use crate::family_growth::grown_families;
 use crate::family_sets::gathered;
 use crate::numbering::{Numbered, Selected};
+use crate::object_families::is_sound_by_objects;
 use gql_graph::{DocumentSets, Graph, explore};
 use gql_schema_types::{ExtendedType, Table};
 use jb_text::Memory;
@@ -34,12 +35,16 @@ pub(crate) fn is_sound_by_families(
     if all_agree(types, numbered.fields.as_slice(), families.as_slice()) {
         are_closed(alloc, types, numbered, keys, families.as_slice())
     } else {
-        Ok(false)
+        is_sound_by_objects(alloc, types, numbered, keys, families.as_slice())
     }
 }
 
 /// Whether each field agrees with the one that its family is called after.
-fn all_agree(types: &Table<ExtendedType>, fields: &[Selected<'_>], families: &[usize]) -> bool
+pub(crate) fn all_agree(
+    types: &Table<ExtendedType>,
+    fields: &[Selected<'_>],
+    families: &[usize],
+) -> bool
     ensures { result ≡ true → spec.AreAgreed types.now (fields_of fields.now) families.now }
 {
     for number in 0..fields.len() {
@@ -114,21 +119,23 @@ fn are_closed(
     ensures { IfOk result (λ closed. closed ≡ true → telling.NoneBreaks types.now (numbered_of numbered.now)) }
 {
     let rows = gathered(alloc, numbered, families)?;
-    let none_meet = is_unmet(alloc, types, numbered, keys, families, &rows)?;
+    let none_meet = is_unmet(alloc, types, numbered, keys, keys.len(), families, &rows)?;
     Ok(none_meet)
 }
 
-/// Whether no two fields of different families have one response key, in the document's sets or in one that selects a row of these.
-fn is_unmet(
+/// Whether no two fields of different families have one number of these keys, in the document's sets or in one that selects a row of
+/// these.
+pub(crate) fn is_unmet(
     alloc: Global,
     types: &Table<ExtendedType>,
     numbered: &Numbered<'_>,
     keys: &[usize],
+    key_count: usize,
     families: &[usize],
     rows: &Graph,
 ) -> Result<bool, Memory>
-    requires { keys.now ≡ telling.key_numbers (fields_of numbered.now.fields) }
-    ensures { IfOk result (λ unmet. unmet ≡ true → IsExplored (spec.sets_over types.now (numbered_of numbered.now) rows.now) families.now []) }
+    requires { AreKeys keys.now key_count }
+    ensures { IfOk result (λ unmet. unmet ≡ true → IsExplored (spec.sets_over types.now (numbered_of numbered.now) rows.now keys.now) families.now []) }
 {
     let comparison = Comparison {
         types,
@@ -138,7 +145,7 @@ fn is_unmet(
         fragments: &numbered.fragments,
         operations: rows,
         keys,
-        key_count: keys.len(),
+        key_count,
         classes: families,
     };
     let seen = explore(alloc, &comparison, &sets)?;

@@ -17,6 +17,8 @@ mod family_growth;
 mod family_sets;
 mod field_selection_merging;
 mod numbering;
+mod object_families;
+mod places;
 mod response_keys;
 mod same_value;
 

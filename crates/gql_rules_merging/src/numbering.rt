@@ -5,17 +5,19 @@ ghost use Rattle.gql_rules_merging.specs.bridge.Gathering as seen;
 ghost use Rattle.gql_rules_merging.specs.Numbering as spec;
 ghost use Rattle.gql_rules_merging.specs.ResponseKeys.{key_of};
 
-use gql_ast_base::Name;
+use gql_ast_base::{Argument, Name};
 use gql_document_types::{ExecutableDocument, Field, Fragment, Operation, Selection, SelectionSet};
 use gql_graph::Graph;
+use gql_rules_values::ByName;
 use gql_schema_types::Table;
 use jb_text::{Listed, Memory};
 use std::alloc::Global;
 
-/// A field, with the type of the set that it stands in and what its own set selects.
+/// A field, with the type of the set that it stands in, its arguments by their names, and what its own set selects.
 pub(crate) struct Selected<'d> {
     pub(crate) parent: &'d Name,
     pub(crate) field: &'d Field,
+    pub(crate) arguments: ByName<'d, Argument>,
     pub(crate) items: Listed<usize>,
 }
 
@@ -24,6 +26,7 @@ impl Drop for Selected<'_> {
         let Selected {
             parent: _,
             field: _,
+            arguments: _,
             items: _,
         } = self;
     }
@@ -201,9 +204,12 @@ fn gather_field<'d>(
     let mut inner = Listed::new(alloc);
     gather_set(alloc, fragments, &field.selection_set, fields, &mut inner)?;
     let number = fragments.as_slice().len() + fields.as_slice().len();
+    let arguments = field.arguments.as_slice();
+    let arguments = ByName::new(alloc, arguments, arguments.len())?;
     fields.push(Selected {
         parent,
         field,
+        arguments,
         items: inner,
     })?;
     items.push(number)

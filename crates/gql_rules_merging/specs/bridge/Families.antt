@@ -2,7 +2,7 @@
 use Rattle.std.specs.Prelude.{◌≡◌, ◌<◌, ℕ, Bool, true, false, not, ◌&&◌, ◌||◌, ◌==◌, List, [], ◌++◌, slice_get, slice_set}
 use Rattle.std.specs.List.{Contains}
 use Rattle.std.specs.Option.{option_map_or, unwrap_or}
-use Rattle.gql_graph.specs.bridge.Explored.{class_of}
+use Rattle.gql_graph.specs.bridge.Explored.{class_of, IsExplored}
 use Rattle.gql_graph.specs.Pairs.{Sets}
 use Rattle.gql_schema_types.specs.declared.types.ExtendedType.{ExtendedType}
 use Rattle.gql_rules_merging.specs.ConflictingFieldType.{same_shape}
@@ -29,6 +29,17 @@ module _ (types : List ExtendedType) where
     abbrev pub AreAgreed : List ℕ → Type 0
     AreAgreed families = (number : ℕ) → is_agreed_at families number ≡ true
 
+    abbrev pub is_shaped_with : ℕ → Selected → Bool
+    is_shaped_with number field =
+        option_map_or (λ (other : Selected). same_shape types field.definition.ty other.definition.ty) (slice_get fields number) false
+
+    abbrev pub is_shaped_at : List ℕ → ℕ → Bool
+    is_shaped_at families number = option_map_or (is_shaped_with (class_of families number)) (slice_get fields number) true
+
+    -- each field has the shape of the one that its family is called after
+    abbrev pub AreShaped : List ℕ → Type 0
+    AreShaped families = (number : ℕ) → is_shaped_at families number ≡ true
+
 -- each family is called after one of so many fields
 abbrev pub AreWithin : ℕ → List ℕ → Type 0
 AreWithin count families = (number : ℕ) → number < count → class_of families number < count
@@ -49,12 +60,26 @@ pub record IsGathered (document : Numbered) (families : List ℕ) (rows : List (
   pub selected : AreSelected document.fields families rows
   pub operations : (row : List ℕ) → Contains document.operations row → Contains rows row
 
--- a document's sets, with these rows in the place of what operations select
-abbrev pub sets_over : List ExtendedType → Numbered → List (List ℕ) → Sets
-sets_over types document rows = record {
+-- a document's sets, with these rows in the place of what operations select, and these numbers in the place of response keys
+abbrev pub sets_over : List ExtendedType → Numbered → List (List ℕ) → List ℕ → Sets
+sets_over types document rows keys = record {
   fragments = document.fragments;
   operations = rows;
   items = items document.fields;
-  keys = key_numbers document.fields;
+  keys = keys;
   below = below types document.fields;
 }
+
+-- fields of one response key that are compared are of one family, and all of it have one shape
+pub record AreShapeFamilies (types : List ExtendedType) (document : Numbered) (families : List ℕ) : Type 0 where
+  pub shaped : AreShaped types document.fields families
+  pub rows : List (List ℕ)
+  pub gathered : IsGathered document families rows
+  pub closed : IsExplored (sets_over types document rows (key_numbers document.fields)) families []
+
+-- fields of one number that meet are of one group, and all of it agree
+pub record AreGroups (types : List ExtendedType) (document : Numbered) (numbers groups : List ℕ) : Type 0 where
+  pub agreed : AreAgreed types document.fields groups
+  pub rows : List (List ℕ)
+  pub gathered : IsGathered document groups rows
+  pub closed : IsExplored (sets_over types document rows numbers) groups []

@@ -1,6 +1,7 @@
 -- The fields of a document as the code holds them.
 use Rattle.std.specs.Prelude.{List, [], map}
 use Rattle.gql_ast_base.specs.Names.{Named}
+use Rattle.gql_ast_base.specs.declared.directive.Argument.{Argument}
 use Rattle.gql_document_types.specs.declared.fragment.Fragment.{Fragment}
 use Rattle.gql_document_types.specs.declared.operation.Operation.{Operation}
 use Rattle.gql_document_types.specs.declared.selection.Field.{Field}
@@ -9,19 +10,22 @@ use Rattle.gql_rules_merging.specs.Numbering.{Items, Selected, Gathered, Sets, N
 use Rattle.gql_rules_merging.specs.declared.numbering.Numbered.{Numbered as Held}
 use Rattle.gql_rules_merging.specs.declared.numbering.Selected.{Selected as HeldField}
 
-abbrev pub selected_as : Named → Field → Items → Selected
-selected_as parent field items = record {
+abbrev pub selected_with : Named → Field → List Argument → Items → Selected
+selected_with parent field arguments items = record {
   parent = parent;
   alias = field.alias;
   name = field.name;
-  arguments = field.arguments;
+  arguments = arguments;
   location = field.location;
   definition = field.definition;
   items = items;
 }
 
+abbrev pub selected_as : Named → Field → Items → Selected
+selected_as parent field items = selected_with parent field field.arguments items
+
 abbrev pub selected_of : HeldField → Selected
-selected_of held = selected_as held.parent.now held.field.now held.items
+selected_of held = selected_with held.parent.now held.field.now held.arguments held.items
 
 abbrev pub fields_of : List HeldField → List Selected
 fields_of held = map selected_of held
