@@ -4,11 +4,10 @@
 ghost use Rattle.std.specs.Prelude.{◌≡◌, ◌++◌, OnOk};
 ghost use Rattle.gql_schema_rules_parts.specs.ExtraRequiredImplementationFieldArgument as spec;
 
-use crate::interface_fields::argument_called;
 use gql_ast::{FieldDefinition, InputValueDefinition};
 use gql_ast_base::Name;
 use gql_diag_messages::{DiagnosticData, Rule};
-use gql_rules_values::{is_required, list_fault};
+use gql_rules_values::{ByName, is_required, list_fault};
 use jb_text::{Listed, Memory};
 use std::alloc::Global;
 
@@ -18,13 +17,15 @@ pub(crate) fn list_extra_required_implementation_field_argument(
     ty: &Name,
     interface: &Name,
     wanted: &FieldDefinition,
+    known: &ByName<'_, InputValueDefinition>,
     field: &FieldDefinition,
     argument: &InputValueDefinition,
     faults: &mut Listed<DiagnosticData>,
 ) -> Result<(), Memory>
+    requires { known.now ≡ wanted.now.arguments }
     ensures { OnOk result (faults.new ≡ faults.old ++ spec.extra_required_implementation_field_argument ty.now interface.now wanted.now field.now argument.now) }
 {
-    if is_extra(wanted, argument) {
+    if is_extra(wanted, known, argument) {
         list_fault(
             alloc,
             Rule::ExtraRequiredImplementationFieldArgument,
@@ -44,9 +45,13 @@ pub(crate) fn list_extra_required_implementation_field_argument(
 }
 
 /// Whether an argument has to be given, and is not one of the field of the interface.
-fn is_extra(wanted: &FieldDefinition, argument: &InputValueDefinition) -> bool
+fn is_extra(
+    wanted: &FieldDefinition,
+    known: &ByName<'_, InputValueDefinition>,
+    argument: &InputValueDefinition,
+) -> bool
+    requires { known.now ≡ wanted.now.arguments }
     ensures { result ≡ spec.is_extra wanted.now argument.now }
 {
-    is_required(argument)
-        && argument_called(wanted.arguments.as_slice(), argument.name.as_str()).is_none()
+    is_required(argument) && known.get(argument.name.as_str()).is_none()
 }

@@ -1,8 +1,7 @@
 //! A field of a type beside the field of an interface that the type lists (GraphQL October 2021, section 3.6,
 //! "IsValidImplementation").
 
-ghost use Rattle.std.specs.Prelude.{◌≡◌, ◌++◌, [], OnOk};
-ghost use Rattle.std.specs.Option.{option_copied};
+ghost use Rattle.std.specs.Prelude.{◌≡◌, ◌<◌, ◌++◌, [], Some, not, is_some, length, slice_get, take, OnOk};
 ghost use Rattle.gql_schema_rules_parts.specs.Arguments.{argument_called};
 ghost use Rattle.gql_schema_rules_parts.specs.InterfaceRules as spec;
 
@@ -14,6 +13,7 @@ use crate::missing_interface_field_argument::list_missing_interface_field_argume
 use gql_ast::{FieldDefinition, InputValueDefinition};
 use gql_ast_base::Name;
 use gql_diag_messages::DiagnosticData;
+use gql_rules_values::ByName;
 use gql_schema_types::{ExtendedType, Shared, Table};
 use jb_text::{Listed, Memory};
 use std::alloc::Global;
@@ -84,7 +84,7 @@ fn list_arguments(
     )
 }
 
-/// Lists what is wrong with the arguments that the field of the interface has.
+/// Lists what is wrong with the arguments that the field of the interface has. It takes time that grows with the arguments of both.
 fn list_wanted_arguments(
     alloc: Global,
     types: &Table<ExtendedType>,
@@ -96,17 +96,12 @@ fn list_wanted_arguments(
 ) -> Result<(), Memory>
     ensures { OnOk result (faults.new ≡ faults.old ++ spec.wanted_after types.now ty.now interface.now field.now [] arguments.now) }
 {
-    for index in 0..arguments.len() {
-        let earlier = &arguments[..index];
+    let all = ByName::new(alloc, arguments, arguments.len())?;
+    let given = ByName::new(alloc, field.arguments.as_slice(), arguments.len())?;
+    for at in 0..arguments.len() {
+        let wanted = &arguments[at];
         list_first_wanted(
-            alloc,
-            types,
-            ty,
-            interface,
-            field,
-            earlier,
-            &arguments[index],
-            faults,
+            alloc, types, ty, interface, field, &given, &all, at, wanted, faults,
         )?;
     }
     Ok(())
@@ -119,16 +114,35 @@ fn list_first_wanted(
     ty: &Name,
     interface: &Name,
     field: &FieldDefinition,
-    earlier: &[InputValueDefinition],
+    given: &ByName<'_, InputValueDefinition>,
+    all: &ByName<'_, InputValueDefinition>,
+    at: usize,
     wanted: &InputValueDefinition,
     faults: &mut Listed<DiagnosticData>,
 ) -> Result<(), Memory>
-    ensures { OnOk result (faults.new ≡ faults.old ++ spec.wanted_argument_faults types.now ty.now interface.now field.now earlier.now wanted.now) }
+    requires given { given.now ≡ field.now.arguments }
+    requires within { at < length all.now }
+    requires there { slice_get all.now at ≡ Some wanted.now }
+    ensures { OnOk result (faults.new ≡ faults.old ++ spec.wanted_argument_faults types.now ty.now interface.now field.now (take at all.now) wanted.now) }
 {
-    match argument_called(earlier, wanted.name.as_str()) {
-        Some(_) => Ok(()),
-        None => list_wanted_argument(alloc, types, ty, interface, field, wanted, faults),
+    if !is_first(all, at, wanted) {
+        return Ok(());
     }
+    list_wanted_argument(alloc, types, ty, interface, field, given, wanted, faults)?;
+    Ok(())
+}
+
+/// Whether the argument, which is the one at `at`, is the first of its name.
+fn is_first(
+    all: &ByName<'_, InputValueDefinition>,
+    at: usize,
+    argument: &InputValueDefinition,
+) -> bool
+    requires within { at < length all.now }
+    requires there { slice_get all.now at ≡ Some argument.now }
+    ensures { result ≡ not (is_some (argument_called (take at all.now) argument.now.name.text)) }
+{
+    all.is_first(at)
 }
 
 fn list_wanted_argument(
@@ -137,12 +151,14 @@ fn list_wanted_argument(
     ty: &Name,
     interface: &Name,
     field: &FieldDefinition,
+    given: &ByName<'_, InputValueDefinition>,
     wanted: &InputValueDefinition,
     faults: &mut Listed<DiagnosticData>,
 ) -> Result<(), Memory>
+    requires { given.now ≡ field.now.arguments }
     ensures { OnOk result (faults.new ≡ faults.old ++ spec.wanted_argument_faults types.now ty.now interface.now field.now [] wanted.now) }
 {
-    match argument_called(field.arguments.as_slice(), wanted.name.as_str()) {
+    match given.get(wanted.name.as_str()) {
         Some(argument) => list_invalid_implementation_field_argument_type(
             alloc, types, ty, interface, field, wanted, argument, faults,
         ),
@@ -150,7 +166,8 @@ fn list_wanted_argument(
     }
 }
 
-/// Lists the arguments that have to be given and that the field of the interface does not have.
+/// Lists the arguments that have to be given and that the field of the interface does not have. It takes time that grows with the
+/// arguments of both.
 fn list_extra_arguments(
     alloc: Global,
     ty: &Name,
@@ -162,17 +179,12 @@ fn list_extra_arguments(
 ) -> Result<(), Memory>
     ensures { OnOk result (faults.new ≡ faults.old ++ spec.extra_after ty.now interface.now wanted.now field.now [] arguments.now) }
 {
-    for index in 0..arguments.len() {
-        let earlier = &arguments[..index];
+    let all = ByName::new(alloc, arguments, arguments.len())?;
+    let known = ByName::new(alloc, wanted.arguments.as_slice(), arguments.len())?;
+    for at in 0..arguments.len() {
+        let argument = &arguments[at];
         list_first_extra(
-            alloc,
-            ty,
-            interface,
-            wanted,
-            field,
-            earlier,
-            &arguments[index],
-            faults,
+            alloc, ty, interface, wanted, field, &known, &all, at, argument, faults,
         )?;
     }
     Ok(())
@@ -185,28 +197,22 @@ fn list_first_extra(
     interface: &Name,
     wanted: &FieldDefinition,
     field: &FieldDefinition,
-    earlier: &[InputValueDefinition],
+    known: &ByName<'_, InputValueDefinition>,
+    all: &ByName<'_, InputValueDefinition>,
+    at: usize,
     argument: &InputValueDefinition,
     faults: &mut Listed<DiagnosticData>,
 ) -> Result<(), Memory>
-    ensures { OnOk result (faults.new ≡ faults.old ++ spec.extra_argument_faults ty.now interface.now wanted.now field.now earlier.now argument.now) }
+    requires known { known.now ≡ wanted.now.arguments }
+    requires within { at < length all.now }
+    requires there { slice_get all.now at ≡ Some argument.now }
+    ensures { OnOk result (faults.new ≡ faults.old ++ spec.extra_argument_faults ty.now interface.now wanted.now field.now (take at all.now) argument.now) }
 {
-    match argument_called(earlier, argument.name.as_str()) {
-        Some(_) => Ok(()),
-        None => list_extra_required_implementation_field_argument(
-            alloc, ty, interface, wanted, field, argument, faults,
-        ),
+    if !is_first(all, at, argument) {
+        return Ok(());
     }
-}
-
-/// The first argument of the name.
-pub(crate) fn argument_called<'s>(
-    arguments: &'s [InputValueDefinition],
-    name: &str,
-) -> Option<&'s InputValueDefinition>
-    ensures { option_copied result ≡ argument_called arguments.now name.now }
-{
-    arguments
-        .iter()
-        .find(|argument| name == argument.name.as_str())
+    list_extra_required_implementation_field_argument(
+        alloc, ty, interface, wanted, known, field, argument, faults,
+    )?;
+    Ok(())
 }
