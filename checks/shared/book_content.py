@@ -1,4 +1,4 @@
-"""What the book has: the definitions that public clauses rest on, by sections; calls and laws with their clauses; types; computed rows."""
+"""What the book has: the definitions that public clauses rest on, by sections; calls and laws with their clauses; types; examples."""
 import collections
 import re
 
@@ -36,7 +36,7 @@ class Book:
         self.calls, self.laws = self.calls_of_crates(), self.laws_of_crates()
         self.types = sorted(node for node in self.all if node[0] == "item" and self.item(node).kind in SHOWN_TYPES)
         self.anchors = self.named()
-        self.rows, self.laws_on = self.computed_rows(), self.laws_by_definition()
+        self.examples, self.laws_on = self.examples_by_definition(), self.laws_by_definition()
 
     # Order.
 
@@ -197,9 +197,9 @@ class Book:
                     break
         return found
 
-    # Computed rows.
+    # Examples and laws.
 
-    def computed_rows(self):
+    def examples_by_definition(self):
         """For each definition the facts without variables that are proved by computing with it: of laws, and of lemmas by `refl`."""
         rows = collections.defaultdict(list)
         for _, nodes in self.laws:

@@ -171,9 +171,9 @@ class Page:
         if said:
             shown += f"<p>{inline(said)}</p>"
         shown += f"<pre>{self.code(node, made, new_blocks)}</pre>"
-        for fact, origin in book.rows.get(node, []):
+        for fact, origin in book.examples.get(node, []):
             where = f" (<a href=#{book.anchors[origin]}>{escaped(origin[3])}</a>)" if isinstance(origin, tuple) else ""
-            shown += f"<p class=row>Computed: <code>{escaped(fact)}</code>{where}</p>"
+            shown += f"<p class=row>Example: <code>{escaped(fact)}</code>{where}</p>"
         laws = book.laws_on.get(node, [])
         if laws:
             named = ", ".join(f"<a href=#{book.anchors[law]}>{escaped(law[3])}</a>" for law in laws[:MOST_LAWS])
@@ -248,7 +248,7 @@ class Page:
     def type(self, node):
         book = self.book
         item, module = book.item(node), book.crates.modules[node[1], node[2]]
-        text = re.sub(r"(?m)^\s*(?:///|//)[^\n]*\n|^\s*#\[[^\n]*\]\n", "", module.source.text[item.start : item.end])
+        text = re.sub(r"(?m)^\s*(?:///|//)[^\n]*\n|^\s*#\[[^\n]*\]\n", "", without_bodies(module.source.text, item))
         if item.kind == "trait":
             text = re.sub(r"(?m)^\s*ghost use [^;]*;\n", "", text)
         if item.kind in ("const", "static") and len(text) > 200:
@@ -315,6 +315,16 @@ def prose(comment):
     lines = [re.sub(r"^\s*-- ?", "", line) for line in comment.splitlines()]
     text = " ".join(line.strip() for line in lines if not re.fullmatch(r"\s*-*\s*", line))
     return text[:1].upper() + text[1:]
+
+
+def without_bodies(text, item):
+    """An item's text, the bodies of a trait's functions left out."""
+    out, at = [], item.start
+    for child in item.children:
+        if child.kind == "fn" and child.body:
+            out.append(text[at : child.body[0] - 1].rstrip() + ";")
+            at = child.end
+    return "".join(out) + text[at : item.end]
 
 
 def lowered(said):

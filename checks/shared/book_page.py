@@ -5,8 +5,8 @@ from shared.book_html import prose
 HEAD = """# The book
 
 What a reader must believe: the definitions that the public clauses and the laws rest on, in the order of GraphQL October 2021, then JSON,
-streams and programs, and laws. [`book.html`](book.html) has them in full: each with its comment, the facts that were computed with it, and each
-name linked to where it is defined. It is one page with no script; open it from a clone, in any browser. `checks/book` writes both from the
+streams and programs, and laws. [`book.html`](book.html) has them in full: each with its comment, examples and laws, and each name linked to
+where it is defined. It is one page with no script; open it from a clone, in any browser. `checks/book` writes both from the
 sources, and `checks/book --check` says whether they are fresh.
 
 | | Definitions | Lines | Files | Words of the toolchain's library |

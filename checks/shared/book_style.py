@@ -61,7 +61,7 @@ cause; and that a valid request is answered unless memory runs out. Whoever beli
 and for laws: facts about the definitions alone, which are proved too, and show that they fit together.</p>
 <p>You need to believe no code, no proof, and none of the {bridge} definitions in <code>specs/bridge/</code>, which only carry code to meaning.</p>
 <p>The book follows the standard, section by section; where a section is read in a way of ours, it says so first. Within a section definitions stand in the
-order in which they build on each other. Each name leads to where it is defined. A line "Computed" is a fact that was proved by computing.
+order in which they build on each other. Each name leads to where it is defined. A line "Example" is a fact about one small case, and is proved too.
 <code>docs/READING_CONTRACTS.md</code> explains the notation in five minutes. If a definition says something else than the standard, and nothing here says so,
 that is a fault of ours which no proof can show.</p>
 {parts}
