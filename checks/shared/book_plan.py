@@ -311,6 +311,7 @@ DECISIONS = {
     "Costs": "costs",
     "The response checker": "checked",
     "The gateway": "gateways",
+    "Packages": None,
     "Left open": None,
 }
 
