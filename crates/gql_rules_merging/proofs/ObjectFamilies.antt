@@ -1,10 +1,10 @@
 -- Where families are of one shape, and the fields of one place that meet agree, no pair breaks the rule.
-use Rattle.std.proofs.Common.{◌≡◌, ◌⊎◌, inl, inr, ℕ, zero, suc, ◌<◌, ◌≤◌, ◌+◌, Bool, true, false, not, cond, ◌&&◌, ◌||◌, ◌==◌, Option, Some, None, position, List, [], ◌∷◌, ◌++◌, length, refl, sym, ap, ◌∙◌, subst, arith}
+use Rattle.std.proofs.Common.{◌≡◌, ◌⊎◌, inl, inr, ℕ, zero, suc, ◌<◌, ◌≤◌, ◌+◌, Bool, true, false, not, cond, ◌&&◌, ◌||◌, ◌==◌, Option, Some, None, position, List, [], ◌∷◌, length, refl, sym, ap, ◌∙◌, subst, arith}
 use Rattle.std.specs.Bool.{beq}
-use Rattle.std.specs.List.{Contains, AllByRecursion, IsDistinct, slice_get, list_any}
+use Rattle.std.specs.List.{AllByRecursion, IsDistinct, slice_get}
 use Rattle.std.specs.Option.{option_map_or, option_and_then, unwrap_or}
 use Rattle.std.specs.Str.{bytes_eq}
-use Rattle.std.proofs.lemmas.Bool.{eqb-true, eq-eqb}
+use Rattle.std.proofs.lemmas.Bool.{eq-eqb}
 use Rattle.std.proofs.lemmas.Map.Keys.{IsDistinct-head, IsDistinct-tail}
 use Rattle.std.proofs.lemmas.Option.{slice_get_within}
 use Rattle.gql_graph.proofs.Flooded.{same_or_not}
@@ -14,7 +14,7 @@ use Rattle.gql_graph.specs.declared.pair.Pair.{Pair}
 use Rattle.gql_schema_types.specs.Entries.{is_called}
 use Rattle.gql_schema_types.specs.Types.{type_name as name_of}
 use Rattle.gql_schema_types.specs.declared.types.ExtendedType.{ExtendedType}
-use Rattle.gql_rules_merging.proofs.Agreement.{not-false, neither, SameNamed, named_turned, named_on, named_holds, named_of, type_name, shape, Agree, Found, HasHead, within_by, one_by, of_one_family, met_in_set, met_below, one_family, below_at, none_by}
+use Rattle.gql_rules_merging.proofs.Agreement.{not-false, SameNamed, named_turned, named_on, named_holds, named_of, type_name, shape, Agree, Found, HasHead, within_by, one_by, of_one_family, met_in_set, met_below, one_family, below_at, none_by}
 use Rattle.gql_rules_merging.proofs.Pairing.{got_within}
 use Rattle.gql_rules_merging.proofs.Truths.{both_true, either_true, one_text, text_refl, one_levels, levels_refl}
 use Rattle.gql_rules_merging.specs.ConflictingFieldArgument.{same_arguments}
@@ -23,7 +23,7 @@ use Rattle.gql_rules_merging.specs.bridge.Families.{AreAgreed, AreShaped, IsGath
 use Rattle.gql_rules_merging.specs.FieldSelectionMerging.{below, below_fields, is_broken, are_apart, differ, is_object_name, sets_of}
 use Rattle.gql_rules_merging.specs.Numbering.{Selected, Numbered}
 use Rattle.gql_rules_merging.specs.bridge.Places.{is_mixed, is_place, is_on_object, is_on_object_at, type_number, parent_number, place_in, place_of, AreOnObjects, ArePlaces}
-use Rattle.gql_rules_merging.specs.ResponseKeys.{key_number, key_numbers}
+use Rattle.gql_rules_merging.specs.ResponseKeys.{key_numbers}
 use Rattle.gql_rules_merging.specs.bridge.Telling.{NoneBreaks}
 use Rattle.gql_rules_merging.specs.declared.places.Place.{Place}
 

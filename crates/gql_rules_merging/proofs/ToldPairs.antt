@@ -14,7 +14,7 @@ use Rattle.gql_graph.specs.bridge.Steps.{is_pair}
 use Rattle.gql_graph.specs.declared.pair.Pair.{Pair}
 use Rattle.gql_schema_types.specs.declared.types.ExtendedType.{ExtendedType}
 use Rattle.gql_rules_merging.specs.ConflictingFieldType.{types_conflict}
-use Rattle.gql_rules_merging.specs.FieldSelectionMerging.{below, below_fields, conflict_of, same_fields, sets_of, are_apart, differ, items, AreConflicts}
+use Rattle.gql_rules_merging.specs.FieldSelectionMerging.{below, below_fields, conflict_of, same_fields, sets_of, are_apart, differ, items}
 use Rattle.gql_rules_merging.specs.Numbering.{Selected, Numbered}
 use Rattle.gql_rules_merging.specs.bridge.Classes.{AreClasses, is_sound}
 use Rattle.gql_rules_merging.specs.ResponseKeys.{key_numbers}

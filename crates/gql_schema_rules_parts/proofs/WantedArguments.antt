@@ -1,5 +1,5 @@
 -- Arguments of which the first of a name counts.
-use Rattle.std.proofs.Common.{◌≡◌, Bool, true, false, not, cond, ◌||◌, Option, Some, List, [], ◌∷◌, is_some, refl, ap}
+use Rattle.std.proofs.Common.{◌≡◌, Bool, true, false, not, cond, ◌||◌, Some, List, [], ◌∷◌, is_some, refl}
 use Rattle.std.specs.List.{find, list_any}
 
 -- what is found passes the test

@@ -1,4 +1,4 @@
-use Rattle.std.proofs.Common.{◌<◌, ◌≡◌, length, [], sym, ap, ◌∙◌, subst}
+use Rattle.std.proofs.Common.{◌<◌, [], sym, subst}
 use Rattle.gql_graph.specs.bridge.Explored.{class_of, IsExplored}
 use Rattle.gql_rules_merging.proofs.Agreement.{families_within, none_break}
 use Rattle.gql_rules_merging.proofs.FamilySets.{fields_length}

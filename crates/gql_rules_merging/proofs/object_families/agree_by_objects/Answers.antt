@@ -1,4 +1,4 @@
-use Rattle.std.proofs.Common.{◌≡◌, ◌<◌, sym, subst}
+use Rattle.std.proofs.Common.{subst}
 use Rattle.gql_rules_merging.proofs.ObjectFamilies.{none_break_by_objects, numbers_within}
 use Rattle.gql_rules_merging.specs.bridge.Gathering.{fields_of, numbered_of}
 use Rattle.gql_rules_merging.specs.bridge.Places.{AreOnObjects, ArePlaces}

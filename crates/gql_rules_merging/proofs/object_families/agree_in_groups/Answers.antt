@@ -1,4 +1,4 @@
-use Rattle.std.proofs.Common.{◌≡◌, ◌<◌, [], sym, subst}
+use Rattle.std.proofs.Common.{◌<◌, [], sym, subst}
 use Rattle.gql_graph.specs.bridge.Explored.{class_of, IsExplored}
 use Rattle.gql_rules_merging.proofs.Agreement.{families_within}
 use Rattle.gql_rules_merging.proofs.FamilySets.{fields_length}

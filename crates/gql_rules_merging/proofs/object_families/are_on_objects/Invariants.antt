@@ -1,4 +1,4 @@
-use Rattle.std.proofs.Common.{◌≡◌, ℕ, ◌<◌}
+use Rattle.std.proofs.Common.{ℕ, ◌<◌}
 use Rattle.gql_rules_merging.proofs.ObjectFamilies.{StandsAt}
 use Rattle.gql_rules_merging.specs.bridge.Gathering.{fields_of}
 use Rattle.gql_rules_merging.proofs.object_families.are_on_objects.Given as goal

@@ -1,4 +1,4 @@
-use Rattle.std.proofs.Common.{◌≡◌, ◌+◌, ◌++◌, ◌∷◌, [], ℕ, length, sym, ap, ◌∙◌, subst, arith, length-append}
+use Rattle.std.proofs.Common.{◌≡◌, ◌+◌, ◌∷◌, [], ℕ, length, sym, ap, ◌∙◌, subst, arith, length-append}
 use Rattle.gql_rules_merging.proofs.FamilySets.{fields_length}
 use Rattle.gql_rules_merging.proofs.PlaceNumbers.{AreNumbered, next_numbered}
 use Rattle.gql_rules_merging.specs.bridge.Gathering.{fields_of}

@@ -1,6 +1,5 @@
 use Rattle.std.proofs.Common.{◌++◌, [], is_some, take, cond, sym, ap, ◌∙◌}
 use Rattle.std.proofs.lemmas.List.{append-nil}
-use Rattle.std.specs.Option.{option_map_or}
 use Rattle.gql_schema_rules_parts.proofs.WantedArguments.{not-true, not-false}
 use Rattle.gql_schema_rules_parts.specs.Arguments.{argument_called}
 use Rattle.gql_schema_rules_parts.specs.InterfaceRules.{wanted_argument_faults}
