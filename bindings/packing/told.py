@@ -4,14 +4,17 @@ from .archives import Held, text
 from .bill import bill, third_party_licences
 from .compiled import BINDINGS, VERSION
 from .statement import statement
+from .symbols import glibc_age
 
 ROOT = BINDINGS.parent
 PAGES = BINDINGS / "packing" / "pages"
 
 
-def page(name):
-    """A package's page, with the version in place."""
-    return (PAGES / f"{name}.md").read_text(encoding="utf-8").replace("@VERSION@", VERSION)
+def page(name, left):
+    """A package's page, with the version in place, and the glibc that the programs ask for."""
+    age = glibc_age(*(place.read_bytes() for place in left.programs.values()))
+    told = (PAGES / f"{name}.md").read_text(encoding="utf-8")
+    return told.replace("@VERSION@", VERSION).replace("@GLIBC@", "{}.{}".format(*age))
 
 
 def told(left):
@@ -26,5 +29,5 @@ def told(left):
     }
 
 
-def with_page(name, files):
-    return {"README.md": text(page(name))} | files
+def with_page(name, left, files):
+    return {"README.md": text(page(name, left))} | files
