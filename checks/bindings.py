@@ -122,6 +122,8 @@ def run_python(folder):
     python = BINDINGS / "python"
     quiet = os.environ | {"PYTHONDONTWRITEBYTECODE": "1"}
     try_command("Python", [sys.executable, "-m", "unittest", "-q", *PYTHON_TESTS], cwd=python, env=quiet)
+    told = try_command("the library's version", [sys.executable, "-c", "import sunwaket; print(sunwaket.VERSION)"], cwd=python, env=quiet).stdout.decode()
+    expect("the library's version, which is that of VERSION,", told == (ROOT / "VERSION").read_text(encoding="utf-8"))
     wheels = sorted((BINDINGS / "out").glob("*.whl"))
     expect("one wheel", len(wheels) == 1)
     words, alone = installed(folder, wheels[0])

@@ -69,7 +69,7 @@ class Answers(unittest.TestCase):
         self.assertIn("query.graphql:1:3: ", check(BOOKS, "{ nope }"))
 
     def test_version(self):
-        self.assertEqual(sunwaket.VERSION, "0.1.0")
+        self.assertRegex(sunwaket.VERSION, r"^\d+\.\d+\.\d+$")
 
 
 class Refusals(unittest.TestCase):
