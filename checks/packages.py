@@ -124,6 +124,29 @@ def try_tag(release, folder):
     print(f"packages: the wheel's library needs glibc {'.'.join(map(str, max(versions)))}, and its tag allows {'.'.join(map(str, allowed))} and later")
 
 
+def try_without_native(release, folder):
+    """The first answer in Node where the native module does not fit: by the WebAssembly module, which the package holds."""
+    package = folder / "node" / "first" / "node_modules" / "sunwaket"
+    if not (package / "sunwaket.wasm").is_file():
+        skip("Node without the native module", "the package has no WebAssembly module")
+        return
+    (package / "sunwaket.node").unlink()
+    _, printed = first_answer(page_of("node", only(release, PAGES["node"][1])))
+    status, written, said = run_in(folder / "node", "cd first\nnode first.js")
+    expect("Node without the native module", status == 0 and written == printed, written + said)
+
+
+def try_playground(release):
+    """The page with the engine inside: that it is whole, loads nothing from elsewhere, and says what was proved."""
+    page = only(release, "sunwaket-*-playground.html")
+    if page is None:
+        skip("the page with the engine inside", "it was left out")
+        return
+    text = page.read_text(encoding="utf-8")
+    loads = re.findall(r"""<(?:script|link|img|iframe)\b[^>]*\b(?:src|href)=["']?(?:https?:)?//[^>]*>|url\(["']?https?:[^)]*\)""", text)
+    expect("the page with the engine inside", not loads and "state:" in text.rpartition("<!--")[2], str(loads)[:500])
+
+
 def pythons():
     """The interpreters here that the wheel is for, by what they say that they are."""
     found = {}
@@ -301,6 +324,8 @@ def main(words):
             try_lintian(release)
             places = {name: follow(name, release, folder) for name in PAGES}
             try_further_code(release, folder)
+            try_without_native(release, folder)
+            try_playground(release)
             try_pythons(release, folder)
             if places["linux"]:
                 try_c(places["linux"])

@@ -1,4 +1,4 @@
-"""The packages for Python, Node and Go."""
+"""The packages for Python, Node and Go, and the page with the engine inside."""
 
 import json
 import sys
@@ -43,6 +43,14 @@ def npm(left, lib, told):
     listed = {"name": listed.pop("name"), "version": VERSION, "license": "MIT", **listed, "files": [*listed["files"], *told]}
     tree["package.json"] = text(json.dumps(listed, indent=2) + "\n")
     return f"sunwaket-{VERSION}.tgz", archives.tar_gz(archives.below("package", tree | told), left.when)
+
+
+def playground(told):
+    """The page with the engine inside, where bindings/build has made it: one file, with the statement of what was proved at its end."""
+    page = BINDINGS / "out" / "playground.html"
+    if not page.is_file():
+        raise Lacking("bindings/build made no playground.html, for which it wants wasm-opt (Debian's binaryen)")
+    return f"sunwaket-{VERSION}-playground.html", page.read_bytes() + b"\n<!--\n" + told["PROVED.txt"].content + b"-->\n"
 
 
 def go(left, lib, told):
