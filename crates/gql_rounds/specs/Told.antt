@@ -109,8 +109,8 @@ pub record TellsFirst (items : List Value) (old new : Table) : Type 0 where
 
 -- nothing was told, or the first of the answers of the text
 pub data TellsSome (text : List ℕ) (old new : Table) : Type 0 where
-  none : new ≡ old → TellsSome text old new
-  some : (items : List Value) → JsonText text (json.Array items) → AllByRecursion IsAnswer items → TellsFirst items old new → TellsSome text old new
+  untold : new ≡ old → TellsSome text old new
+  first : (items : List Value) → JsonText text (json.Array items) → AllByRecursion IsAnswer items → TellsFirst items old new → TellsSome text old new
 
 -- a fault leaves the table as it was; where memory runs out, this holds
 abbrev pub LeavesTable : Type 0 → Refused AnswersFault → Table → Table → Type 0

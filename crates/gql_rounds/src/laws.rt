@@ -1,6 +1,6 @@
 //! Laws of asks, of rounds, and of the steps of a request.
 
-ghost use Rattle.std.specs.Prelude.{◌≡◌, ◌≤◌, ℕ, suc, List, [], ◌∷◌};
+ghost use Rattle.std.specs.Prelude.{◌≡◌, ◌≤◌, ℕ, suc, false, true, List, [], ◌∷◌};
 ghost use Rattle.std.specs.List.{AllByRecursion};
 ghost use Rattle.gql_rounds.specs.Known.{beside, type_of_entity};
 ghost use Rattle.gql_rounds.specs.Rounds.{AreAskedOf, root_of};
