@@ -341,6 +341,8 @@ def place_of(crate, module, comment):
         return "laws"
     if crate.startswith(("example_", "tests_", "bench_")):
         return "examples"
+    if crate not in CRATES:
+        raise SystemExit(f"book: no section is known for the definitions of {crate}: see CRATES in checks/shared/book_plan.py")
     place = CRATES[crate]
     return place if place in WHOLE or not place[0].isdigit() and place != "B" else cited(comment) or place
 

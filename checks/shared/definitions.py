@@ -22,7 +22,7 @@ class Definitions:
             for path in sorted(folder.rglob("*.antt")) if folder.is_dir() else []:
                 module = module_of(path.relative_to(folder))
                 self.module_files[crate, module] = path
-                self.files[path] = File(path.read_text())
+                self.files[path] = read_file(path)
                 self.files[path].crate, self.files[path].module = crate, module
         self.names = {}
         for path, file in self.files.items():
@@ -77,7 +77,15 @@ class Definitions:
         return None
 
 
+def read_file(path):
+    try:
+        return File(path.read_text())
+    except ValueError as why:
+        raise SystemExit(f"{path}: {why}") from why
+
+
 def module_of(relative):
+    """The name of a module by its file's path in specs/."""
     parts = list(relative.with_suffix("").parts)
     if parts[-1] == "Lib":
         parts.pop()
