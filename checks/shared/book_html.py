@@ -11,14 +11,17 @@ from shared.sources import code_of
 # How many laws are named beside a definition.
 MOST_LAWS = 6
 
+# How long a schema is, in characters, that stands beside its query.
+SHORT_SCHEMA = 160
+
 MARKS = re.compile(r"(?m)^( *)(?:(?:pattern|unfoldable|abbrev|pub) )+(?=\S)")
 
 
 class Page:
     """The page of a book."""
 
-    def __init__(self, book, notes):
-        self.book, self.notes = book, notes
+    def __init__(self, book, notes, tested):
+        self.book, self.notes, self.tested = book, notes, tested
 
     def text(self):
         out = ["<!doctype html><html lang=en><meta charset=utf-8><meta name=viewport content='width=device-width,initial-scale=1'>",
@@ -154,6 +157,7 @@ class Page:
         out = [f"<h6>{escaped(title_of(file.module))}</h6><p class=path>{file.crate}/specs/{file.module.replace('.', '/')}.antt</p>"]
         if said:
             out.append(f"<p class=lead>{inline(said)}</p>")
+        out += self.tested_row(path)
         blocks = []
         for number in numbers:
             made = file.definitions[number]
@@ -161,6 +165,19 @@ class Page:
             out.append(self.definition(("definition", path, number), made, made.blocks if not same else []))
             blocks = made.blocks
         return out
+
+    def tested_row(self, path):
+        """A request that breaks the rule whose definition a file has."""
+        row = self.tested.get(path)
+        if not row:
+            return []
+        schema, query = (f"<code>{escaped(text)}</code>" for text in (row.schema, row.query))
+        told = " and ".join(f"<code>{escaped(text)}</code>" for text in row.refused)
+        if row.is_of_schema:
+            return [f"<p class=tested>Tested: the schema {schema} is refused: {told}</p>"]
+        if len(row.schema) <= SHORT_SCHEMA:
+            return [f"<p class=tested>Tested: against the schema {schema} the query {query} is refused: {told}</p>"]
+        return [f"<details class=tested><summary>Tested: the query {query} is refused: {told}</summary>against the schema {schema}</details>"]
 
     def definition(self, node, made, new_blocks):
         book = self.book

@@ -26,6 +26,10 @@ h6{font:600 .95rem/1.4 system-ui,sans-serif;margin:2rem 0 0}
 .d p.up,.d p.row{font:.78rem/1.5 system-ui,sans-serif;color:var(--soft)}
 .d p.up{float:right;margin:.25rem .5rem 0 1.2rem}
 .d p.row code{font-size:.82rem}
+.tested{font:.82rem/1.5 system-ui,sans-serif;color:var(--soft);margin:.1rem 0 .5rem}
+details.tested{border:0;padding:0}
+.tested summary{font:inherit}
+.tested code{white-space:pre-wrap;font-size:.82rem}
 .d p.name{font:600 .85rem/1.6 ui-monospace,monospace;color:var(--own)}
 pre{margin:0;padding:.35rem .6rem;background:var(--code);border-radius:4px;font:14px/1.5 "DejaVu Sans Mono",ui-monospace,Menlo,Consolas,monospace;white-space:pre-wrap;overflow-wrap:anywhere;tab-size:2}
 code{font:.86em ui-monospace,Menlo,Consolas,"DejaVu Sans Mono",monospace}
@@ -61,7 +65,8 @@ cause; and that a valid request is answered unless memory runs out. Whoever beli
 and for laws: facts about the definitions alone, which are proved too, and show that they fit together.</p>
 <p>You need to believe no code, no proof, and none of the {bridge} definitions in <code>specs/bridge/</code>, which only carry code to meaning.</p>
 <p>The book follows the standard, section by section; where a section is read in a way of ours, it says so first. Within a section definitions stand in the
-order in which they build on each other. Each name leads to where it is defined. A line "Example" is a fact about one small case, and is proved too.
+order in which they build on each other. Each name leads to where it is defined. A line "Example" is a fact about one small case, and is proved too;
+one that begins "Tested" is a request of the tests, which only runs.
 <code>docs/READING_CONTRACTS.md</code> explains the notation in five minutes. If a definition says something else than the standard, and nothing here says so,
 that is a fault of ours which no proof can show.</p>
 {parts}
