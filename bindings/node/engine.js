@@ -165,8 +165,9 @@ class Query extends Value {
   executeSync(data = {}, options = {}) {
     const root = data instanceof Data ? data : new Data(data);
     try {
-      const given = asked(this, root.held, options);
-      return attempt(() => library.execute(...given), RequestRefused, UNREAD_NAME);
+      return library.execute(...asked(this, root.held, options));
+    } catch (error) {
+      throw toldBy(error, RequestRefused, UNREAD_NAME);
     } finally {
       if (root !== data) root.close();
     }

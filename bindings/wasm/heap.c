@@ -5,6 +5,9 @@
  * class is found by two numbers: the power of two below the size, and which sixteenth of the way to the next one. A bit for each list
  * tells whether it has a block. So each call takes the same time, however many blocks there are.
  *
+ * Some blocks of each small size are kept when they are let go, as if they were used, and are given out again as they are. They become free
+ * before memory grows.
+ *
  * What memory lies in is told by `memory_start`, `memory_end` and `memory_grows`: those of WebAssembly, unless a test has its own. */
 #include "heap.h"
 
@@ -14,6 +17,8 @@
 #define STEPS 16              /* Classes to a power of two. */
 #define POWERS 28             /* Powers of two: from 2^8 to 2^35. What is less is in one class of each size. */
 #define MOST ((size_t)1 << 34) /* No block has more bytes. */
+#define SMALL 32              /* Blocks of fewer grains than this are kept, */
+#define KEPT 32               /* so many of each size. */
 
 enum { USED = 1, BEFORE_USED = 2 }; /* Bits of a size. */
 
@@ -28,6 +33,8 @@ static uint32_t has_power, has_step[POWERS];
 static block *rest;            /* What is left of the memory: never in a list, and the block before it is used. */
 static uintptr_t end, limit = ~(uintptr_t)0;
 static size_t held;            /* How many blocks are used. */
+static block *kept[SMALL];     /* Those that are kept, by their sizes in grains. */
+static uint8_t kept_count[SMALL];
 
 static size_t size_of(const block *it) {
     return it->size & ~(size_t)(USED | BEFORE_USED);
@@ -111,10 +118,12 @@ static bool is_left(size_t size) {
         rest = (block *)((memory_start() + GRAIN - 1) & ~(uintptr_t)(GRAIN - 1));
         end = memory_end();
     }
+    return (uintptr_t)rest + size + sizeof(block) <= end;
+}
+
+/* Whether memory has grown so that so many are left. */
+static bool grows(size_t size) {
     uintptr_t need = (uintptr_t)rest + size + sizeof(block);
-    if (need <= end) {
-        return true;
-    }
     if (need > limit) {
         return false;
     }
@@ -126,11 +135,8 @@ static bool is_left(size_t size) {
     return false;
 }
 
-/* A block cut from what is left, or none. */
+/* A block cut from what is left, which has room for it. */
 static block *cut(size_t size) {
-    if (!is_left(size)) {
-        return NONE;
-    }
     block *it = rest;
     it->size = size | BEFORE_USED;
     rest = behind(it);
@@ -160,32 +166,9 @@ static void trim(block *it, size_t size) {
     }
 }
 
-void *heap_alloc(size_t size) {
-    if (size > MOST) {
-        return NULL;
-    }
-    size_t need = whole(size);
-    block *it = found(need);
-    if (it == NONE && (it = cut(need)) == NONE) {
-        return NULL;
-    }
-    it->size |= USED;
-    behind(it)->size |= BEFORE_USED;
-    trim(it, need);
-    held++;
-    return &it->next;
-}
-
-static block *block_of(void *at) {
-    return (block *)((uintptr_t)at - 2 * sizeof(size_t));
-}
-
-void heap_free(void *at) {
-    if (at == NULL) {
-        return;
-    }
-    held--;
-    block *it = block_of(at), *after = behind(it);
+/* Lets go of a used block, and makes it one with free neighbours. */
+static void join(block *it) {
+    block *after = behind(it);
     it->size &= ~(size_t)USED;
     if ((it->size & BEFORE_USED) == 0) {
         block *before = (block *)((uintptr_t)it - it->before);
@@ -205,14 +188,82 @@ void heap_free(void *at) {
     list(it);
 }
 
+/* Lets go of all blocks that are kept, and tells whether there were any. */
+static bool join_kept(void) {
+    bool are_any = false;
+    for (size_t grains = 0; grains < SMALL; grains++) {
+        for (block *it; (it = kept[grains]) != NONE; are_any = true) {
+            kept[grains] = it->next;
+            join(it);
+        }
+        kept_count[grains] = 0;
+    }
+    return are_any;
+}
+
+/* A used block of so many bytes, or none. */
+static block *made(size_t size) {
+    block *it = found(size);
+    if (it == NONE && !is_left(size) && join_kept()) {
+        it = found(size);
+    }
+    if (it == NONE) {
+        if (!is_left(size) && !grows(size)) {
+            return NONE;
+        }
+        it = cut(size);
+    }
+    it->size |= USED;
+    behind(it)->size |= BEFORE_USED;
+    trim(it, size);
+    return it;
+}
+
+void *heap_alloc(size_t size) {
+    if (size > MOST) {
+        return NULL;
+    }
+    size_t need = whole(size), grains = need / GRAIN;
+    block *it = grains < SMALL ? kept[grains] : NONE;
+    if (it != NONE) {
+        kept[grains] = it->next;
+        kept_count[grains]--;
+    } else if ((it = made(need)) == NONE) {
+        return NULL;
+    }
+    held++;
+    return &it->next;
+}
+
+static block *block_of(void *at) {
+    return (block *)((uintptr_t)at - 2 * sizeof(size_t));
+}
+
+void heap_free(void *at) {
+    if (at == NULL) {
+        return;
+    }
+    held--;
+    block *it = block_of(at);
+    size_t grains = size_of(it) / GRAIN;
+    if (grains < SMALL && kept_count[grains] < KEPT) {
+        it->next = kept[grains];
+        kept[grains] = it;
+        kept_count[grains]++;
+    } else {
+        join(it);
+    }
+}
+
 /* Whether a used block has so many bytes once it has taken what is free behind it. */
 static bool is_grown(block *it, size_t size) {
     block *after = behind(it);
     size_t has = size_of(it);
     if (after == rest) {
-        if (cut(size - has) == NONE) {
+        if (!is_left(size - has) && !grows(size - has)) {
             return false;
         }
+        cut(size - has);
         it->size += size - has;
     } else {
         if ((after->size & USED) != 0 || has + size_of(after) < size) {

@@ -74,21 +74,21 @@ class Engine {
     return at;
   }
 
-  /** A call, by whose end nothing that was put is kept. */
-  call(name, ...given) {
+  /** What a call of the module gives, by whose end nothing that was put is kept. */
+  call(call) {
     if (!this.isWhole) throw lost();
     try {
-      return this.calls[name](...given);
+      return call(this.calls);
     } catch (error) {
       this.isWhole = false;
       throw lost(error);
     } finally {
-      this.clear();
+      this.used = 0;
+      if (this.far.length > 0) this.clear();
     }
   }
 
   clear() {
-    this.used = 0;
     while (this.far.length > 0) this.release(this.far.pop());
   }
 
@@ -170,32 +170,30 @@ function libraryOf(module, { make = (length) => new Uint8Array(length), memoryLi
     return value(owner, at);
   }
 
-  /** The five arguments of an execution: query, data or answers, name, variables, flags. */
-  function perform(call, query, data, name, variables, flags) {
+  /** The instance of two values that one call uses. */
+  function ownerOfBoth(query, data) {
     if (query === data) throw new TypeError('a value cannot be query and data at once');
     const owner = ownerOf(query);
     if (ownerOf(data) !== owner) throw errorOf(WRONG_HANDLE);
-    const status = owner.call(call, query.at, data.at, owner.put(name), name.length, owner.put(variables), variables.length, flags, owner.reply);
-    if (status !== ANSWERED && status !== ASKS) throw owner.refusal(status);
-    return { status, told: owner.take() };
+    return owner;
   }
 
   const library = {
-    version: () => current().call('js_version'),
+    version: () => current().call((js) => js.js_version()),
 
     newSchema(text) {
-      const owner = current();
-      return made(owner, (at) => owner.call('js_schema_new', owner.put(text), text.length, at, owner.reply));
+      const owner = current(), place = owner.put(text);
+      return made(owner, (at) => owner.call((js) => js.js_schema_new(place, text.length, at, owner.reply)));
     },
 
     newQuery(schema, text) {
-      const owner = ownerOf(schema);
-      return made(owner, (at) => owner.call('js_query_new', schema.at, owner.put(text), text.length, at, owner.reply));
+      const owner = ownerOf(schema), place = owner.put(text);
+      return made(owner, (at) => owner.call((js) => js.js_query_new(schema.at, place, text.length, at, owner.reply)));
     },
 
     newData(text) {
-      const owner = current();
-      return made(owner, (at) => owner.call('js_data_new', owner.put(text), text.length, at));
+      const owner = current(), place = owner.put(text);
+      return made(owner, (at) => owner.call((js) => js.js_data_new(place, text.length, at)));
     },
 
     newAnswers() {
@@ -205,7 +203,7 @@ function libraryOf(module, { make = (length) => new Uint8Array(length), memoryLi
 
     share(from) {
       const owner = ownerOf(from);
-      return made(owner, (at) => owner.call('js_share', from.at, at));
+      return made(owner, (at) => owner.call((js) => js.js_share(from.at, at)));
     },
 
     close(it) {
@@ -215,38 +213,48 @@ function libraryOf(module, { make = (length) => new Uint8Array(length), memoryLi
       it.at = 0;
     },
 
-    execute: (...given) => perform('js_execute', ...given).told,
+    execute(query, data, name, variables, flags) {
+      const owner = ownerOfBoth(query, data), named = owner.put(name), given = owner.put(variables);
+      const status = owner.call((js) =>
+        js.js_execute(query.at, data.at, named, name.length, given, variables.length, flags, owner.reply));
+      if (status !== ANSWERED) throw owner.refusal(status);
+      return owner.take();
+    },
 
     executeAsync: async (...given) => library.execute(...given),
 
-    step(...given) {
-      const { status, told } = perform('js_step', ...given);
-      return status === ASKS ? new TextDecoder().decode(told) : told;
+    step(query, answers, name, variables, flags) {
+      const owner = ownerOfBoth(query, answers), named = owner.put(name), given = owner.put(variables);
+      const status = owner.call((js) =>
+        js.js_step(query.at, answers.at, named, name.length, given, variables.length, flags, owner.reply));
+      if (status === ASKS) return new TextDecoder().decode(owner.take());
+      if (status !== ANSWERED) throw owner.refusal(status);
+      return owner.take();
     },
 
     addAnswers(answers, text) {
-      const owner = ownerOf(answers);
-      const status = owner.call('js_answers_add', answers.at, owner.put(text), text.length);
+      const owner = ownerOf(answers), place = owner.put(text);
+      const status = owner.call((js) => js.js_answers_add(answers.at, place, text.length));
       if (status !== ANSWERED) throw errorOf(status);
     },
 
     operationKind(query, name, flags) {
-      const owner = ownerOf(query);
-      const status = owner.call('js_operation_kind', query.at, owner.put(name), name.length, flags, owner.cell);
+      const owner = ownerOf(query), named = owner.put(name);
+      const status = owner.call((js) => js.js_operation_kind(query.at, named, name.length, flags, owner.cell));
       if (status !== ANSWERED && status !== REFUSED) throw errorOf(status);
       return owner.number();
     },
 
     operationCost(query, name, flags, items, nodes) {
-      const owner = ownerOf(query);
-      const status = owner.call('js_operation_cost', query.at, owner.put(name), name.length, flags, items, nodes, owner.cell, owner.reply);
+      const owner = ownerOf(query), named = owner.put(name);
+      const status = owner.call((js) => js.js_operation_cost(query.at, named, name.length, flags, items, nodes, owner.cell, owner.reply));
       if (status !== ANSWERED) throw owner.refusal(status);
       return owner.number();
     },
 
     check(schema, query) {
-      const owner = current();
-      const status = owner.call('js_check', owner.put(schema), schema.length, owner.put(query), query.length, owner.reply);
+      const owner = current(), one = owner.put(schema), other = owner.put(query);
+      const status = owner.call((js) => js.js_check(one, schema.length, other, query.length, owner.reply));
       if (status !== ANSWERED && status !== REFUSED) throw owner.refusal(status);
       return owner.take();
     },

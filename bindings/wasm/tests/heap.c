@@ -74,11 +74,15 @@ static bool is_listed(block *it) {
     return other == it;
 }
 
+static uintptr_t first_place(void) {
+    return (memory_start() + GRAIN - 1) & ~(uintptr_t)(GRAIN - 1);
+}
+
 /* The row of blocks, from the first to what is left: sizes, bits, lists, and no two free ones side by side. */
 static void check_row(void) {
     size_t used = 0, free_ones = 0, in_lists = 0;
     bool was_used = true;
-    block *it = (block *)((memory_start() + GRAIN - 1) & ~(uintptr_t)(GRAIN - 1));
+    block *it = (block *)first_place();
     for (; it != rest; it = behind(it)) {
         bool is_used = (it->size & USED) != 0;
         CHECK(it < rest && size_of(it) >= LEAST && size_of(it) % GRAIN == 0);
@@ -98,7 +102,16 @@ static void check_row(void) {
             }
         }
     }
-    CHECK(used == count && used == heap_blocks() && free_ones == in_lists);
+    size_t all_kept = 0;
+    for (size_t grains = 0; grains < SMALL; grains++) {
+        size_t before = all_kept;
+        for (block *it = kept[grains]; it != NONE; it = it->next) {
+            CHECK(size_of(it) == grains * GRAIN && (it->size & USED) != 0);
+            all_kept++;
+        }
+        CHECK(all_kept - before == kept_count[grains] && kept_count[grains] <= KEPT);
+    }
+    CHECK(count == heap_blocks() && used == count + all_kept && free_ones == in_lists);
 }
 
 static size_t any_size(void) {
@@ -163,16 +176,20 @@ static void many(size_t calls) {
     }
 }
 
-/* The same calls, again and again, need no more memory than the first time. */
+/* The same calls again and again need not much more memory than the first time; and once what is kept is let go, none is held. */
 static void is_steady(void) {
     size_t first = 0;
-    for (int turn = 0; turn < 50; turn++) {
+    for (int turn = 0; turn < 100; turn++) {
         chance = 88172645463325252u;
         many(3000);
         first = turn == 0 ? grown : first;
-        CHECK(grown == first);
+        CHECK(grown < first + first / 2);
+        if (turn % 2 == 0) {
+            CHECK(join_kept() && !join_kept());
+            check_row();
+            CHECK((uintptr_t)rest == first_place());
+        }
     }
-    CHECK((uintptr_t)rest == ((memory_start() + GRAIN - 1) & ~(uintptr_t)(GRAIN - 1)));
 }
 
 int main(void) {
