@@ -9,6 +9,7 @@ import unittest
 
 try:
     from selenium import webdriver
+    from selenium.common.exceptions import TimeoutException
     from selenium.webdriver.chrome.service import Service
     from selenium.webdriver.common.by import By
     from selenium.webdriver.common.keys import Keys
@@ -58,11 +59,16 @@ class InBrowser(unittest.TestCase):
 
     def marks(self):
         """The texts in which something is wrong."""
-        return [mark.get_attribute("textContent") for mark in self.page.find_elements(By.TAG_NAME, "mark")]
+        return self.script("return [...document.querySelectorAll('mark')].map((it) => it.textContent)")
 
     def wait(self, holds):
-        """Waits until something holds, and gives it."""
-        return WebDriverWait(self.page, PATIENCE).until(lambda _: holds())
+        """Waits until something holds, and gives it; else tells what the page has."""
+        try:
+            return WebDriverWait(self.page, PATIENCE).until(lambda _: holds())
+        except TimeoutException:
+            texts = self.script("return [...document.querySelectorAll('textarea')].map((it) => [it.id, it.value])")
+            shown = self.script("return ['status', 'errors', 'suggestions', 'response'].map((it) => [it, document.getElementById(it).textContent])")
+            self.fail(f"this did not come about: {texts} {shown} {self.marks()}")
 
     def replace(self, name, text):
         """Types a text in the place of another."""

@@ -69,7 +69,7 @@ class FromAFile(unittest.TestCase):
             self.assertTrue(faults and all(line.startswith(f"{it.schema}:") and "Nope" in line for line in faults), faults)
             it.schema.write_text(SCHEMA, encoding="utf-8")
             self.assertEqual(it.ask("{ count }")[0], 200)
-            self.assertEqual(json.loads(it.send("GET", "/status")[2]), {"faults": []})
+            self.assertEqual(json.loads(it.send("GET", "/status")[2])["faults"], [])
 
     def test_many_threads_are_answered_alike(self):
         with serving(DATA) as it:
