@@ -31,6 +31,9 @@ STRICT = ["-std=c11", "-O1", "-g", "-Wall", "-Wextra", "-Werror"]
 HELGRIND = ["valgrind", "--quiet", "--tool=helgrind", "--error-exitcode=9"]
 VALGRIND = ["valgrind", "--quiet", "--error-exitcode=9", "--leak-check=full", "--show-leak-kinds=all", "--errors-for-leak-kinds=all"]
 
+# What is told is told by the name of the check that runs: checks/wasm.py takes calls from here.
+NAME = pathlib.Path(sys.argv[0]).stem
+
 passed, failed = [], []
 
 
@@ -41,12 +44,12 @@ def try_command(name, words, **how):
         passed.append(name)
     else:
         failed.append(name)
-        print(f"bindings: {name}: status {run.returncode}\n{(run.stdout + run.stderr).decode(errors='replace')[-3000:]}")
+        print(f"{NAME}: {name}: status {run.returncode}\n{(run.stdout + run.stderr).decode(errors='replace')[-3000:]}")
     return run
 
 
 def skip(what, why):
-    print(f"bindings: skipped {what}: {why}")
+    print(f"{NAME}: skipped {what}: {why}")
 
 
 # ---- C
@@ -111,7 +114,7 @@ def run_examples(folder):
 def expect(name, holds):
     (passed if holds else failed).append(name)
     if not holds:
-        print(f"bindings: {name} is another")
+        print(f"{NAME}: {name} is another")
 
 
 # ---- Python, Node, Go
