@@ -26,7 +26,7 @@ use Rattle.gql_checker_laws.proofs.Judge.{RunFacts, fields_keyed}
 use Rattle.gql_checker_laws.proofs.Keyed.{names_keyed, keyed_names}
 use Rattle.gql_checker_laws.proofs.Worst.{set_facts}
 use Rattle.gql_checker_laws.proofs.Paths.{way_to, way_long, root_step}
-use Rattle.gql_checker_laws.proofs.Places.{holds_of, fault_way}
+use Rattle.gql_checker_laws.proofs.WalkedPlaces.{holds_of, fault_way}
 use Rattle.gql_checker_laws.proofs.Portions.{In}
 
 -- the error of a number

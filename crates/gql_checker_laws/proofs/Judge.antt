@@ -29,7 +29,7 @@ use Rattle.gql_checker_laws.proofs.Parts.{and_both, and_made, none_is, none_made
 use Rattle.gql_checker_laws.proofs.Paths.{HasStep, way_to, way_end, within}
 use Rattle.gql_checker_laws.proofs.Portions.{In, stepped, from_share, to_share}
 use Rattle.gql_checker_laws.proofs.Facts.{IsTrue, at_true, Aligned, Covers, CoversOn, covers_on, Facts, Inner, Partial, NoneGoes, nothing_inner, nothing_partial, idle_facts, child_partial, whole_inner}
-use Rattle.gql_checker_laws.proofs.Places.{Shown, fault_way, settled_facts, settled_good, kept_bad, null_bad}
+use Rattle.gql_checker_laws.proofs.WalkedPlaces.{Shown, fault_way, settled_facts, settled_good, kept_bad, null_bad}
 use Rattle.gql_checker_laws.proofs.Keyed.{key_refl, object_is, object_found_for, array_is, array_found}
 
 module _ {X T G S : Type 0} (w : World X T G S) (root : T) (initial : X) (all : S) (lawful : IsLawful w) (K : GraphQLError → Type 0) where

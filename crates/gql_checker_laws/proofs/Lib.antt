@@ -6,7 +6,7 @@ pub mod Keyed
 pub mod Monotone
 pub mod Parts
 pub mod Paths
-pub mod Places
+pub mod WalkedPlaces
 pub mod Portions
 pub mod Shown
 pub mod Worst

@@ -29,7 +29,7 @@ use Rattle.gql_checker_laws.proofs.Identical.{identical_decides}
 use Rattle.gql_checker_laws.proofs.Parts.{and_both, and_made, none_is, none_made, some_is, first_some}
 use Rattle.gql_checker_laws.proofs.Paths.{HasStep}
 use Rattle.gql_checker_laws.proofs.Facts.{at_true, Aligned, Covers, CoversOn, covers_on, nothing_inner, whole_inner}
-use Rattle.gql_checker_laws.proofs.Places.{Shown, fault_way, settled_bad, shows_null}
+use Rattle.gql_checker_laws.proofs.WalkedPlaces.{Shown, fault_way, settled_bad, shows_null}
 use Rattle.gql_checker_laws.proofs.Keyed.{names_keyed, keyed_names, object_is, object_found_for, no_keys, all_groups, array_is, array_found, long_counted, counted_long}
 use Rattle.gql_checker_laws.proofs.Judge.{RunFacts, aligned_share, covers_share, inner_inner, outcome_good, groups_partial, groups_good, groups_fine}
 
