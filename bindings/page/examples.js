@@ -139,6 +139,13 @@ const EXAMPLES = [
     variables: '',
     data: lines('{}'),
   },
+  {
+    name: 'The one of the README',
+    schema: lines('type Query { a: A } type A { x: Int }'),
+    query: lines('{ a { x } }'),
+    variables: '',
+    data: lines('{"a": {"x": 7}}'),
+  },
 ];
 
 module.exports = { EXAMPLES };
