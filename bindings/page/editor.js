@@ -3,7 +3,7 @@
 
 const { at, made } = require('./dom.js');
 const { tokensOf, partner } = require('./lexer.js');
-const { painted } = require('./paint.js');
+const { isPlain, painted } = require('./paint.js');
 const { Popup } = require('./popup.js');
 
 const DWELL = 250;
@@ -126,7 +126,9 @@ class Editor {
     const { text } = this;
     this.tokens = tokensOf(text, this.told.language);
     this.notes = this.told.notes?.(this.tokens);
-    this.paper.innerHTML = painted(text, this.told.language, this);
+    const isBare = isPlain(text);
+    this.box.classList.toggle('plain', isBare);
+    this.paper.innerHTML = isBare && this.faults.length === 0 ? '' : painted(text, this.told.language, this.tokens, this);
     this.follow();
   }
 

@@ -1,17 +1,22 @@
 'use strict';
 // The tokens of GraphQL and of JSON, for colours, completion and layout. What is wrong is a token of its own, so that each text has tokens.
 
+// A group for each kind, in the order of their names below.
 const GRAPHQL =
-  /(?<space>[\s,\ufeff]+)|(?<comment>#[^\n\r]*)|(?<name>[_A-Za-z]\w*)|(?<number>-?\d+(?:\.\d+)?(?:[eE][+-]?\d+)?)|(?<string>"""(?:\\"""|[^])*?(?:"""|$)|"(?:\\.|[^"\\\n\r])*"?)|(?<sign>\.\.\.|[!$&():=@[\]{|}])|(?<bad>[^])/gy;
-const JSON_TOKEN =
-  /(?<space>\s+)|(?<string>"(?:\\.|[^"\\\n\r])*"?)|(?<number>-?\d+(?:\.\d+)?(?:[eE][+-]?\d+)?)|(?<word>\w+)|(?<sign>[:,[\]{}])|(?<bad>[^])/gy;
+  /([\s,\ufeff]+)|(#[^\n\r]*)|([_A-Za-z]\w*)|(-?\d+(?:\.\d+)?(?:[eE][+-]?\d+)?)|("""(?:\\"""|[^])*?(?:"""|$)|"(?:\\.|[^"\\\n\r])*"?)|(\.\.\.|[!$&():=@[\]{|}])|([^])/gy;
+const JSON_TOKEN = /(\s+)|($^)|([_A-Za-z]\w*)|(-?\d+(?:\.\d+)?(?:[eE][+-]?\d+)?)|("(?:\\.|[^"\\\n\r])*"?)|([:,[\]{}])|([^])/gy;
+const KINDS = [null, 'space', 'comment', 'name', 'number', 'string', 'sign', 'bad'];
 
-/** The tokens of a text but for its spaces: of each its kind, its text, and where it begins and ends. */
+/** The tokens of a text but for its spaces: of each its kind, its text, and where it begins and ends. Names in JSON are `word`s. */
 function tokensOf(text, language) {
-  const tokens = [];
-  for (const found of text.matchAll(language === 'json' ? JSON_TOKEN : GRAPHQL)) {
-    const [kind] = Object.entries(found.groups).find(([, part]) => part !== undefined);
-    if (kind !== 'space') tokens.push({ kind, text: found[0], start: found.index, end: found.index + found[0].length });
+  const tokens = [], token = language === 'json' ? JSON_TOKEN : GRAPHQL;
+  token.lastIndex = 0;
+  for (let found; token.lastIndex < text.length && (found = token.exec(text)); ) {
+    let number = 1;
+    while (found[number] === undefined) number++;
+    if (number === 1) continue;
+    const kind = number === 3 && language === 'json' ? 'word' : KINDS[number];
+    tokens.push({ kind, text: found[0], start: found.index, end: token.lastIndex });
   }
   return tokens;
 }

@@ -10,6 +10,7 @@ const { EXAMPLES } = require('./examples.js');
 const { faultOfObject, spanAt } = require('./faults.js');
 const { format } = require('./format.js');
 const { kept, remember, showHistory } = require('./history.js');
+const { tokensOf } = require('./lexer.js');
 const { painted } = require('./paint.js');
 const { readDocument } = require('./reader.js');
 const { sampleData } = require('./sample.js');
@@ -65,7 +66,14 @@ function items() {
 
 function setTexts(given) {
   for (const name of Object.keys(PANES)) if (given[name] !== undefined) editors[name].text = given[name];
-  if (given.operation) at('operation').value = given.operation;
+  if (given.operation) chooseNamed(given.operation);
+}
+
+/** Chooses an operation, and puts the caret there. */
+function chooseNamed(name) {
+  at('operation').value = name;
+  const operation = document_.operations.find((it) => it.name === name);
+  if (operation) editors.query.area.setSelectionRange(operation.start, operation.start);
 }
 
 function readQuery(tokens) {
@@ -129,7 +137,8 @@ function showFault(name, label, { start, end, message, place }) {
 }
 
 function showResponse(text) {
-  at('response').innerHTML = text === null ? '' : painted(format(text, 'json'), 'json');
+  const shown = text === null ? '' : format(text, 'json');
+  at('response').innerHTML = painted(shown, 'json', tokensOf(shown, 'json'));
 }
 
 function showModel(found) {
@@ -312,7 +321,10 @@ function listen() {
   at('theme').onclick = changeTheme;
   at('search').oninput = showTypes;
   at('items').oninput = check;
-  at('operation').onchange = check;
+  at('operation').onchange = () => {
+    chooseNamed(at('operation').value);
+    check();
+  };
   at('example').onchange = () => setTexts(EXAMPLES[at('example').value]);
   at('history').onchange = () => {
     const entry = kept()[at('history').value];

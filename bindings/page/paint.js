@@ -2,10 +2,9 @@
 // A text in colours, as HTML.
 
 const { escaped } = require('./dom.js');
-const { tokensOf } = require('./lexer.js');
 
 // Beyond so many characters a text has no colours, so that typing stays quick.
-const MOST = 300_000;
+const MOST = 30_000;
 const KEYWORDS = new Set(
   'query mutation subscription fragment on schema scalar type interface union enum input directive extend implements repeatable true false null'.split(' '),
 );
@@ -26,9 +25,14 @@ function classOf(tokens, number, language, notes) {
   return KEYWORDS.has(text) ? 'keyword' : /^[A-Z]/.test(text) ? 'type' : 'name';
 }
 
-/** The text as HTML: each token stands in an element that has its place, and one with a fault in a `mark` that has the fault's number. */
-function painted(text, language, { faults = [], notes } = {}) {
-  const tokens = text.length > MOST ? [] : tokensOf(text, language);
+const isPlain = (text) => text.length > MOST;
+
+/**
+ * The text as HTML, of its tokens: each stands in an element that has its place, and one with a fault in a `mark` that has the fault's number.
+ * Of a text without colours only the latter do.
+ */
+function painted(text, language, all, { faults = [], notes } = {}) {
+  const tokens = isPlain(text) ? all.filter((it) => faults.some(({ start, end }) => start < it.end && end > it.start)) : all;
   const left = faults.map((fault, number) => ({ ...fault, number })).sort((one, other) => one.start - other.start);
   let html = '', end = 0;
   for (const [number, token] of tokens.entries()) {
@@ -50,4 +54,4 @@ function painted(text, language, { faults = [], notes } = {}) {
 /** The text up to a fault at a place where no token stands, and the fault's mark. */
 const gap = (text, from, to, number) => `${escaped(text.slice(from, to))}<mark class="gap" data-fault="${number}"></mark>`;
 
-module.exports = { painted };
+module.exports = { isPlain, painted };

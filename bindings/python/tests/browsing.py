@@ -73,7 +73,7 @@ class InBrowser(unittest.TestCase):
     def replace(self, name, text):
         """Types a text in the place of another."""
         self.at(name).send_keys(Keys.CONTROL, "a")
-        self.at(name).send_keys(text)
+        self.at(name).send_keys(Keys.DELETE, text)
 
     def width(self, pixels, height=800):
         """The page as wide as a phone or a screen."""
