@@ -141,128 +141,140 @@ function ownerOf(it) {
   return it.owner;
 }
 
+/** The instance of two values that one call uses. */
+function ownerOfBoth(query, data) {
+  if (query === data) throw new TypeError('a value cannot be query and data at once');
+  const owner = ownerOf(query);
+  if (ownerOf(data) !== owner) throw errorOf(WRONG_HANDLE);
+  return owner;
+}
+
 /**
  * The calls, over a compiled module. `make` gives an array for so many bytes of a reply. An instance's memory never grows beyond
  * `memoryLimit` bytes: what would need more is told as want of memory.
  */
-function libraryOf(module, { make = (length) => new Uint8Array(length), memoryLimit } = {}) {
-  const options = { make, memoryLimit };
-  let engine = new Engine(module, options);
-  const left = new FinalizationRegistry(({ owner, at }) => owner.free(at));
-  const current = () => (engine.isWhole ? engine : (engine = new Engine(module, options)));
+class Library {
+  constructor(module, { make = (length) => new Uint8Array(length), memoryLimit } = {}) {
+    Object.assign(this, { module, options: { make, memoryLimit }, left: new FinalizationRegistry(({ owner, at }) => owner.free(at)) });
+    this.engine = new Engine(module, this.options);
+  }
 
-  function value(owner, at) {
+  /** The instance that new values are made in. */
+  current() {
+    if (!this.engine.isWhole) this.engine = new Engine(this.module, this.options);
+    return this.engine;
+  }
+
+  value(owner, at) {
     const it = new Value(owner, at);
-    left.register(it, { owner, at }, it);
+    this.left.register(it, { owner, at }, it);
     return it;
   }
 
   /** What a call makes, which is given the place of the new value's handle; a refusal where it makes none. */
-  function made(owner, call) {
+  made(owner, call) {
     const at = owner.handle();
     let status;
     try {
-      status = call(at);
+      status = owner.call((js) => call(js, at));
     } finally {
       if (status !== ANSWERED) owner.free(at);
     }
     if (status !== ANSWERED) throw owner.refusal(status);
-    return value(owner, at);
+    return this.value(owner, at);
   }
 
-  /** The instance of two values that one call uses. */
-  function ownerOfBoth(query, data) {
-    if (query === data) throw new TypeError('a value cannot be query and data at once');
-    const owner = ownerOf(query);
-    if (ownerOf(data) !== owner) throw errorOf(WRONG_HANDLE);
-    return owner;
+  version() {
+    return this.current().call((js) => js.js_version());
   }
 
-  const library = {
-    version: () => current().call((js) => js.js_version()),
+  newSchema(text) {
+    const owner = this.current(), place = owner.put(text);
+    return this.made(owner, (js, at) => js.js_schema_new(place, text.length, at, owner.reply));
+  }
 
-    newSchema(text) {
-      const owner = current(), place = owner.put(text);
-      return made(owner, (at) => owner.call((js) => js.js_schema_new(place, text.length, at, owner.reply)));
-    },
+  newQuery(schema, text) {
+    const owner = ownerOf(schema), place = owner.put(text);
+    return this.made(owner, (js, at) => js.js_query_new(schema.at, place, text.length, at, owner.reply));
+  }
 
-    newQuery(schema, text) {
-      const owner = ownerOf(schema), place = owner.put(text);
-      return made(owner, (at) => owner.call((js) => js.js_query_new(schema.at, place, text.length, at, owner.reply)));
-    },
+  newData(text) {
+    const owner = this.current(), place = owner.put(text);
+    return this.made(owner, (js, at) => js.js_data_new(place, text.length, at));
+  }
 
-    newData(text) {
-      const owner = current(), place = owner.put(text);
-      return made(owner, (at) => owner.call((js) => js.js_data_new(place, text.length, at)));
-    },
+  newAnswers() {
+    const owner = this.current();
+    return this.value(owner, owner.handle());
+  }
 
-    newAnswers() {
-      const owner = current();
-      return value(owner, owner.handle());
-    },
+  share(from) {
+    return this.made(ownerOf(from), (js, at) => js.js_share(from.at, at));
+  }
 
-    share(from) {
-      const owner = ownerOf(from);
-      return made(owner, (at) => owner.call((js) => js.js_share(from.at, at)));
-    },
+  close(it) {
+    if (it.at === 0) return;
+    this.left.unregister(it);
+    it.owner.free(it.at);
+    it.at = 0;
+  }
 
-    close(it) {
-      if (it.at === 0) return;
-      left.unregister(it);
-      it.owner.free(it.at);
-      it.at = 0;
-    },
+  execute(query, data, name, variables, flags) {
+    const owner = ownerOfBoth(query, data), named = owner.put(name), given = owner.put(variables);
+    const status = owner.call((js) =>
+      js.js_execute(query.at, data.at, named, name.length, given, variables.length, flags, owner.reply));
+    if (status !== ANSWERED) throw owner.refusal(status);
+    return owner.take();
+  }
 
-    execute(query, data, name, variables, flags) {
-      const owner = ownerOfBoth(query, data), named = owner.put(name), given = owner.put(variables);
-      const status = owner.call((js) =>
-        js.js_execute(query.at, data.at, named, name.length, given, variables.length, flags, owner.reply));
-      if (status !== ANSWERED) throw owner.refusal(status);
-      return owner.take();
-    },
+  async executeAsync(...given) {
+    return this.execute(...given);
+  }
 
-    executeAsync: async (...given) => library.execute(...given),
+  step(query, answers, name, variables, flags) {
+    const owner = ownerOfBoth(query, answers), named = owner.put(name), given = owner.put(variables);
+    const status = owner.call((js) =>
+      js.js_step(query.at, answers.at, named, name.length, given, variables.length, flags, owner.reply));
+    if (status === ASKS) return new TextDecoder().decode(owner.take());
+    if (status !== ANSWERED) throw owner.refusal(status);
+    return owner.take();
+  }
 
-    step(query, answers, name, variables, flags) {
-      const owner = ownerOfBoth(query, answers), named = owner.put(name), given = owner.put(variables);
-      const status = owner.call((js) =>
-        js.js_step(query.at, answers.at, named, name.length, given, variables.length, flags, owner.reply));
-      if (status === ASKS) return new TextDecoder().decode(owner.take());
-      if (status !== ANSWERED) throw owner.refusal(status);
-      return owner.take();
-    },
+  addAnswers(answers, text) {
+    const owner = ownerOf(answers), place = owner.put(text);
+    const status = owner.call((js) => js.js_answers_add(answers.at, place, text.length));
+    if (status !== ANSWERED) throw errorOf(status);
+  }
 
-    addAnswers(answers, text) {
-      const owner = ownerOf(answers), place = owner.put(text);
-      const status = owner.call((js) => js.js_answers_add(answers.at, place, text.length));
-      if (status !== ANSWERED) throw errorOf(status);
-    },
+  operationKind(query, name, flags) {
+    const owner = ownerOf(query), named = owner.put(name);
+    const status = owner.call((js) => js.js_operation_kind(query.at, named, name.length, flags, owner.cell));
+    if (status !== ANSWERED && status !== REFUSED) throw errorOf(status);
+    return owner.number();
+  }
 
-    operationKind(query, name, flags) {
-      const owner = ownerOf(query), named = owner.put(name);
-      const status = owner.call((js) => js.js_operation_kind(query.at, named, name.length, flags, owner.cell));
-      if (status !== ANSWERED && status !== REFUSED) throw errorOf(status);
-      return owner.number();
-    },
+  operationCost(query, name, flags, items, nodes) {
+    const owner = ownerOf(query), named = owner.put(name);
+    const status = owner.call((js) =>
+      js.js_operation_cost(query.at, named, name.length, flags, items, nodes, owner.cell, owner.reply));
+    if (status !== ANSWERED) throw owner.refusal(status);
+    return owner.number();
+  }
 
-    operationCost(query, name, flags, items, nodes) {
-      const owner = ownerOf(query), named = owner.put(name);
-      const status = owner.call((js) => js.js_operation_cost(query.at, named, name.length, flags, items, nodes, owner.cell, owner.reply));
-      if (status !== ANSWERED) throw owner.refusal(status);
-      return owner.number();
-    },
+  check(schema, query) {
+    const owner = this.current(), one = owner.put(schema), other = owner.put(query);
+    const status = owner.call((js) => js.js_check(one, schema.length, other, query.length, owner.reply));
+    if (status !== ANSWERED && status !== REFUSED) throw owner.refusal(status);
+    return owner.take();
+  }
 
-    check(schema, query) {
-      const owner = current(), one = owner.put(schema), other = owner.put(query);
-      const status = owner.call((js) => js.js_check(one, schema.length, other, query.length, owner.reply));
-      if (status !== ANSWERED && status !== REFUSED) throw owner.refusal(status);
-      return owner.take();
-    },
-
-    /** How many blocks and bytes of memory the present instance has. */
-    memory: () => ({ blocks: current().calls.js_blocks(), bytes: current().memory.buffer.byteLength }),
-  };
-  return library;
+  /** How many blocks and bytes of memory the present instance has. */
+  memory() {
+    const { calls, memory } = this.current();
+    return { blocks: calls.js_blocks(), bytes: memory.buffer.byteLength };
+  }
 }
+
+const libraryOf = (module, options) => new Library(module, options);
 
 module.exports = { libraryOf };
