@@ -20,7 +20,7 @@ use Rattle.gql_client_schema_laws.specs.FullQuery as full
 use Rattle.gql_client_schema_laws.specs.Introspection.{HasIntrospection}
 use Rattle.gql_client_schema_laws.specs.Selected.{full_document, full_fragments, full_operation, selected}
 use Rattle.gql_client_schema_laws.specs.Whole.{IsWhole, HasSchemaField}
-use Rattle.gql_client_schema_laws.proofs.Lookups.{its_name, its_kind}
+use Rattle.gql_client_schema_laws.proofs.FieldsFound.{its_name, its_kind}
 use Rattle.gql_client_schema_laws.proofs.Making.{all_made, world}
 use Rattle.gql_client_schema_laws.proofs.MadeReferences.{raised}
 use Rattle.gql_client_schema_laws.proofs.SchemaSet.{root-executed, schema-shown}

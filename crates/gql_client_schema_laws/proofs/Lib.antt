@@ -50,7 +50,7 @@ mod MadeParts
 mod TypeParts
 mod TypeSets
 mod SchemaSet
-mod Lookups
+mod FieldsFound
 mod Answered
 -- The document.
 mod SpreadTokens
