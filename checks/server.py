@@ -1,10 +1,11 @@
 #!/usr/bin/env python3
-"""Tests the mock server over the built C library: GraphQL over HTTP, its data, its page in a browser, and a client's requests.
+"""Tests the servers over the built C library: the mock server (GraphQL over HTTP, its data, its page in a browser, a client's requests), and
+the handlers for servers of one's own (docs/SERVERS.md) under wsgiref, uvicorn, Starlette and Flask, with their limits, stores and streams.
 
     checks/server.py [--load SECONDS]
 
-Needs `libgql.so` (`bindings/build`). The page needs Chromium with its driver, and Selenium: as root, Debian's packages are installed
-where they are missing and can be had. What is missing is said, and passed over. With `--load`, requests a second and the slowest are
+Needs `libgql.so` (`bindings/build`). The page needs Chromium with its driver, and Selenium; the handlers need uvicorn, Starlette, Flask and
+Redis. As root, Debian's packages are installed where they are missing and can be had. What is missing is said, and passed over. With `--load`, requests a second and the slowest are
 told too, beside a server over graphql-js where Node has that package; nothing fails by a time."""
 import os
 import pathlib
@@ -17,8 +18,9 @@ from shared.trying import ROOT
 
 PYTHON = ROOT / "bindings" / "python"
 LIBRARY = PYTHON / "sunwaket" / "libgql.so"
-PACKAGES = ["chromium", "chromium-driver", "python3-selenium"]
-# Debian's Python, for which Debian's Selenium is.
+BROWSER = ["chromium", "chromium-driver", "python3-selenium"]
+SERVERS = ["python3-uvicorn", "python3-starlette", "python3-flask", "redis-server"]
+# Debian's Python, for which Debian's packages are.
 DEBIAN_PYTHON = pathlib.Path("/usr/bin/python3")
 
 # In seconds; it only ends what would not end by itself.
@@ -46,15 +48,15 @@ def run_tests(python, module):
     return made.returncode == 0
 
 
-def has_browser():
-    """Whether there is a browser for the page; installs one where it may."""
+def has(packages, commands, modules):
+    """Whether the commands and Debian's modules of some packages are here; installs the packages where it may."""
 
     def is_there():
-        selenium = subprocess.run([DEBIAN_PYTHON, "-c", "import selenium"], capture_output=True, check=False)
-        return shutil.which("chromedriver") is not None and selenium.returncode == 0
+        imported = subprocess.run([DEBIAN_PYTHON, "-c", f"import {', '.join(modules)}"], capture_output=True, check=False)
+        return all(map(shutil.which, commands)) and imported.returncode == 0
 
     if DEBIAN_PYTHON.exists() and not is_there() and os.geteuid() == 0 and shutil.which("apt-get"):
-        words = ["apt-get", "install", "-y", "--no-install-recommends", *PACKAGES]
+        words = ["apt-get", "install", "-y", "--no-install-recommends", *packages]
         quiet = {"stdout": subprocess.DEVNULL, "stderr": subprocess.DEVNULL, "check": False, "timeout": INSTALLING}
         try:
             subprocess.run(["apt-get", "update"], **quiet)
@@ -64,12 +66,21 @@ def has_browser():
     return DEBIAN_PYTHON.exists() and is_there()
 
 
+def run_handlers():
+    """Whether the tests of the handlers passed."""
+    if not has(SERVERS, ["redis-server"], ["uvicorn", "starlette", "flask"]):
+        print("server: uvicorn, Starlette, Flask and Redis are not all here: what needs one that is missing is skipped")
+    python = DEBIAN_PYTHON if DEBIAN_PYTHON.exists() else sys.executable
+    return all([run_tests(python, module) for module in ("test_endpoint", "test_servers", "test_redis")])
+
+
 def main(words):
     if not LIBRARY.is_file():
         print("server: there is no bindings/python/sunwaket/libgql.so (bindings/build makes it): nothing was tried")
         return 0
     passed = [run_tests(sys.executable, module) for module in ("test_mock_http", "test_mock_data", "test_mock_process")]
-    if has_browser():
+    passed.append(run_handlers())
+    if has(BROWSER, ["chromedriver"], ["selenium"]):
         # Once more where it failed: a browser's driver may lose its browser.
         passed.append(run_tests(DEBIAN_PYTHON, "test_mock_page") or run_tests(DEBIAN_PYTHON, "test_mock_page"))
     else:

@@ -161,6 +161,10 @@ class Query(Value):
         serial = self._kind(operation) == library.MUTATION
         return Rounds(step, answers, types, Teller(root, given), serial)
 
+    def _first_step(self, operation: Operation) -> Tuple[bool, bytes]:
+        """The first step of a request, for a server: whether something is asked, and what."""
+        return self._step(Value(), operation)
+
     def _step(self, answers: Value, operation: Operation) -> Tuple[bool, bytes]:
         """Whether something is asked by what was answered so far, and what: the JSON of the asks, or of the response."""
         name, given, flags = operation

@@ -28,6 +28,11 @@ class Rounds:
         self._step, self._answers, self._types, self._teller, self._serial = step, answers, types, teller, serial
         self._response = b""
         self._last = b""
+        self._meter: Any = None
+
+    def measured_by(self, meter: Any) -> None:
+        """Has ``meter.timed`` stand around each step, and tells ``meter.round`` how much a round asks. What that raises ends the request."""
+        self._step, self._meter = meter.timed(self._step), meter
 
     def run(self) -> bytes:
         """The response, where no resolver gives what is to be awaited."""
@@ -60,7 +65,10 @@ class Rounds:
         if told == self._last:
             raise RuntimeError("the library asks once more for what it was told")
         self._last = told
-        return self._groups(self._due(_decode(told.decode("utf-8"))))
+        asks = self._due(_decode(told.decode("utf-8")))
+        if self._meter is not None:
+            self._meter.round(len(asks))
+        return self._groups(asks)
 
     def _due(self, asks: List[Dict[str, Any]]) -> List[Dict[str, Any]]:
         """Those asks that may be answered now."""

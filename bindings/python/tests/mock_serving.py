@@ -1,12 +1,12 @@
 """A mock server of a test, and requests to it."""
 
 import contextlib
-import http.client
 import json
 import pathlib
 import tempfile
 import threading
 
+from http_table import send
 from sunwaket.mock.server import MockServer
 from sunwaket.mock.settings import settings_of
 
@@ -54,11 +54,7 @@ class Serving:
 
     def send(self, method, path, headers=None, body=None):
         """The status, the headers and the body of the answer to one request."""
-        connection = http.client.HTTPConnection("127.0.0.1", self.port, timeout=60)
-        with contextlib.closing(connection):
-            connection.request(method, path, body, headers or {})
-            answer = connection.getresponse()
-            return answer.status, answer.headers, answer.read()
+        return send(self.port, method, path, headers, body)
 
     def ask(self, query, **parameters):
         """The status and the response to a query."""

@@ -1,6 +1,6 @@
 """Fields that are collected on an object (GraphQL October 2021, section 6.3.2), `@skip` and `@include` aside."""
 
-from .selections import Field, Spread
+from .._selections import Field, Spread
 
 
 def fields_on(types, document, name, sets):

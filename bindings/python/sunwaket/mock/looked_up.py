@@ -2,7 +2,7 @@
 
 from .collecting import fields_on
 from .schema_types import inner_name, without_non_null
-from .selections import Variable
+from .._selections import Variable
 
 TWO = "the data cannot give two values of one field: ask for them in two requests"
 

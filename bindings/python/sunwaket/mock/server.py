@@ -12,8 +12,8 @@ from urllib.parse import urlsplit
 
 import sunwaket
 
-from . import selections
-from .http_rules import JSON, Fault, accepted, from_address, from_body, parameters, refusal_status
+from .. import _selections as selections
+from ..http import JSON, Answer, Exchange, Fault, Request, Rules, answer
 from .source import Source
 
 # The engine takes at most two megabytes of a thread's stack, and the reading of queries recurs as deep as they are nested.
@@ -22,7 +22,6 @@ STACK = 32 << 20
 # The page of the playground, which bindings/build makes. By this word in it the page knows that there is a server behind it.
 PAGE = pathlib.Path(__file__).with_name("page.html")
 ALONE, SERVED = b'<html lang="en">', b'<html lang="en" data-server>'
-METHODS = "GET, HEAD, POST, OPTIONS"
 
 
 class MockServer(ThreadingHTTPServer):
@@ -102,18 +101,18 @@ class Handler(BaseHTTPRequestHandler):
         elif path == "/status":
             text = self.schema_text()
             told = {"faults": self.server.source.faults, "schema": None if text is None else hashlib.sha256(text).hexdigest()}
-            self.answer(200, JSON, json.dumps(told).encode())
+            self.answer_file(200, JSON, json.dumps(told).encode())
         elif path == "/schema" and self.schema_text() is not None:
-            self.answer(200, "text/plain", self.schema_text())
+            self.answer_file(200, "text/plain", self.schema_text())
         else:
             self.respond()
 
     def answer_page(self):
         """The page, where it is built."""
         if PAGE.is_file():
-            self.answer(200, "text/html", PAGE.read_bytes().replace(ALONE, SERVED, 1))
+            self.answer_file(200, "text/html", PAGE.read_bytes().replace(ALONE, SERVED, 1))
         else:
-            self.answer(503, "text/plain", b"There is no page: bindings/build makes it. Queries are answered at /graphql.")
+            self.answer_file(503, "text/plain", b"There is no page: bindings/build makes it. Queries are answered at /graphql.")
 
     def schema_text(self):
         """The text of the schema, where it may be told and there is one."""
@@ -128,17 +127,12 @@ class Handler(BaseHTTPRequestHandler):
 
     def do_OPTIONS(self):
         """The methods, and for pages of other origins what they may send."""
-        headers = {"Allow": METHODS}
-        if self.server.settings.origin:
-            headers["Access-Control-Allow-Methods"] = METHODS
-            headers["Access-Control-Allow-Headers"] = "Content-Type"
-            headers["Access-Control-Max-Age"] = "600"
-        self.answer(204, None, b"", headers)
+        self.respond()
 
     def other(self):
         """Any other method."""
         self.close_connection = True
-        self.refuse(JSON, Fault(405, "the method is GET or POST", Allow=METHODS))
+        self.send(answer(Request(self.command, {}), self.execute))
 
     do_PUT = do_DELETE = do_PATCH = other
 
@@ -153,64 +147,53 @@ class Handler(BaseHTTPRequestHandler):
             raise Fault(413, f"the request has more than {self.server.settings.body_limit} bytes")
         return self.rfile.read(int(length))
 
-    def posted(self, body):
-        """The parameters that the body tells."""
-        kind = self.headers.get_content_type() if self.headers.get("Content-Type") else None
-        return from_body(body, kind, self.headers.get_content_charset() or "utf-8")
-
     def respond(self):
         """Answers the request, or says why it is not answered."""
-        kind, parts = JSON, urlsplit(self.path)
+        settings, parts = self.server.settings, urlsplit(self.path)
+        rules = Rules(body=settings.body_limit, origins=[settings.origin] if settings.origin else [])
+        headers = {name.lower(): value for name, value in self.headers.items()}
+        request = Request(self.command, headers, query=parts.query)
         try:
-            body = self.body() if self.command == "POST" else None
-            if parts.path != "/graphql":
+            if self.command == "POST":
+                request = request._replace(body=self.body())
+            if parts.path != "/graphql" and self.command != "OPTIONS":
                 raise Fault(404, "there is nothing here but /graphql")
-            kind = accepted(self.headers.get("Accept"))
-            given = from_address(parts.query) if body is None else self.posted(body)
-            self.execute(kind, *parameters(given))
         except Fault as fault:
-            self.refuse(kind, fault)
-        except sunwaket.Refused as refused:
-            self.answer(refusal_status(kind), kind, refused.json)
-        except MemoryError:
-            self.refuse(kind, Fault(503, "out of memory"))
-        except RecursionError:
-            self.refuse(kind, Fault(400, "the query is nested too deep"))
+            self.send(Exchange(request, rules).refused(fault))
+        else:
+            self.send(answer(request, self.execute, rules))
 
-    def execute(self, kind, text, name, variables):
-        """Answers a query."""
+    def execute(self, asked):
+        """The response to a query."""
         settings, served = self.server.settings, self.server.source.current()
         if served is None:
             raise Fault(503, "; ".join(self.server.source.faults))
-        query, document = served.query(text)
+        if asked.query is None:
+            raise Fault(None, "PersistedQueryNotSupported", "PERSISTED_QUERY_NOT_SUPPORTED")
+        query, document = served.query(asked.query)
+        name, variables = asked.operation_name, asked.variables
         if self.command != "POST" and query.kind(name) not in ("query", None):
             raise Fault(405, "only queries are executed by GET", Allow="POST, OPTIONS")
         operation = document.operation(name)
         if settings.depth is not None and operation and selections.depth(document, operation.selections) > settings.depth:
-            raise Fault(refusal_status(kind), f"the query is nested deeper than {settings.depth}")
+            raise Fault(None, f"the query is nested deeper than {settings.depth}")
         if settings.cost is not None:
             items, nodes = settings.cost
             query.cost(items=items, limit=nodes, operation_name=name)
         data = served.data_for(document, name, variables)
         reply = executed(query, data, name, variables, settings.introspection)
         time.sleep(settings.latency / 1000)
-        self.answer(200, kind, reply)
+        return reply
 
-    def refuse(self, kind, fault):
-        """Answers with a fault."""
-        self.answer(fault.status, kind, json.dumps({"errors": fault.errors}).encode(), fault.headers)
+    def answer_file(self, status, kind, body):
+        """Answers with bytes that are no response."""
+        self.send(Answer(status, {"Content-Type": f"{kind}; charset=utf-8", "Content-Length": str(len(body))}, body))
 
-    def answer(self, status, kind, body, headers=()):
+    def send(self, told):
         """Sends an answer. The body is left out for HEAD."""
-        self.send_response(status)
-        if kind:
-            self.send_header("Content-Type", f"{kind}; charset=utf-8")
-        if status != 204:
-            self.send_header("Content-Length", str(len(body)))
-        if self.server.settings.origin:
-            self.send_header("Access-Control-Allow-Origin", self.server.settings.origin)
-        for name, value in dict(headers).items():
+        self.send_response(told.status)
+        for name, value in told.headers.items():
             self.send_header(name, value)
         self.end_headers()
         if self.command != "HEAD":
-            self.wfile.write(body)
+            self.wfile.write(told.body)

@@ -8,7 +8,7 @@ from collections import OrderedDict
 
 import sunwaket
 
-from . import selections
+from .. import _selections as selections
 from .looked_up import LookedUp
 from .made_up import MadeUp
 from .schema_types import types_of
