@@ -202,7 +202,7 @@ def run_node():
     if not (node / "sunwaket.node").is_file():
         skip("the package for Node", "Node is not here with its headers")
         return
-    words = ["node", "--test", "tests/sunwaket.test.js", "tests/resolvers.test.js"]
+    words = ["node", "--test", "tests/sunwaket.test.js", "tests/resolvers.test.js", "tests/http.test.js"]
     try_command("Node", words, cwd=node, env=os.environ | {"SUNWAKET_ENGINE": "native"})
 
 

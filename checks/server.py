@@ -1,17 +1,19 @@
 #!/usr/bin/env python3
 """Tests the servers over the built C library: the mock server (GraphQL over HTTP, its data, its page in a browser, a client's requests), and
-the handlers for servers of one's own (docs/SERVERS.md) under wsgiref, uvicorn, Starlette and Flask, with their limits, stores and streams.
+the handlers for servers of one's own (docs/SERVERS.md) under wsgiref, uvicorn, Starlette, Flask, node:http, Express and Go's net/http, with
+their limits, stores and streams.
 
     checks/server.py [--load SECONDS]
 
-Needs `libgql.so` (`bindings/build`). The page needs Chromium with its driver, and Selenium; the handlers need uvicorn, Starlette, Flask and
-Redis. As root, Debian's packages are installed where they are missing and can be had. What is missing is said, and passed over. With `--load`, requests a second and the slowest are
+Needs `libgql.so` (`bindings/build`). The page needs Chromium with its driver, and Selenium; the handlers need uvicorn, Starlette, Flask,
+Redis, Express and Go. As root, Debian's packages are installed where they are missing and can be had. What is missing is said, and passed over. With `--load`, requests a second and the slowest are
 told too, beside a server over graphql-js where Node has that package; nothing fails by a time."""
 import os
 import pathlib
 import shutil
 import subprocess
 import sys
+import tempfile
 
 from shared.loading import tell_load
 from shared.trying import ROOT
@@ -19,7 +21,7 @@ from shared.trying import ROOT
 PYTHON = ROOT / "bindings" / "python"
 LIBRARY = PYTHON / "sunwaket" / "libgql.so"
 BROWSER = ["chromium", "chromium-driver", "python3-selenium"]
-SERVERS = ["python3-uvicorn", "python3-starlette", "python3-flask", "redis-server"]
+SERVERS = ["python3-uvicorn", "python3-starlette", "python3-flask", "redis-server", "node-express", "golang-go"]
 # Debian's Python, for which Debian's packages are.
 DEBIAN_PYTHON = pathlib.Path("/usr/bin/python3")
 
@@ -66,12 +68,30 @@ def has(packages, commands, modules):
     return DEBIAN_PYTHON.exists() and is_there()
 
 
+def go_tests(folder):
+    """The tests of the package for Go as a program, which serves too; None where they are not built."""
+    out = ROOT / "bindings" / "out"
+    if shutil.which("go") is None or not (out / "lib" / "libgql.a").is_file():
+        print("server: Go is not here, or no library for it: its handler was not tried")
+        return None
+    told = {"CGO_CFLAGS": f"-I{out / 'include'}", "CGO_LDFLAGS": str(out / "lib" / "libgql.a"), "GOFLAGS": "-mod=mod", "GOPROXY": "off"}
+    words = ["go", "test", "-c", "-o", folder / "serve", "."]
+    made = subprocess.run(words, cwd=ROOT / "bindings" / "go", env=os.environ | told, capture_output=True, text=True, check=False, timeout=PATIENCE)
+    if made.returncode:
+        print(f"server: the tests for Go are not built: {made.stderr[-2000:]}")
+    return folder / "serve" if made.returncode == 0 else None
+
+
 def run_handlers():
     """Whether the tests of the handlers passed."""
-    if not has(SERVERS, ["redis-server"], ["uvicorn", "starlette", "flask"]):
-        print("server: uvicorn, Starlette, Flask and Redis are not all here: what needs one that is missing is skipped")
+    if not has(SERVERS, ["redis-server", "go"], ["uvicorn", "starlette", "flask"]):
+        print("server: uvicorn, Starlette, Flask, Redis and Go are not all here: what needs one that is missing is skipped")
     python = DEBIAN_PYTHON if DEBIAN_PYTHON.exists() else sys.executable
-    return all([run_tests(python, module) for module in ("test_endpoint", "test_servers", "test_redis")])
+    with tempfile.TemporaryDirectory() as folder:
+        served = go_tests(pathlib.Path(folder))
+        if served is not None:
+            os.environ["SUNWAKET_GO_TESTS"] = str(served)
+        return all([run_tests(python, module) for module in ("test_endpoint", "test_servers", "test_redis")])
 
 
 def main(words):

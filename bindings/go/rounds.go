@@ -12,6 +12,7 @@ import (
 	"reflect"
 	"runtime"
 	"strings"
+	"time"
 )
 
 // Ask is a field of an object that is to be resolved with these arguments.
@@ -53,42 +54,78 @@ func Each(resolve func(Ask) (any, error)) func([]Ask) []any {
 // nil, an error, which stands in the response, or what has a JSON of whole numbers. The root fields of a mutation come one by one, each
 // once those before it are whole (GraphQL October 2021, section 6.2.2).
 func (q *Query) Resolve(root any, variables []byte, resolve func([]Ask) []any) ([]byte, error) {
-	serial, err := q.isMutation()
+	return q.resolve(root, operation{variables: variables}, resolve, nil)
+}
+
+// Which operation of a query is executed, and how. Without a name it is the only one.
+type operation struct {
+	name          *string
+	variables     []byte
+	introspection bool
+}
+
+func (o operation) nameBytes() []byte {
+	if o.name == nil {
+		return nil
+	}
+	return []byte(*o.name)
+}
+
+func (o operation) flags() C.uint32_t {
+	var flags C.uint32_t
+	if o.name != nil {
+		flags |= C.GQL_NAMED
+	}
+	if o.introspection {
+		flags |= C.GQL_INTROSPECTION
+	}
+	return flags
+}
+
+// resolve is Resolve for any operation, whose rounds a meter may measure and end.
+func (q *Query) resolve(root any, asked operation, resolve func([]Ask) []any, meter *meter) ([]byte, error) {
+	kind, err := q.kind(asked)
 	if err != nil {
 		return nil, err
 	}
+	serial := kind == C.GQL_MUTATION
 	request := &rounds{objects: []any{root}, numbers: map[Object]int{}}
 	answers := new(value)
 	runtime.SetFinalizer(answers, func(v *value) { v.free() })
 	for {
-		reply, asked, err := q.step(answers, variables)
-		if err != nil || !asked {
+		start := time.Now()
+		reply, isAsked, err := q.step(answers, asked)
+		meter.engine(time.Since(start))
+		if err != nil || !isAsked {
 			return reply, err
 		}
-		if err := request.answer(answers, reply, serial, resolve); err != nil {
+		if err := request.answer(answers, reply, serial, meter.measured(resolve)); err != nil {
 			return nil, err
 		}
 	}
 }
 
-func (q *Query) isMutation() (bool, error) {
+// kind gives the kind of an operation; GQL_NO_OPERATION where there is none.
+func (q *Query) kind(asked operation) (C.uint32_t, error) {
 	var kind C.uint32_t
+	first, length := at(asked.nameBytes())
 	q.lock.Lock()
-	status := C.gql_operation_kind(&q.handle, nil, 0, 0, &kind)
+	status := C.gql_operation_kind(&q.handle, first, length, asked.flags()&C.GQL_NAMED, &kind)
 	q.lock.Unlock()
 	if status != C.GQL_ANSWERED && status != C.GQL_REFUSED {
-		return false, told(status, nil)
+		return kind, told(status, nil)
 	}
-	return kind == C.GQL_MUTATION, nil
+	return kind, nil
 }
 
 // step gives what is asked, and whether something is; or the response.
-func (q *Query) step(answers *value, variables []byte) ([]byte, bool, error) {
+func (q *Query) step(answers *value, asked operation) ([]byte, bool, error) {
 	var reply C.gql_handle
-	first, length := at(variables)
+	first, length := at(asked.variables)
+	name, nameLength := at(asked.nameBytes())
 	q.lock.Lock()
 	answers.lock.Lock()
-	status := C.gql_step(&q.handle, &answers.handle, nil, 0, first, length, 0, &reply)
+	status := C.gql_step(&q.handle, &answers.handle, name, nameLength, first, length, asked.flags(), &reply)
 	answers.lock.Unlock()
 	q.lock.Unlock()
 	if status == C.GQL_ASKS {

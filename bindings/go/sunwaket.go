@@ -92,6 +92,19 @@ func NewSchema(text string) (*Schema, error) {
 	return schema, nil
 }
 
+// share gives the query a handle of its own for another goroutine.
+func (q *Query) share() (*Query, error) {
+	share := new(Query)
+	q.lock.Lock()
+	status := C.gql_share(&q.handle, &share.handle)
+	q.lock.Unlock()
+	if err := told(status, nil); err != nil {
+		return nil, err
+	}
+	runtime.SetFinalizer(share, func(q *Query) { q.free() })
+	return share, nil
+}
+
 // Query reads and checks the text of a query against the schema.
 func (s *Schema) Query(text string) (*Query, error) {
 	var reply C.gql_handle
@@ -135,12 +148,15 @@ func (q *Query) Execute(data *Data, variables []byte) ([]byte, error) {
 
 // Cost is how many nodes the data of a response to the only operation can have at most, where no list has more than so many items. It is
 // known before anything is executed. What costs more than the limit is Refused.
-func (q *Query) Cost(items, limit uint32) (uint32, error) {
+func (q *Query) Cost(items, limit uint32) (uint32, error) { return q.cost(operation{}, items, limit) }
+
+func (q *Query) cost(asked operation, items, limit uint32) (uint32, error) {
 	var reply C.gql_handle
 	var cost C.uint32_t
 	most := C.gql_limit{items: C.uint32_t(items), nodes: C.uint32_t(limit)}
+	name, length := at(asked.nameBytes())
 	q.lock.Lock()
-	status := C.gql_operation_cost(&q.handle, nil, 0, 0, &most, &cost, &reply)
+	status := C.gql_operation_cost(&q.handle, name, length, asked.flags()&C.GQL_NAMED, &most, &cost, &reply)
 	q.lock.Unlock()
 	if err := told(status, &reply); err != nil {
 		return 0, err

@@ -4,7 +4,7 @@
 
 const { bytesOf, textOf } = require('./bytes.js');
 const { askTypes } = require('./field_types.js');
-const { Rounds, many } = require('./rounds.js');
+const { Rounds, many, readAsks } = require('./rounds.js');
 
 const NAMED = 1;
 const INTROSPECTION = 2;
@@ -196,6 +196,17 @@ class Query extends Value {
         serial,
       };
       return await new Rounds(request, root, resolvers, options).run();
+    } finally {
+      library.close(answers);
+    }
+  }
+
+  /** What is asked of the root before anything is answered: for the streams of a server. */
+  firstAsks(options) {
+    const answers = library.newAnswers();
+    try {
+      const told = attempt(() => library.step(...asked(this, answers, options)), RequestRefused, UNREAD_NAME);
+      return typeof told === 'string' ? readAsks(told).map((ask) => ({ field: ask.field, given: JSON.parse(ask.written) })) : [];
     } finally {
       library.close(answers);
     }

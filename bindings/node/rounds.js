@@ -99,9 +99,9 @@ class Group {
     this.asks.push([object, JSON.parse(ask.written)]);
   }
 
-  start() {
+  start(context) {
     const { resolver, asks } = this;
-    this.outcomes = resolver instanceof Many ? [called(resolver.resolve, asks)] : asks.map((ask) => called(resolver, ...ask));
+    this.outcomes = resolver instanceof Many ? [called(resolver.resolve, asks, context)] : asks.map((ask) => called(resolver, ...ask, context));
   }
 
   /** Those outcomes that are awaited, each put in its place. */
@@ -137,18 +137,21 @@ class Group {
 class Rounds {
   constructor({ step, add, types, serial }, root, resolvers, options) {
     const read = readResolvers(resolvers, types);
-    Object.assign(this, { step, add, types, serial, resolvers: read, last: null });
+    const { context, meter } = options;
+    Object.assign(this, { step, add, types, serial, resolvers: read, context, meter, last: null });
     this.teller = new Teller(root, options, (name) => read.has(name));
   }
 
   async run() {
     for (;;) {
-      const told = this.step();
+      const told = this.meter ? this.meter.timed(this.step) : this.step();
       if (typeof told !== 'string') return told;
       if (told === this.last) throw new Error('the library asks once more for what it was told');
       this.last = told;
-      const groups = this.groups(this.due(readAsks(told)));
-      for (const group of groups) group.start();
+      const asks = this.due(readAsks(told));
+      this.meter?.round(asks.length);
+      const groups = this.groups(asks);
+      for (const group of groups) group.start(this.context);
       const awaited = groups.flatMap((group) => group.awaited());
       if (awaited.length > 0) await Promise.all(awaited);
       this.add(`[${groups.flatMap((group) => group.answers(this.teller)).join(',')}]`);
@@ -181,4 +184,4 @@ class Rounds {
   }
 }
 
-module.exports = { Rounds, many };
+module.exports = { Rounds, many, readAsks };

@@ -3,6 +3,10 @@
 import asyncio
 import contextlib
 import json
+import os
+import pathlib
+import shutil
+import subprocess
 import threading
 import time
 import unittest
@@ -27,6 +31,9 @@ try:
     from werkzeug.middleware.dispatcher import DispatcherMiddleware
 except ImportError:
     flask = None
+
+
+BINDINGS = pathlib.Path(__file__).resolve().parents[2]
 
 
 class Quiet(WSGIRequestHandler):
@@ -94,6 +101,41 @@ class Tables(unittest.TestCase):
         app = asgi.GraphQL(SCHEMA, RESOLVERS, path="/graphql")
         routes = [starlette.routing.Route("/graphql", app), starlette.routing.Mount("/", app)]
         with over_uvicorn(starlette.applications.Starlette(routes=routes)) as port:
+            check_rules(self, sending(port))
+
+
+@contextlib.contextmanager
+def over_process(words, **variables):
+    """The port that a server of another language says first. It ends when its standard input does."""
+    pipes = {"stdin": subprocess.PIPE, "stdout": subprocess.PIPE, "text": True}
+    with subprocess.Popen(words, env={**os.environ, **variables}, **pipes) as process:
+        try:
+            yield int(process.stdout.readline())
+        finally:
+            process.stdin.close()
+
+
+NODE = BINDINGS / "node"
+# Where Debian's packages for Node lie.
+NODE_PATH = "/usr/share/nodejs"
+
+
+class OtherLanguages(unittest.TestCase):
+    def check_node(self, word):
+        with over_process(["node", NODE / "tests" / "serving.js", word], NODE_PATH=NODE_PATH) as port:
+            check_rules(self, sending(port))
+
+    @unittest.skipUnless((NODE / "sunwaket.node").is_file() and shutil.which("node"), "there is no library for Node")
+    def test_node(self):
+        self.check_node("http")
+
+    @unittest.skipUnless((NODE / "sunwaket.node").is_file() and pathlib.Path(NODE_PATH, "express").is_dir(), "Express is not here")
+    def test_express(self):
+        self.check_node("express")
+
+    @unittest.skipUnless(os.environ.get("SUNWAKET_GO_TESTS"), "there are no tests for Go that are built")
+    def test_go(self):
+        with over_process([os.environ["SUNWAKET_GO_TESTS"], "-test.run", "TestServe"], SUNWAKET_SERVES="1") as port:
             check_rules(self, sending(port))
 
 
