@@ -3,11 +3,12 @@
 the handlers for servers of one's own (docs/SERVERS.md) under wsgiref, uvicorn, Starlette, Flask, node:http, Express and Go's net/http, with
 their limits, stores and streams.
 
-    checks/server.py [--load SECONDS]
+    checks/server.py [--load SECONDS] [--beside SECONDS] [--hostile SECONDS]
 
 Needs `libgql.so` (`bindings/build`). The page needs Chromium with its driver, and Selenium; the handlers need uvicorn, Starlette, Flask,
 Redis, Express and Go. As root, Debian's packages are installed where they are missing and can be had. What is missing is said, and passed over. With `--load`, requests a second and the slowest are
-told too, beside a server over graphql-js where Node has that package; nothing fails by a time."""
+told too, beside a server over graphql-js where Node has that package; nothing fails by a time. With `--beside`, the bookshop of examples/shop is
+asked beside the same under graphql-core, by wrk; with `--hostile`, it is asked right, damaged and hostile things and killed in between."""
 import os
 import pathlib
 import shutil
@@ -15,13 +16,14 @@ import subprocess
 import sys
 import tempfile
 
+from shared import beside, hostile
 from shared.loading import tell_load
 from shared.trying import ROOT
 
 PYTHON = ROOT / "bindings" / "python"
 LIBRARY = PYTHON / "sunwaket" / "libgql.so"
 BROWSER = ["chromium", "chromium-driver", "python3-selenium"]
-SERVERS = ["python3-uvicorn", "python3-starlette", "python3-flask", "redis-server", "node-express", "golang-go"]
+SERVERS = ["python3-uvicorn", "python3-starlette", "python3-flask", "redis-server", "node-express", "golang-go", "wrk"]
 # Debian's Python, for which Debian's packages are.
 DEBIAN_PYTHON = pathlib.Path("/usr/bin/python3")
 
@@ -32,7 +34,7 @@ INSTALLING = 240
 
 def run_tests(python, module):
     """Whether the tests of a module passed; says what they said where they did not."""
-    paths = os.pathsep.join([str(PYTHON), str(PYTHON / "tests")])
+    paths = os.pathsep.join([str(PYTHON), str(PYTHON / "tests"), str(ROOT / "examples")])
     made = subprocess.run(
         [python, "-m", "unittest", module],
         cwd=PYTHON / "tests",
@@ -91,7 +93,20 @@ def run_handlers():
         served = go_tests(pathlib.Path(folder))
         if served is not None:
             os.environ["SUNWAKET_GO_TESTS"] = str(served)
-        return all([run_tests(python, module) for module in ("test_endpoint", "test_servers", "test_redis")])
+        return all([run_tests(python, module) for module in ("test_endpoint", "test_servers", "test_redis", "shop.test_shop")])
+
+
+def run_node_shop():
+    """Whether the tests of the shop in Node passed."""
+    if shutil.which("node") is None or not (ROOT / "bindings" / "node" / "sunwaket.node").is_file():
+        print("server: there is no library for Node: its shop was not tried")
+        return True
+    words = ["node", "--test", ROOT / "examples" / "shop" / "node" / "shop.test.js"]
+    made = subprocess.run(words, capture_output=True, text=True, check=False, timeout=PATIENCE)
+    print(f"server: the shop in Node: {'passed' if made.returncode == 0 else 'FAILED'}")
+    if made.returncode:
+        print(made.stdout[-3000:])
+    return made.returncode == 0
 
 
 def main(words):
@@ -99,7 +114,7 @@ def main(words):
         print("server: there is no bindings/python/sunwaket/libgql.so (bindings/build makes it): nothing was tried")
         return 0
     passed = [run_tests(sys.executable, module) for module in ("test_mock_http", "test_mock_data", "test_mock_process")]
-    passed.append(run_handlers())
+    passed += [run_handlers(), run_node_shop()]
     if has(BROWSER, ["chromedriver"], ["selenium"]):
         # Once more where it failed: a browser's driver may lose its browser.
         passed.append(run_tests(DEBIAN_PYTHON, "test_mock_page") or run_tests(DEBIAN_PYTHON, "test_mock_page"))
@@ -107,6 +122,11 @@ def main(words):
         print("server: there is no Chromium with its driver and Selenium: the page was not tried")
     if "--load" in words:
         tell_load(PYTHON, float(words[words.index("--load") + 1]))
+    python = DEBIAN_PYTHON if DEBIAN_PYTHON.exists() else sys.executable
+    if "--beside" in words:
+        beside.main(int(words[words.index("--beside") + 1]), python)
+    if "--hostile" in words:
+        passed.append(hostile.main(float(words[words.index("--hostile") + 1]), python))
     return 0 if all(passed) else 1
 
 

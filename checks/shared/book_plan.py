@@ -312,6 +312,7 @@ DECISIONS = {
     "The response checker": "checked",
     "The gateway": "gateways",
     "Packages": None,
+    "Servers": None,
     "The WebAssembly module and the page": None,
     "Left open": None,
 }
