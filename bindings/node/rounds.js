@@ -101,7 +101,8 @@ class Group {
 
   start(context) {
     const { resolver, asks } = this;
-    this.outcomes = resolver instanceof Many ? [called(resolver.resolve, asks, context)] : asks.map((ask) => called(resolver, ...ask, context));
+    const more = context === undefined ? [] : [context];
+    this.outcomes = resolver instanceof Many ? [called(resolver.resolve, asks, ...more)] : asks.map((ask) => called(resolver, ...ask, ...more));
   }
 
   /** Those outcomes that are awaited, each put in its place. */

@@ -2,6 +2,7 @@
 
 import asyncio
 import contextlib
+import http.client
 import json
 import os
 import pathlib
@@ -288,6 +289,40 @@ class Streams(unittest.TestCase):
         app = asgi.GraphQL(SCHEMA, RESOLVERS)
         self.assertEqual(Client(posted("subscription { counted }", STREAM)).ask(app).status, 406)
         self.assertEqual(Client(posted("subscription { counted }")).ask(app).status, 406)
+
+
+@unittest.skipUnless(uvicorn, "uvicorn is not here")
+class StreamsOverUvicorn(unittest.TestCase):
+    """The same over a real connection, which the client closes."""
+
+    def test_events_come_one_by_one_and_a_client_that_leaves_frees_its_source(self):
+        source = Source()
+        request = posted("subscription { silent }", STREAM)
+        with over_uvicorn(source.app(keep_alive=0.02)) as port:
+            connection = http.client.HTTPConnection("127.0.0.1", port, timeout=30)
+            connection.request("POST", "/", request.body, request.headers)
+            self.assertEqual(connection.getresponse().read(3), b":\n\n")
+            self.assertTrue(source.is_open and not source.is_closed)
+            connection.close()
+            for _ in range(1000):
+                if source.is_closed:
+                    break
+                time.sleep(0.01)
+            self.assertTrue(source.is_closed)
+
+
+try:
+    import graphql
+except ImportError:
+    graphql = None
+
+
+class Clients(unittest.TestCase):
+    @unittest.skipUnless(hasattr(graphql, "get_introspection_query"), "graphql-core 3 is not here")
+    def test_a_client_schema_is_built_of_the_introspection(self):
+        answer = Source().app().endpoint.answer(posted(graphql.get_introspection_query()))
+        schema = graphql.build_client_schema(json.loads(answer.body)["data"])
+        self.assertEqual(graphql.print_schema(schema), graphql.print_schema(graphql.build_schema(SCHEMA)))
 
 
 class Bodies(unittest.TestCase):
