@@ -247,7 +247,11 @@ async function respond(endpoint, path, request, response) {
 /** A handler of requests, for `http.createServer(handler)` and for `app.use(path, handler)`. */
 function createHandler(schema, resolvers, { path, keepAlive = 15, ...options } = {}) {
   const endpoint = Object.assign(new Endpoint(schema, resolvers, options), { keepAlive });
-  const handler = (request, response) => respond(endpoint, path, request, response);
+  const handler = (request, response) =>
+    respond(endpoint, path, request, response).catch((error) => {
+      console.error('a request ended by an error', error);
+      response.destroy();
+    });
   return Object.assign(handler, { endpoint });
 }
 

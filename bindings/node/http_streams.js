@@ -67,6 +67,8 @@ async function* streamed(endpoint, job, refused, gone) {
 async function sendStream({ events, headers }, response, keepAlive) {
   response.writeHead(200, { ...HEADERS, ...headers });
   response.flushHeaders();
+  // What is written as the client leaves goes nowhere.
+  response.on('error', () => {});
   const timer = setInterval(() => response.write(':\n\n'), keepAlive * 1000);
   const gone = new Promise((resolve) => response.once('close', resolve));
   try {

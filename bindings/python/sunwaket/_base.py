@@ -33,10 +33,11 @@ def text_bytes(text: Union[str, bytes]) -> bytes:
 def take(reply: library.Handle) -> bytes:
     """The bytes of a reply, which is let go."""
     length = library.reply_length(byref(reply))
-    room = ctypes.create_string_buffer(length)
+    # Room of one of few lengths: ctypes makes a class for each.
+    room = ctypes.create_string_buffer(1 << length.bit_length())
     library.reply_copy(byref(reply), room, length)
     library.free(byref(reply))
-    return room.raw
+    return ctypes.string_at(room, length)
 
 
 def refuse(status: int, why: str) -> Exception:

@@ -69,7 +69,9 @@ class LimitsOfRequests(unittest.TestCase):
 
     def test_a_thread_that_never_ends_ends_its_own_request(self):
         held = threading.Event()
-        of = endpoint(resolvers={"Query": {**RESOLVERS["Query"], "late": lambda root, arguments: held.wait(60) and None}}, limits=Limits(seconds=0.2))
+        told = []
+        late = {"Query": {**RESOLVERS["Query"], "late": lambda root, arguments: held.wait(60) and None}}
+        of = endpoint(resolvers=late, limits=Limits(seconds=0.2), watch=told.append)
 
         async def both():
             with ThreadPoolExecutor(2) as threads:
@@ -79,6 +81,7 @@ class LimitsOfRequests(unittest.TestCase):
 
         late, other = asyncio.run(both())
         self.assertEqual((late.status, other.status), (503, 200))
+        self.assertEqual(sorted(it.status for it in told), [200, 503])
 
     def test_batches_only_where_they_are_asked_for(self):
         body = json.dumps([{"query": COUNT}, {"query": "{ nope }"}, {"quarry": COUNT}]).encode()

@@ -103,8 +103,9 @@ class Endpoint:
 
     def outcome(self, asked: Union[Asked, Fault], method: str) -> Outcome:
         """What comes of one operation."""
-        job = Job(self, method)
+        return self._outcome_of(Job(self, method), asked)
 
+    def _outcome_of(self, job: Job, asked: Union[Asked, Fault]) -> Outcome:
         def execute(it: Asked) -> bytes:
             job.prepare(it, text_of(self.documents, it))
             keep(self.documents, it, job.text)
@@ -127,12 +128,13 @@ class Endpoint:
 
     async def _outcome_in(self, threads: Executor, asked: Asked, method: str) -> Outcome:
         """What comes of one operation on a thread. One that takes too long is left alone there."""
-        call = partial(contextvars.copy_context().run, self.outcome, asked, method)
+        job = Job(self, method)
+        call = partial(contextvars.copy_context().run, self._outcome_of, job, asked)
         work = asyncio.get_running_loop().run_in_executor(threads, call)
         try:
             return await asyncio.wait_for(work, self.limits.seconds)
         except asyncio.TimeoutError:
-            return Job(self, method).done(too_slow(self.limits))
+            return job.done(too_slow(self.limits))
 
     async def prepare(self, job: Job, asked: Asked) -> None:
         """Finds the text of what is asked, reads it and looks at its limits. Raises as :meth:`Job.prepare` does."""

@@ -16,10 +16,11 @@ from .rules import Asked, Fault
 class Job:
     """An operation that an endpoint is asked for, and what it takes."""
 
-    __slots__ = ("_asked", "_endpoint", "_is_stream", "_method", "_read", "meter", "operation")
+    __slots__ = ("_asked", "_endpoint", "_is_stream", "_is_told", "_method", "_read", "meter", "operation")
 
     def __init__(self, endpoint: Any, method: str, is_stream: bool = False):
         self._endpoint, self._method, self._is_stream = endpoint, method, is_stream
+        self._is_told = False
         self._asked: Optional[Asked] = None
         self._read: Optional[ReadQuery] = None
         self.operation: Optional[Operation] = None
@@ -65,11 +66,14 @@ class Job:
 
     def again(self) -> None:
         """The operation is executed once more, for the next event."""
-        self.meter = Meter(self._endpoint.limits)
+        self.meter, self._is_told = Meter(self._endpoint.limits), False
 
     def done(self, outcome: Outcome) -> Outcome:
-        """Tells whoever watches what came of it, and gives it."""
+        """Tells whoever watches what came of it, once, and gives it."""
         watch = self._endpoint.watch
+        if self._is_told:
+            return outcome
+        self._is_told = True
         it = told(self.operation, self.meter, outcome)
         note(it)
         if watch is not None:
