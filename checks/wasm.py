@@ -108,7 +108,13 @@ def run_package(folder):
         skip("the package as npm installs it", "npm is not here")
         return
     quiet = {"cwd": folder, "env": os.environ | {"npm_config_cache": str(folder / "cache"), "npm_config_offline": "true"}}
-    packed = try_command("npm pack", ["npm", "pack", "--silent", "--ignore-scripts", NODE], **quiet)
+    # The version stands in one file, and a release puts it into the package.
+    source = folder / "source"
+    shutil.copytree(NODE, source, ignore=shutil.ignore_patterns("tests"))
+    listed = json.loads((NODE / "package.json").read_text(encoding="utf-8"))
+    version = (ROOT / "VERSION").read_text(encoding="utf-8").strip()
+    (source / "package.json").write_text(json.dumps(listed | {"version": version}), encoding="utf-8")
+    packed = try_command("npm pack", ["npm", "pack", "--silent", "--ignore-scripts", source], **quiet)
     archive = packed.stdout.decode().strip()
     (folder / "package.json").write_text('{"name":"user","version":"1.0.0","private":true}', encoding="utf-8")
     words = ["npm", "install", "--silent", "--no-audit", "--no-fund", f"./{archive}"]
@@ -143,7 +149,7 @@ def run_page():
     """The parts of the page that need no page, and the playground in the browsers that are here."""
     tests = BINDINGS / "page" / "tests"
     try_command("the parts of the page", ["node", "--test", tests / "parts.test.js"])
-    if server.has_browser():
+    if server.has(server.BROWSER, ["chromedriver"], ["selenium"]):
         run_in_chromium("the package in Chromium", WASM / "tests", "test_browser")
         run_in_chromium("the playground in Chromium", tests, "test_playground")
     else:

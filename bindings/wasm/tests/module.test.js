@@ -49,9 +49,9 @@ function request(library, data = '{"book":{"title":"Emma","year":1815}}') {
   return told;
 }
 
-test('ten thousand requests need no more memory than the first hundred', () => {
+test('ten thousand requests need no more memory than the first thousand', () => {
   const library = libraryOf(module_);
-  for (let turn = 0; turn < 100; turn++) request(library);
+  for (let turn = 0; turn < 1_000; turn++) request(library);
   const before = library.memory();
   for (let turn = 0; turn < 10_000; turn++) request(library);
   assert.deepEqual(library.memory(), before);
